@@ -1,0 +1,12 @@
+//! Trace files: from the bytes of a file to the operations of its lines, and from these to the steps that
+//! a player makes.
+//!
+//! The form of a trace is taken after glibc's mtrace. `specs/` says what a line means, by cases on its
+//! words, and what a list of bytes reads as; the code meets these definitions.
+#![tactic(auto)]
+
+mod script;
+mod trace;
+
+pub use script::{Script, Step, StepList};
+pub use trace::{Operation, OperationList, Trace, TraceFault};

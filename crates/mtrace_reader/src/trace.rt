@@ -1,0 +1,92 @@
+// What a trace file says, and why one isn't read.
+ghost use Rattle.std.specs.Prelude.{◌≡◌};
+
+use std::marker::Model;
+
+/// What one line of a trace says.
+#[derive(Clone, Copy, Debug, PartialEq, Eq, Hash)]
+pub enum Operation {
+    /// A block of `size` bytes was allocated at `address`, by an allocation or a resize.
+    New { address: u64, size: u64 },
+    /// The block at `address` was given up, by a free or a resize.
+    Release { address: u64 },
+    /// A resize failed.
+    Failed,
+}
+
+/// Operations in the order of their lines. Contracts see the list.
+#[derive(Debug, Drop)]
+pub struct OperationList {
+    operations: Vec<Operation>,
+}
+
+impl Model for OperationList {
+    ghost use Rattle.std.specs.Prelude.{List};
+    ghost use Rattle.mtrace_reader.specs.declared.trace.Operation.{Operation};
+
+    ghost Value = { List Operation };
+
+    ghost view = { λ list. list.operations.items };
+}
+
+impl OperationList {
+    /// The operations of a vector. Takes no memory.
+    pub fn new(operations: Vec<Operation>) -> OperationList
+        ensures { result ≡ operations.items }
+    {
+        OperationList { operations }
+    }
+
+    /// The operations as a slice.
+    pub fn as_slice(&self) -> &[Operation]
+        ensures { result.now ≡ self.now }
+    {
+        self.operations.as_slice()
+    }
+
+    /// Gives the vector back. Takes no memory.
+    pub fn into_vec(self) -> Vec<Operation>
+        ensures { result.items ≡ self }
+    {
+        self.operations
+    }
+}
+
+/// What a trace file says as a whole.
+#[derive(Debug, Drop)]
+pub struct Trace {
+    pub operations: OperationList,
+    /// Whether the file ended within a line that says nothing by itself.
+    pub cut: bool,
+    /// How many bytes were read.
+    pub bytes: u64,
+}
+
+/// Why a trace wasn't read.
+#[derive(Clone, Copy, Debug, PartialEq, Eq, Hash)]
+pub enum TraceFault {
+    /// The source failed.
+    ReadFault,
+    /// The source has more bytes than may be read.
+    TooLong,
+    /// This line, counted from 1, is the first that is of no form.
+    BadLine(u64),
+    /// Want of memory.
+    NoMemory,
+}
+
+impl TraceFault {
+    ghost use Rattle.mtrace_reader.specs.Fault.{number_of};
+
+    /// The fault's number, 1 to 4.
+    pub fn number(&self) -> u32
+        ensures { result ≡ number_of self.now }
+    {
+        match self {
+            TraceFault::ReadFault => 1,
+            TraceFault::TooLong => 2,
+            TraceFault::BadLine(_) => 3,
+            TraceFault::NoMemory => 4,
+        }
+    }
+}
