@@ -1,0 +1,5 @@
+pub mod Sizes
+pub mod History
+pub mod Legal
+pub mod Plain
+pub mod Kept

@@ -7,6 +7,8 @@
 
 mod entry;
 mod memory;
+mod plain_pool;
 
 pub use entry::Entry;
 pub use memory::NoMemory;
+pub use plain_pool::PlainPool;

@@ -1,0 +1,121 @@
+-- What one more entry makes of the numbers of a history.
+use Rattle.std.proofs.Common.{◌≡◌, ℕ, ◌<◌, ◌≤◌, ◌==◌, Bool, true, false, cond, refl, ◌∙◌, ap, inl, inr, arith, zero, suc, List, [], ◌∷◌, ◌++◌, length, take, drop, length-append, append-nil, Some, None}
+use Rattle.std.specs.Prelude.{fold, slice_get}
+use Rattle.std.proofs.lemmas.List.{take-append-le, take_all, take-take}
+use Rattle.std.proofs.lemmas.List.Elements.{filter-append}
+use Rattle.std.proofs.lemmas.Bool.{cases_eq, cases_lt}
+use Rattle.std.proofs.lemmas.Bool.Decides.{nat_tests}
+use Rattle.pool_model.specs.declared.entry.Entry.{Entry}
+use Rattle.pool_model.specs.declared.entry.Entry.TheVariants.{Dry}
+use Rattle.pool_model.specs.Sizes.{Sizes}
+use Rattle.pool_model.specs.History.{process_of, own, held_after, held, unheld}
+use Rattle.pool_model.specs.Legal.{MayFollow, HasNet, IsDryWhenFull, EachEntry, IsLegal, IsExact}
+
+pub held_more : (history : List Entry) (entry : Entry) → held (history ++ entry ∷ []) ≡ held_after (held history) entry
+held_more history entry = go history []
+  where
+    go : (history : List Entry) (blocks : List ℕ) → fold held_after blocks (history ++ entry ∷ []) ≡ held_after (fold held_after blocks history) entry
+    go [] blocks = refl
+    go (first ∷ rest) blocks = go rest (held_after blocks first)
+
+-- the entry is its process's last
+pub own_more : (history : List Entry) (entry : Entry) (i : ℕ) → process_of entry ≡ i → own (history ++ entry ∷ []) i ≡ own history i ++ entry ∷ []
+own_more history entry i mine = filter-append (λ e. process_of e == i) history (entry ∷ []) ∙ ap (λ es. own history i ++ es) (last (process_of entry == i) (grind (arith, nat_tests)))
+  where
+    last : (t : Bool) → t ≡ true → cond t (entry ∷ []) [] ≡ entry ∷ []
+    last true e = refl
+    last false e = cc
+
+-- another's entry changes nothing of a process's own
+pub own_other : (history : List Entry) (entry : Entry) (i : ℕ) → ¬ (process_of entry ≡ i) → own (history ++ entry ∷ []) i ≡ own history i
+own_other history entry i apart = filter-append (λ e. process_of e == i) history (entry ∷ []) ∙ ap (λ es. own history i ++ es) (last (process_of entry == i) (grind (arith, nat_tests))) ∙ append-nil (own history i)
+  where
+    last : (t : Bool) → t ≡ false → cond t (entry ∷ []) [] ≡ []
+    last false e = refl
+    last true e = cc
+
+-- a fact of each entry, one entry on
+pub each_entry_more : (Fact : List Entry → Entry → Type 0) (history : List Entry) (entry : Entry) → EachEntry Fact history → Fact history entry → EachEntry Fact (history ++ entry ∷ [])
+each_entry_more Fact history entry each last x = elim (cases_lt x (length history)) [
+  | inl lt ↦ rw (slice_get_left history entry x lt) (rw (take-append-le x history (entry ∷ []) (omega arith)) (each x))
+  | inr ge ↦ elim (cases_eq x (length history)) [
+    | inl at ↦ rw at (rw (slice_get_push history entry) (rw (take-append-le (length history) history (entry ∷ []) (omega arith)) (rw (take_all (length history) history (omega arith)) last)))
+    | inr past ↦ rw (slice_get_past history entry x (omega (arith, length-append history (entry ∷ [])))) tt
+  ]
+]
+  where
+    slice_get_left : (history : List Entry) (entry : Entry) (x : ℕ) → x < length history → slice_get (history ++ entry ∷ []) x ≡ slice_get history x
+    slice_get_left [] entry x lt = absurd (omega arith)
+    slice_get_left (first ∷ rest) entry zero lt = refl
+    slice_get_left (first ∷ rest) entry (suc x) lt = slice_get_left rest entry x (omega arith)
+
+    slice_get_push : (history : List Entry) (entry : Entry) → slice_get (history ++ entry ∷ []) (length history) ≡ Some entry
+    slice_get_push [] entry = refl
+    slice_get_push (first ∷ rest) entry = slice_get_push rest entry
+
+    slice_get_past : (history : List Entry) (entry : Entry) (x : ℕ) → length history < x → slice_get (history ++ entry ∷ []) x ≡ None
+    slice_get_past [] entry zero lt = absurd (omega arith)
+    slice_get_past [] entry (suc x) lt = refl
+    slice_get_past (first ∷ rest) entry zero lt = absurd (omega arith)
+    slice_get_past (first ∷ rest) entry (suc x) lt = slice_get_past rest entry x (omega arith)
+
+pub each_entry_none : (Fact : List Entry → Entry → Type 0) → EachEntry Fact []
+each_entry_none Fact zero = tt
+each_entry_none Fact (suc x) = tt
+
+pub legal_more : (sizes : Sizes) (history : List Entry) (entry : Entry) → IsLegal sizes history → MayFollow sizes history entry → HasNet sizes history entry → IsLegal sizes (history ++ entry ∷ [])
+legal_more sizes history entry legal may has_net = record {
+  follows = each_entry_more (MayFollow sizes) history entry legal.follows may;
+  nets = each_entry_more (HasNet sizes) history entry legal.nets has_net;
+}
+
+pub exact_more : (sizes : Sizes) (history : List Entry) (entry : Entry) → IsExact sizes history → MayFollow sizes history entry → IsDryWhenFull sizes history entry → IsExact sizes (history ++ entry ∷ [])
+exact_more sizes history entry exact may full = record {
+  follows = each_entry_more (MayFollow sizes) history entry exact.follows may;
+  full = each_entry_more (IsDryWhenFull sizes) history entry exact.full full;
+}
+
+pub exact_none : (sizes : Sizes) → IsExact sizes []
+exact_none sizes = record { follows = each_entry_none (MayFollow sizes); full = each_entry_none (IsDryWhenFull sizes) }
+
+-- every place of a legal history is legal
+pub each_entry_take : (Fact : List Entry → Entry → Type 0) (history : List Entry) (place : ℕ) → EachEntry Fact history → EachEntry Fact (take place history)
+each_entry_take Fact history place each x = elim (cases_lt x place) [
+  | inl lt ↦ rw (slice_get_take history place x lt) (rw (take-take x place history (omega arith)) (each x))
+  | inr ge ↦ rw (slice_get_none history place x (omega arith)) tt
+]
+  where
+    slice_get_take : (history : List Entry) (place x : ℕ) → x < place → slice_get (take place history) x ≡ slice_get history x
+    slice_get_take history zero x lt = absurd (omega arith)
+    slice_get_take [] (suc place) x lt = refl
+    slice_get_take (first ∷ rest) (suc place) zero lt = refl
+    slice_get_take (first ∷ rest) (suc place) (suc x) lt = slice_get_take rest place x (omega arith)
+
+    slice_get_none : (history : List Entry) (place x : ℕ) → place ≤ x → slice_get (take place history) x ≡ None
+    slice_get_none history zero zero lt = refl
+    slice_get_none history zero (suc x) lt = refl
+    slice_get_none [] (suc place) zero lt = refl
+    slice_get_none [] (suc place) (suc x) lt = refl
+    slice_get_none (first ∷ rest) (suc place) zero lt = absurd (omega arith)
+    slice_get_none (first ∷ rest) (suc place) (suc x) lt = slice_get_none rest place x (omega arith)
+
+pub legal_take : (sizes : Sizes) (history : List Entry) (place : ℕ) → IsLegal sizes history → IsLegal sizes (take place history)
+legal_take sizes history place legal = record {
+  follows = each_entry_take (MayFollow sizes) history place legal.follows;
+  nets = each_entry_take (HasNet sizes) history place legal.nets;
+}
+
+-- where no block is unheld, a refusal may follow, however small the shape
+pub full_may_follow : (sizes : Sizes) (history : List Entry) (i : ℕ) → i < sizes.processes → 0 < sizes.batch_length → unheld sizes history (length history) ≡ 0 → MayFollow sizes history (Dry i)
+full_may_follow sizes history i process long full = (
+  process,
+  record {
+    place = length history;
+    in_window = record { before = omega arith; recent = rw (drop_whole history) (omega (arith, long)) };
+    few = omega (arith, full);
+  },
+)
+  where
+    drop_whole : (history : List Entry) → drop (length history) history ≡ []
+    drop_whole [] = refl
+    drop_whole (first ∷ rest) = drop_whole rest
