@@ -7,7 +7,7 @@ use Rattle.std.proofs.lemmas.Bool.{cases_eq, cases_lt}
 use Rattle.std.proofs.lemmas.Bool.Decides.{nat_tests}
 use Rattle.pool_model.specs.declared.entry.Entry.{Entry}
 use Rattle.pool_model.specs.declared.entry.Entry.TheVariants.{Dry}
-use Rattle.pool_model.specs.Sizes.{Sizes}
+use Rattle.pool_model.specs.Limits.{Limits}
 use Rattle.pool_model.specs.History.{process_of, own, held_after, held, unheld}
 use Rattle.pool_model.specs.Legal.{MayFollow, HasNet, IsDryWhenFull, EachEntry, IsLegal, IsExact}
 
@@ -63,20 +63,20 @@ pub each_entry_none : (Fact : List Entry → Entry → Type 0) → EachEntry Fac
 each_entry_none Fact zero = tt
 each_entry_none Fact (suc x) = tt
 
-pub legal_more : (sizes : Sizes) (history : List Entry) (entry : Entry) → IsLegal sizes history → MayFollow sizes history entry → HasNet sizes history entry → IsLegal sizes (history ++ entry ∷ [])
-legal_more sizes history entry legal may has_net = record {
-  follows = each_entry_more (MayFollow sizes) history entry legal.follows may;
-  nets = each_entry_more (HasNet sizes) history entry legal.nets has_net;
+pub legal_more : (limits : Limits) (history : List Entry) (entry : Entry) → IsLegal limits history → MayFollow limits history entry → HasNet limits history entry → IsLegal limits (history ++ entry ∷ [])
+legal_more limits history entry legal may has_net = record {
+  follows = each_entry_more (MayFollow limits) history entry legal.follows may;
+  nets = each_entry_more (HasNet limits) history entry legal.nets has_net;
 }
 
-pub exact_more : (sizes : Sizes) (history : List Entry) (entry : Entry) → IsExact sizes history → MayFollow sizes history entry → IsDryWhenFull sizes history entry → IsExact sizes (history ++ entry ∷ [])
-exact_more sizes history entry exact may full = record {
-  follows = each_entry_more (MayFollow sizes) history entry exact.follows may;
-  full = each_entry_more (IsDryWhenFull sizes) history entry exact.full full;
+pub exact_more : (limits : Limits) (history : List Entry) (entry : Entry) → IsExact limits history → MayFollow limits history entry → IsDryWhenFull limits history entry → IsExact limits (history ++ entry ∷ [])
+exact_more limits history entry exact may full = record {
+  follows = each_entry_more (MayFollow limits) history entry exact.follows may;
+  full = each_entry_more (IsDryWhenFull limits) history entry exact.full full;
 }
 
-pub exact_none : (sizes : Sizes) → IsExact sizes []
-exact_none sizes = record { follows = each_entry_none (MayFollow sizes); full = each_entry_none (IsDryWhenFull sizes) }
+pub exact_none : (limits : Limits) → IsExact limits []
+exact_none limits = record { follows = each_entry_none (MayFollow limits); full = each_entry_none (IsDryWhenFull limits) }
 
 -- every place of a legal history is legal
 pub each_entry_take : (Fact : List Entry → Entry → Type 0) (history : List Entry) (place : ℕ) → EachEntry Fact history → EachEntry Fact (take place history)
@@ -99,15 +99,15 @@ each_entry_take Fact history place each x = elim (cases_lt x place) [
     slice_get_none (first ∷ rest) (suc place) zero lt = absurd (omega arith)
     slice_get_none (first ∷ rest) (suc place) (suc x) lt = slice_get_none rest place x (omega arith)
 
-pub legal_take : (sizes : Sizes) (history : List Entry) (place : ℕ) → IsLegal sizes history → IsLegal sizes (take place history)
-legal_take sizes history place legal = record {
-  follows = each_entry_take (MayFollow sizes) history place legal.follows;
-  nets = each_entry_take (HasNet sizes) history place legal.nets;
+pub legal_take : (limits : Limits) (history : List Entry) (place : ℕ) → IsLegal limits history → IsLegal limits (take place history)
+legal_take limits history place legal = record {
+  follows = each_entry_take (MayFollow limits) history place legal.follows;
+  nets = each_entry_take (HasNet limits) history place legal.nets;
 }
 
 -- where no block is unheld, a refusal may follow, however small the shape
-pub full_may_follow : (sizes : Sizes) (history : List Entry) (i : ℕ) → i < sizes.processes → 0 < sizes.batch_length → unheld sizes history (length history) ≡ 0 → MayFollow sizes history (Dry i)
-full_may_follow sizes history i process long full = (
+pub full_may_follow : (limits : Limits) (history : List Entry) (i : ℕ) → i < limits.processes → 0 < limits.batch_length → unheld limits history (length history) ≡ 0 → MayFollow limits history (Dry i)
+full_may_follow limits history i process long full = (
   process,
   record {
     place = length history;

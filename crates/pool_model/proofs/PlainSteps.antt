@@ -6,7 +6,7 @@ use Rattle.std.proofs.lemmas.Bool.{cases_eq, cases_lt}
 use Rattle.std.proofs.lemmas.Bool.Decides.{nat_tests}
 use Rattle.pool_model.specs.declared.entry.Entry.{Entry}
 use Rattle.pool_model.specs.declared.entry.Entry.TheVariants.{Got, Back, Dry}
-use Rattle.pool_model.specs.Sizes.{Sizes}
+use Rattle.pool_model.specs.Limits.{Limits}
 use Rattle.pool_model.specs.History.{held, unheld}
 use Rattle.pool_model.specs.Legal.{MayFollow}
 use Rattle.pool_model.specs.Plain.{Plain, IsHeld, IsFull, Gives, Takes, IsLeftBy}
@@ -185,14 +185,14 @@ pub left_by_none : (blocks : ℕ) → IsLeftBy [] (record { blocks = blocks; giv
 left_by_none blocks other = ((λ c. absurd (contains_nil other c)), (λ h. absurd (omega (arith, h.0))))
 
 -- where all blocks are held, none is unheld
-pub full_unheld : (sizes : Sizes) (past : List Entry) (pool : Plain) → sizes.blocks ≡ pool.blocks → IsLeftBy past pool → IsFull pool → unheld sizes past (length past) ≡ 0
-full_unheld sizes past pool same left full =
+pub full_unheld : (limits : Limits) (past : List Entry) (pool : Plain) → limits.blocks ≡ pool.blocks → IsLeftBy past pool → IsFull pool → unheld limits past (length past) ≡ 0
+full_unheld limits past pool same left full =
     rw (take_all (length past) past (omega arith))
     (omega (arith, same, le-length_from_below (held past) pool.blocks (λ q lt. list_any-from_Contains nat_eq_equiv q (held past) ((left q).1 (full q lt)))))
 
 -- the entries of a plain pool's calls may follow
-pub got_may_follow : (sizes : Sizes) (past : List Entry) (i block : ℕ) (old new : Plain) → i < sizes.processes → sizes.blocks ≡ old.blocks → IsLeftBy past old → Gives old new block → MayFollow sizes past (Got i block)
-got_may_follow sizes past i block old new process same left gives = (process, omega (arith, same, gives.within), λ c. gives.free ((left block).0 c))
+pub got_may_follow : (limits : Limits) (past : List Entry) (i block : ℕ) (old new : Plain) → i < limits.processes → limits.blocks ≡ old.blocks → IsLeftBy past old → Gives old new block → MayFollow limits past (Got i block)
+got_may_follow limits past i block old new process same left gives = (process, omega (arith, same, gives.within), λ c. gives.free ((left block).0 c))
 
-pub dry_may_follow : (sizes : Sizes) (past : List Entry) (i : ℕ) (pool : Plain) → i < sizes.processes → 0 < sizes.batch_length → sizes.blocks ≡ pool.blocks → IsLeftBy past pool → IsFull pool → MayFollow sizes past (Dry i)
-dry_may_follow sizes past i pool process long same left full = full_may_follow sizes past i process long (full_unheld sizes past pool same left full)
+pub dry_may_follow : (limits : Limits) (past : List Entry) (i : ℕ) (pool : Plain) → i < limits.processes → 0 < limits.batch_length → limits.blocks ≡ pool.blocks → IsLeftBy past pool → IsFull pool → MayFollow limits past (Dry i)
+dry_may_follow limits past i pool process long same left full = full_may_follow limits past i process long (full_unheld limits past pool same left full)

@@ -2,7 +2,7 @@
 use Rattle.std.specs.Prelude.{ℕ, ◌-◌, Bool, true, false, not, ◌==◌, List, [], ◌∷◌, length, take, fold, filter, count_by}
 use Rattle.pool_model.specs.declared.entry.Entry.{Entry}
 use Rattle.pool_model.specs.declared.entry.Entry.TheVariants.{Got, Back, Dry}
-use Rattle.pool_model.specs.Sizes.{Sizes}
+use Rattle.pool_model.specs.Limits.{Limits}
 
 -- the process that made the entry
 abbrev pub process_of : Entry → ℕ
@@ -25,8 +25,8 @@ abbrev pub held : List Entry → List ℕ
 held history = fold held_after [] history
 
 -- how many blocks are not held at a place of the history
-abbrev pub unheld : Sizes → List Entry → ℕ → ℕ
-unheld sizes history place = sizes.blocks - length (held (take place history))
+abbrev pub unheld : Limits → List Entry → ℕ → ℕ
+unheld limits history place = limits.blocks - length (held (take place history))
 
 -- the blocks that the entries of one process got and after that did not give back
 abbrev pub grip : List Entry → List ℕ

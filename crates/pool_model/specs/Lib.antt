@@ -1,4 +1,4 @@
-pub mod Sizes
+pub mod Limits
 pub mod History
 pub mod Legal
 pub mod Plain
