@@ -1,0 +1,13 @@
+//! The outside: files that are read, a sink that is written to, and a gate that players tell of their calls.
+//!
+//! [`Files`] and [`Sink`] say by their ghost members what is known of the outside: how often it failed, and,
+//! where an implementation tells them, its bytes.
+#![tactic(auto)]
+
+mod files;
+mod gate;
+mod sink;
+
+pub use files::{Failed, Files};
+pub use gate::{Gate, OpenGate};
+pub use sink::Sink;
