@@ -4,10 +4,15 @@
 //! where an implementation tells them, its bytes.
 #![tactic(auto)]
 
+mod counts;
 mod files;
 mod gate;
+mod memory_files;
 mod sink;
+mod write;
 
 pub use files::{Failed, Files};
 pub use gate::{Gate, OpenGate};
+pub use memory_files::{MemoryFiles, MemorySource};
 pub use sink::Sink;
+pub use write::write_whole;
