@@ -1,10 +1,11 @@
 // Counts of calls and of faults.
-ghost use Rattle.std.specs.Prelude.{◌≡◌, ◌↔◌, IsTrue, Contains};
+ghost use Rattle.std.specs.Prelude.{◌≡◌, ◌≤◌, ◌↔◌, IsTrue, Contains};
 ghost use Rattle.pool_io.specs.Counts.{one_more, NoneFrom};
 
 /// One more, but a count at its last value stays there.
 pub(crate) fn raise(count: &mut u64)
-    ensures { count.new ≡ one_more count.old }
+    ensures raised { count.new ≡ one_more count.old }
+    ensures never_falls { count.old ≤ count.new }
 {
     *count = count.saturating_add(1);
 }

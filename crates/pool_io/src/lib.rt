@@ -1,18 +1,23 @@
 //! The outside: files that are read, a sink that is written to, and a gate that players tell of their calls.
 //!
 //! [`Files`] and [`Sink`] say by their ghost members what is known of the outside: how often it failed, and,
-//! where an implementation tells them, its bytes.
+//! where an implementation tells them, its bytes. [`MemoryFiles`] and [`MemorySink`] stand in memory and tell
+//! all; [`RealFiles`] and [`StdSink`] reach the system and tell nothing but their counts.
 #![tactic(auto)]
 
 mod counts;
 mod files;
 mod gate;
 mod memory_files;
+mod memory_sink;
+mod real;
 mod sink;
 mod write;
 
 pub use files::{Failed, Files};
 pub use gate::{Gate, OpenGate};
 pub use memory_files::{MemoryFiles, MemorySource};
+pub use memory_sink::MemorySink;
+pub use real::{RealFiles, StdSink};
 pub use sink::Sink;
 pub use write::write_whole;
