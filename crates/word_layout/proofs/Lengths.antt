@@ -1,0 +1,28 @@
+-- the blocks of a batch
+use Rattle.std.proofs.Common.{◌≡◌, ℕ, ◌+◌, ◌*◌, ◌<◌, ◌≤◌, inl, inr, arith}
+use Rattle.std.proofs.Math.Nat.{mul-le-mul_right}
+use Rattle.std.proofs.lemmas.Bool.{cases_lt}
+use Rattle.std.proofs.lemmas.Grind.{div_ceil_times}
+use Rattle.std.specs.Int.{div_ceil}
+use Rattle.word_layout.specs.Sizes.{IsLength}
+
+-- nothing below a quotient that was rounded up is enough
+least_quotient : (bound q d n : ℕ) → d * q < bound + q → bound ≤ q * n → d ≤ n
+least_quotient bound q d n low h =
+    elim (cases_lt n d) [
+      | inl below ↦ omega (arith, mul-le-mul_right {m = n + 1} {n = d} q (omega arith))
+      | inr least ↦ least
+    ]
+
+-- the quotient that was rounded up is the least number that is enough
+pub quotient_is_length : (processes q : ℕ) → 1 ≤ q → IsLength processes q (div_ceil (16 * processes + 15) q)
+quotient_is_length processes q some =
+    let bounds = div_ceil_times (16 * processes + 15) q (omega arith) in
+    record {
+      enough = omega (arith, bounds.0);
+      least = λ n h. least_quotient (16 * processes + 15) q (div_ceil (16 * processes + 15) q) n bounds.1 h;
+    }
+
+-- there is one such number
+pub one_length : (processes q l m : ℕ) → IsLength processes q l → IsLength processes q m → l ≡ m
+one_length processes q l m first second = omega (arith, first.least m second.enough, second.least l first.enough)

@@ -1,0 +1,5 @@
+pub mod Lengths
+pub mod Limits
+pub mod Packed
+pub mod Placed
+pub mod Refusals

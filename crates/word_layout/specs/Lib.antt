@@ -1,0 +1,5 @@
+pub mod Faults
+pub mod Names
+pub mod Packing
+pub mod Sizes
+pub mod Laws

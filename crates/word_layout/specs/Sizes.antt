@@ -1,0 +1,52 @@
+use Rattle.std.specs.Prelude.{◌≡◌, ℕ, ◌+◌, ◌*◌, ◌^◌, ◌≤◌, ◌⊎◌}
+
+-- the numbers of a pool: its processes, its batches, the data words of a block, the quantum, the blocks of a batch
+pub record Sizes : Type 0 where
+  pub processes : ℕ
+  pub batches : ℕ
+  pub words : ℕ
+  pub quantum : ℕ
+  pub length : ℕ
+
+-- how many steps of a transfer one call may make
+abbrev pub IsQuantum : ℕ → Type 0
+IsQuantum q = (q ≡ 1) ⊎ ((q ≡ 2) ⊎ ((q ≡ 4) ⊎ ((q ≡ 8) ⊎ (q ≡ 16))))
+
+-- a transfer takes at most so many steps
+abbrev pub transfer_steps : ℕ → ℕ
+transfer_steps processes = 16 * processes + 15
+
+-- a batch has the least number of blocks with which as many calls have room for a transfer
+pub record IsLength (processes quantum length : ℕ) : Type 0 where
+  pub enough : transfer_steps processes ≤ quantum * length
+  pub least : (n : ℕ) → transfer_steps processes ≤ quantum * n → length ≤ n
+
+-- how many blocks there are
+unfoldable pub blocks : Sizes → ℕ
+blocks sizes = sizes.batches * sizes.length
+
+-- the numbers are within their limits
+pub record IsShape (sizes : Sizes) : Type 0 where
+  pub a_process : 1 ≤ sizes.processes
+  pub few_processes : sizes.processes ≤ 32
+  pub two_batches_each : 2 * sizes.processes ≤ sizes.batches
+  pub quantum : IsQuantum sizes.quantum
+  pub length : IsLength sizes.processes sizes.quantum sizes.length
+  pub few_blocks : blocks sizes ≤ 2 ^ 22
+  pub few_words : sizes.words ≤ 8
+
+-- a refused call has had a moment with at most so many unheld blocks
+unfoldable pub slack : Sizes → ℕ
+slack sizes = 5 * (sizes.processes * sizes.length)
+
+-- and that moment lies within its caller's last so many calls
+abbrev pub window : Sizes → ℕ
+window sizes = 2 * sizes.length
+
+-- a transfer takes at most so many steps
+abbrev pub transfer_bound : Sizes → ℕ
+transfer_bound sizes = transfer_steps sizes.processes
+
+-- a call takes at most so many steps
+abbrev pub call_bound : Sizes → ℕ
+call_bound sizes = sizes.quantum + 1

@@ -1,0 +1,32 @@
+//! What holds of shapes, names, places and packed words, for all of them at once. Each law is the contract
+//! of a call that does nothing.
+ghost use Rattle.word_layout.specs.Laws.{LengthIsOne, FirstFaultIsOne, PlacesAreInTable, PlacesDiffer, PlacesHaveNames, SetWordIsRead, OtherWordsStay, TaggedFits, TaggedReadsBack, AnnouncedFits, AnnouncedReadsBack, ReplyFits, ReplyReadsBack};
+
+/// What a batch's length is, and which fault is told, is settled by the numbers.
+pub fn shapes()
+    ensures length { LengthIsOne }
+    ensures fault { FirstFaultIsOne }
+{}
+
+/// Names and places lead to one another.
+pub fn places()
+    ensures in_table { PlacesAreInTable }
+    ensures apart { PlacesDiffer }
+    ensures all { PlacesHaveNames }
+{}
+
+/// A change of one word is seen at its name and nowhere else.
+pub fn words()
+    ensures here { SetWordIsRead }
+    ensures elsewhere { OtherWordsStay }
+{}
+
+/// What is packed is read back, and fits its word.
+pub fn packing()
+    ensures tagged_fits { TaggedFits }
+    ensures tagged { TaggedReadsBack }
+    ensures announced_fits { AnnouncedFits }
+    ensures announced { AnnouncedReadsBack }
+    ensures reply_fits { ReplyFits }
+    ensures reply { ReplyReadsBack }
+{}

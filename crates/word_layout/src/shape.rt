@@ -1,0 +1,183 @@
+// The numbers of a pool.
+ghost use Rattle.std.specs.Prelude.{◌≡◌, ◌≤◌, ◌↔◌, IsTrue, IfOk, IfErr};
+ghost use Rattle.word_layout.specs.Sizes.{IsLength, IsQuantum};
+ghost use Rattle.word_layout.specs.Faults.{IsFirstFault};
+
+mod places;
+
+use crate::fault::ShapeFault;
+use std::marker::Model;
+
+/// The numbers of a pool, all within their limits. Contracts see them as `Sizes`.
+#[derive(Clone, Copy, Debug, PartialEq, Eq, Hash)]
+pub struct Shape {
+    processes: u32,
+    batches: u32,
+    words: u32,
+    quantum: u32,
+    length: u32,
+}
+
+impl Model for Shape {
+    ghost use Rattle.word_layout.specs.Sizes.{Sizes, IsShape};
+
+    ghost Value = { Sizes };
+
+    ghost view = { λ shape. record { processes = shape.processes; batches = shape.batches; words = shape.words; quantum = shape.quantum; length = shape.length } };
+
+    ghost invariant = { λ shape. IsShape (record { processes = shape.processes; batches = shape.batches; words = shape.words; quantum = shape.quantum; length = shape.length }) };
+
+    ghost inverse = { λ sizes. record { processes = sizes.processes; batches = sizes.batches; words = sizes.words; quantum = sizes.quantum; length = sizes.length } };
+}
+
+impl Shape {
+    ghost use Rattle.word_layout.specs.Sizes.{Sizes, IsShape, blocks, slack, transfer_bound};
+
+    /// The most processes of a pool.
+    const MOST_PROCESSES: u32 = 32;
+
+    /// The most blocks of a pool.
+    const MOST_BLOCKS: u64 = 1 << 22;
+
+    /// The most data words of a block.
+    const MOST_WORDS: u32 = 8;
+
+    /// The quantum of a shape that names none.
+    const QUANTUM: u32 = 8;
+
+    /// A shape whose calls make at most 8 steps of a transfer.
+    pub fn new(processes: u32, batches: u32, words: u32) -> Result<Shape, ShapeFault>
+        ensures shape { IfOk result (λ shape. IsShape shape) }
+        ensures processes { IfOk result (λ shape. shape.processes ≡ processes) }
+        ensures batches { IfOk result (λ shape. shape.batches ≡ batches) }
+        ensures words { IfOk result (λ shape. shape.words ≡ words) }
+        ensures quantum { IfOk result (λ shape. shape.quantum ≡ 8) }
+        ensures fault { IfErr result (IsFirstFault processes batches words 8) }
+    {
+        Shape::with_quantum(processes, batches, words, Shape::QUANTUM)
+    }
+
+    /// A shape whose calls make at most `quantum` steps of a transfer: 1, 2, 4, 8 or 16. The fewer, the
+    /// longer are the batches.
+    pub fn with_quantum(
+        processes: u32,
+        batches: u32,
+        words: u32,
+        quantum: u32,
+    ) -> Result<Shape, ShapeFault>
+        ensures shape { IfOk result (λ shape. IsShape shape) }
+        ensures processes { IfOk result (λ shape. shape.processes ≡ processes) }
+        ensures batches { IfOk result (λ shape. shape.batches ≡ batches) }
+        ensures words { IfOk result (λ shape. shape.words ≡ words) }
+        ensures quantum { IfOk result (λ shape. shape.quantum ≡ quantum) }
+        ensures fault { IfErr result (IsFirstFault processes batches words quantum) }
+    {
+        if processes == 0 {
+            return Err(ShapeFault::NoProcess);
+        }
+        if processes > Shape::MOST_PROCESSES {
+            return Err(ShapeFault::ManyProcesses);
+        }
+        if batches < 2 * processes {
+            return Err(ShapeFault::FewBatches);
+        }
+        if !is_quantum(quantum) {
+            return Err(ShapeFault::BadQuantum);
+        }
+        let length = least_length(processes, quantum);
+        let blocks = u64::from(batches) * u64::from(length);
+        if blocks > Shape::MOST_BLOCKS {
+            return Err(ShapeFault::ManyBlocks);
+        }
+        if words > Shape::MOST_WORDS {
+            return Err(ShapeFault::WideBlock);
+        }
+        Ok(Shape {
+            processes,
+            batches,
+            words,
+            quantum,
+            length,
+        })
+    }
+
+    /// How many processes share the pool, 1 to 32.
+    pub fn processes(&self) -> u32
+        ensures value { result ≡ self.now.processes }
+        ensures shape { IsShape self.now }
+    {
+        self.processes
+    }
+
+    /// How many batches the blocks form, at least two a process.
+    pub fn batches(&self) -> u32
+        ensures value { result ≡ self.now.batches }
+        ensures shape { IsShape self.now }
+    {
+        self.batches
+    }
+
+    /// How many data words a block has, 0 to 8.
+    pub fn words(&self) -> u32
+        ensures value { result ≡ self.now.words }
+        ensures shape { IsShape self.now }
+    {
+        self.words
+    }
+
+    /// How many steps of a transfer one call makes at most: 1, 2, 4, 8 or 16.
+    pub fn quantum(&self) -> u32
+        ensures value { result ≡ self.now.quantum }
+        ensures shape { IsShape self.now }
+    {
+        self.quantum
+    }
+
+    /// How many blocks a batch has.
+    pub fn length(&self) -> u32
+        ensures value { result ≡ self.now.length }
+        ensures shape { IsShape self.now }
+    {
+        self.length
+    }
+
+    /// How many blocks the pool has, at most 2^22.
+    #[tactic(auto, unfolding(crate::specs::Sizes::blocks))]
+    pub fn blocks(&self) -> u32
+        ensures value { result ≡ blocks self.now }
+        ensures shape { IsShape self.now }
+    {
+        self.batches * self.length
+    }
+
+    /// How many blocks may be unheld at most at some moment shortly before a refusal.
+    #[tactic(auto, unfolding(crate::specs::Sizes::slack))]
+    pub fn slack(&self) -> u32
+        ensures { result ≡ slack self.now }
+    {
+        5 * (self.processes * self.length)
+    }
+
+    /// How many steps a transfer takes at most.
+    pub fn transfer_bound(&self) -> u32
+        ensures { result ≡ transfer_bound self.now }
+    {
+        16 * self.processes + 15
+    }
+}
+
+/// How many blocks a batch has: just enough that its calls have room for a transfer.
+fn least_length(processes: u32, quantum: u32) -> u32
+    requires few_processes { processes ≤ 32 }
+    requires some_step { 1 ≤ quantum }
+    ensures { IsLength processes quantum result }
+{
+    (16 * processes + 15).div_ceil(quantum)
+}
+
+/// Whether a call may have this quantum.
+fn is_quantum(quantum: u32) -> bool
+    ensures { IsTrue result ↔ IsQuantum quantum }
+{
+    matches!(quantum, 1 | 2 | 4 | 8 | 16)
+}
