@@ -1,5 +1,4 @@
-use crate::{Announced, Reply, Shape, ShapeFault, Tagged, Wish};
-use std::process::Abort;
+use crate::{Announced, Reply, Shape, ShapeFault, Tagged, Wish, WordName};
 use std::test::Fail;
 
 /// The blocks of a shape, or the number of a fault.
@@ -46,30 +45,6 @@ fn lengths_of_quanta(rt: HostRuntime) -> Result<(), Fail> {
 }
 
 #[test]
-fn numbers_of_a_shape(rt: HostRuntime) -> Result<(), Fail> {
-    let shape = Shape::new(2, 4, 3)?;
-    assert_eq!(rt;
-        (
-            shape.processes(),
-            shape.batches(),
-            shape.words(),
-            shape.quantum()
-        ),
-        (2, 4, 3, 8)
-    );
-    assert_eq!(rt;
-        (
-            shape.blocks(),
-            shape.slack(),
-            shape.transfer_bound(),
-            shape.record_words()
-        ),
-        (24, 60, 47, 6)
-    );
-    Ok(())
-}
-
-#[test]
 fn places_of_four_shapes(rt: HostRuntime) -> Result<(), Fail> {
     let cases = [
         (1, 2, 14, 16, 24),
@@ -79,6 +54,7 @@ fn places_of_four_shapes(rt: HostRuntime) -> Result<(), Fail> {
     ];
     for (processes, batches, slots, nexts, all) in cases {
         let shape = Shape::new(processes, batches, 0)?;
+        assert!(rt; shape.blocks() > 0);
         let found = (
             shape.slot_place(0),
             shape.next_place(0),
@@ -90,22 +66,39 @@ fn places_of_four_shapes(rt: HostRuntime) -> Result<(), Fail> {
 }
 
 #[test]
-fn places_of_names(rt: HostRuntime) -> Result<(), Fail> {
+fn numbers_and_places_of_a_shape(rt: HostRuntime) -> Result<(), Fail> {
     let shape = Shape::new(2, 4, 3)?;
-    let first = (
-        shape.state_place(),
-        shape.announce_place(1),
-        shape.record_place(4, 5),
-    );
-    assert_eq!(rt; first, (0, 2, 32));
     assert_eq!(rt;
-        (
+        [
+            shape.processes(),
+            shape.batches(),
+            shape.words(),
+            shape.record_words()
+        ],
+        [2, 4, 3, 6]
+    );
+    assert_eq!(rt;
+        [shape.slack(), shape.transfer_bound(), shape.blocks()],
+        [60, 47, 24]
+    );
+    assert!(rt; shape.blocks() == 24);
+    assert_eq!(rt;
+        [
+            shape.state_place(),
+            shape.announce_place(1),
+            shape.record_place(4, 5)
+        ],
+        [0, 2, 32]
+    );
+    assert_eq!(rt;
+        [
             shape.slot_place(3),
             shape.next_place(23),
             shape.data_place(1, 2)
-        ),
-        (36, 60, 66)
+        ],
+        [36, 60, 66]
     );
+    assert_eq!(rt; shape.place(WordName::Next { block: 23 }), 60);
     Ok(())
 }
 
