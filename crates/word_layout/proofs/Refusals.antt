@@ -8,8 +8,8 @@ shape_is processes batches words quantum l some few two is_quantum is_length few
   a_process = some;
   few_processes = few;
   two_batches_each = two;
-  quantum = is_quantum;
-  length = is_length;
+  a_quantum = is_quantum;
+  least_length = is_length;
   few_blocks = few_blocks;
   few_words = narrow;
 }

@@ -1,6 +1,6 @@
 -- what holds of names, places and packed words; each is the contract of a call of `laws`
-use Rattle.std.specs.Prelude.{◌≡◌, ◌≢◌, ℕ, ◌^◌, ◌<◌, List, length, Bool}
-use Rattle.word_layout.specs.Sizes.{Sizes, IsLength}
+use Rattle.std.specs.Prelude.{◌≡◌, ◌≢◌, ℕ, ◌+◌, ◌*◌, ◌^◌, ◌<◌, ◌≤◌, List, length, Bool}
+use Rattle.word_layout.specs.Sizes.{Sizes, IsShape, IsLength, blocks}
 use Rattle.word_layout.specs.Faults.{IsFirstFault}
 use Rattle.word_layout.specs.Names.{InRange, place, table_words, word_at, set_word}
 use Rattle.word_layout.specs.Packing.{tagged, tag_of, value_of, FitsAnnounced, announced_word, announced_of, FitsReply, reply_value, reply_of, is_odd_reply}
@@ -17,6 +17,14 @@ LengthIsOne = (processes quantum l m : ℕ) → IsLength processes quantum l →
 abbrev pub FirstFaultIsOne : Type 0
 FirstFaultIsOne =
     (processes batches words quantum : ℕ) (x y : ShapeFault) → IsFirstFault processes batches words quantum x → IsFirstFault processes batches words quantum y → x ≡ y
+
+-- a batch has at least two blocks
+abbrev pub BatchesHaveTwoBlocks : Type 0
+BatchesHaveTwoBlocks = (sizes : Sizes) → IsShape sizes → 2 ≤ sizes.length
+
+-- the blocks of every batch lie within the blocks
+abbrev pub BatchesLieWithinBlocks : Type 0
+BatchesLieWithinBlocks = (sizes : Sizes) (t : ℕ) → t < sizes.batches → t * sizes.length + sizes.length ≤ blocks sizes
 
 -- the place of every name in range is in the table
 abbrev pub PlacesAreInTable : Type 0

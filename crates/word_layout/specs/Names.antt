@@ -15,7 +15,7 @@ record_words sizes = 2 * sizes.processes + 2
 abbrev pub InRange : Sizes → WordName → Type 0
 InRange sizes State = Unit {0}
 InRange sizes (Announcement process) = process < sizes.processes
-InRange sizes (RecordWord «record» index) = («record» < records sizes) × (index < record_words sizes)
+InRange sizes (RecordWord row index) = (row < records sizes) × (index < record_words sizes)
 InRange sizes (Slot slot) = slot < sizes.batches
 InRange sizes (Next block) = block < blocks sizes
 InRange sizes (Data block index) = (block < blocks sizes) × (index < sizes.words)
@@ -40,7 +40,7 @@ table_words sizes = data_start sizes + blocks sizes * sizes.words
 unfoldable pub place : Sizes → WordName → ℕ
 place sizes State = 0
 place sizes (Announcement process) = 1 + process
-place sizes (RecordWord «record» index) = 1 + sizes.processes + («record» * record_words sizes + index)
+place sizes (RecordWord row index) = 1 + sizes.processes + (row * record_words sizes + index)
 place sizes (Slot slot) = slots_start sizes + slot
 place sizes (Next block) = nexts_start sizes + block
 place sizes (Data block index) = data_start sizes + (block * sizes.words + index)

@@ -30,8 +30,8 @@ pub record IsShape (sizes : Sizes) : Type 0 where
   pub a_process : 1 ≤ sizes.processes
   pub few_processes : sizes.processes ≤ 32
   pub two_batches_each : 2 * sizes.processes ≤ sizes.batches
-  pub quantum : IsQuantum sizes.quantum
-  pub length : IsLength sizes.processes sizes.quantum sizes.length
+  pub a_quantum : IsQuantum sizes.quantum
+  pub least_length : IsLength sizes.processes sizes.quantum sizes.length
   pub few_blocks : blocks sizes ≤ 2 ^ 22
   pub few_words : sizes.words ≤ 8
 

@@ -5,12 +5,12 @@ pub enum WordName {
     State,
     /// The announcement of a process.
     Announcement { process: u32 },
-    /// A word of a record.
-    RecordWord { record: u32, index: u32 },
+    /// Word `index` of record `row`.
+    RecordWord { row: u32, index: u32 },
     /// A slot of the shared stack.
     Slot { slot: u32 },
     /// The next word of a block.
     Next { block: u32 },
-    /// A data word of a block.
+    /// Data word `index` of a block.
     Data { block: u32, index: u32 },
 }

@@ -7,7 +7,7 @@ ghost use Rattle.word_layout.specs.Packing.{tagged, tag_of, value_of};
 pub struct Tagged;
 
 impl Tagged {
-    /// How many words with other tags lie between two tags of one value.
+    /// How many values a word can have: the tag stands above them.
     const VALUES: u64 = 1 << 24;
 
     /// The word with this tag, below 2^40, and this value, below 2^24.

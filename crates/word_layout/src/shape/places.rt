@@ -25,7 +25,7 @@ impl Shape {
         match name {
             WordName::State => self.state_place(),
             WordName::Announcement { process } => self.announce_place(process),
-            WordName::RecordWord { record, index } => self.record_place(record, index),
+            WordName::RecordWord { row, index } => self.record_place(row, index),
             WordName::Slot { slot } => self.slot_place(slot),
             WordName::Next { block } => self.next_place(block),
             WordName::Data { block, index } => self.data_place(block, index),

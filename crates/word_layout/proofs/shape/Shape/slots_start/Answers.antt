@@ -1,9 +1,9 @@
 use Rattle.std.proofs.Common.{subst, arith}
 use Rattle.word_layout.specs.Sizes.{IsShape}
-use Rattle.word_layout.proofs.Limits.{batches_le-blocks}
+use Rattle.word_layout.proofs.Limits.{batches_le_blocks}
 use Rattle.word_layout.proofs.shape.Shape.slots_start.Goals as goal
 
 pub returns-clause-few_batches : goal.returns-clause-few_batches
 returns-clause-few_batches c =
     let is : IsShape c.args.self.now = subst IsShape c.self.view_is c.self.invariant in
-    omega (arith, batches_le-blocks c.args.self.now is, is.few_blocks)
+    omega (arith, batches_le_blocks c.args.self.now is, is.few_blocks)
