@@ -15,12 +15,12 @@ least_quotient bound q d n low h =
     ]
 
 -- the quotient that was rounded up is the least number that is enough
-pub quotient_is_length : (processes q : ℕ) → 1 ≤ q → IsLength processes q (div_ceil (16 * processes + 15) q)
-quotient_is_length processes q some =
+pub quotient_is_length : (processes q l : ℕ) → 1 ≤ q → l ≡ div_ceil (16 * processes + 15) q → IsLength processes q l
+quotient_is_length processes q l some is =
     let bounds = div_ceil_times (16 * processes + 15) q (omega arith) in
     record {
-      enough = omega (arith, bounds.0);
-      least = λ n h. least_quotient (16 * processes + 15) q (div_ceil (16 * processes + 15) q) n bounds.1 h;
+      enough = rw is (omega (arith, bounds.0));
+      least = λ n h. rw is (least_quotient (16 * processes + 15) q (div_ceil (16 * processes + 15) q) n bounds.1 h);
     }
 
 -- there is one such number

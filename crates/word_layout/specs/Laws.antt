@@ -1,7 +1,7 @@
 -- what holds of names, places and packed words; each is the contract of a call of `laws`
 use Rattle.std.specs.Prelude.{◌≡◌, ◌≢◌, ℕ, ◌+◌, ◌*◌, ◌^◌, ◌<◌, ◌≤◌, List, length, Bool}
 use Rattle.word_layout.specs.Sizes.{Sizes, IsShape, IsLength, blocks}
-use Rattle.word_layout.specs.Faults.{IsFirstFault}
+use Rattle.word_layout.specs.Faults.{HasFault, IsFirstFault}
 use Rattle.word_layout.specs.Names.{InRange, place, table_words, word_at, set_word}
 use Rattle.word_layout.specs.Packing.{tagged, tag_of, value_of, FitsAnnounced, announced_word, announced_of, FitsReply, reply_value, reply_of, is_odd_reply}
 use Rattle.word_layout.specs.declared.announced.Announced.{Announced}
@@ -17,6 +17,11 @@ LengthIsOne = (processes quantum l m : ℕ) → IsLength processes quantum l →
 abbrev pub FirstFaultIsOne : Type 0
 FirstFaultIsOne =
     (processes batches words quantum : ℕ) (x y : ShapeFault) → IsFirstFault processes batches words quantum x → IsFirstFault processes batches words quantum y → x ≡ y
+
+-- the numbers of a shape have no fault
+abbrev pub ShapesHaveNoFault : Type 0
+ShapesHaveNoFault =
+    (sizes : Sizes) (fault : ShapeFault) → IsShape sizes → ¬ HasFault sizes.processes sizes.batches sizes.words sizes.quantum fault
 
 -- a batch has at least two blocks
 abbrev pub BatchesHaveTwoBlocks : Type 0

@@ -12,7 +12,7 @@ pub record Sizes : Type 0 where
 abbrev pub IsQuantum : ℕ → Type 0
 IsQuantum q = (q ≡ 1) ⊎ ((q ≡ 2) ⊎ ((q ≡ 4) ⊎ ((q ≡ 8) ⊎ (q ≡ 16))))
 
--- a transfer takes at most so many steps
+-- a transfer among so many processes takes at most so many steps
 abbrev pub transfer_steps : ℕ → ℕ
 transfer_steps processes = 16 * processes + 15
 

@@ -1,12 +1,13 @@
 //! What holds of shapes, names, places and packed words, for all of them at once. Each law is the contract
 //! of a call that does nothing.
-ghost use Rattle.word_layout.specs.Laws.{LengthIsOne, FirstFaultIsOne, BatchesHaveTwoBlocks, BatchesLieWithinBlocks, PlacesAreInTable, PlacesDiffer, PlacesHaveNames, SetWordIsRead, OtherWordsStay, TaggedFits, TaggedReadsBack, AnnouncedFits, AnnouncedReadsBack, ReplyFits, ReplyReadsBack};
+ghost use Rattle.word_layout.specs.Laws.{LengthIsOne, FirstFaultIsOne, ShapesHaveNoFault, BatchesHaveTwoBlocks, BatchesLieWithinBlocks, PlacesAreInTable, PlacesDiffer, PlacesHaveNames, SetWordIsRead, OtherWordsStay, TaggedFits, TaggedReadsBack, AnnouncedFits, AnnouncedReadsBack, ReplyFits, ReplyReadsBack};
 
-/// What a batch's length is, and which fault is told, is settled by the numbers. Batches have a few blocks
-/// and lie within the pool.
+/// What a batch's length is, and which fault is told, is settled by the numbers: those of a shape have none.
+/// Batches have two blocks or more, and lie within the pool.
 pub fn shapes()
     ensures length { LengthIsOne }
     ensures fault { FirstFaultIsOne }
+    ensures no_fault { ShapesHaveNoFault }
     ensures two_blocks { BatchesHaveTwoBlocks }
     ensures within { BatchesLieWithinBlocks }
 {}

@@ -15,6 +15,12 @@ pub enum Reply {
 impl Reply {
     ghost use Rattle.word_layout.specs.Packing.{reply_value, reply_of, FitsReply, is_odd_reply};
 
+    /// What an odd number adds to the value of a reply.
+    const PARITY: u32 = 1 << 23;
+
+    /// The code of a give: one more than that of the last head.
+    const GAVE: u32 = (1 << 22) + 1;
+
     /// The value of a reply. `odd` says whether the number of the transfer is odd, so that a helper sees
     /// whether an announcement was applied already.
     #[tactic(auto, unfolding(crate::specs::Packing::reply_value))]
@@ -47,10 +53,4 @@ impl Reply {
         };
         (value / Reply::PARITY % 2 == 1, reply)
     }
-
-    /// What an odd number adds to the value of a reply.
-    const PARITY: u32 = 1 << 23;
-
-    /// The code of a give: one more than that of the last head.
-    const GAVE: u32 = (1 << 22) + 1;
 }

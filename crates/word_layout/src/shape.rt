@@ -47,7 +47,7 @@ impl Shape {
 
     /// A shape whose calls make at most 8 steps of a transfer.
     pub fn new(processes: u32, batches: u32, words: u32) -> Result<Shape, ShapeFault>
-        ensures shape { IfOk result (λ shape. IsShape shape) }
+        ensures shape { IfOk result IsShape }
         ensures processes { IfOk result (λ shape. shape.processes ≡ processes) }
         ensures batches { IfOk result (λ shape. shape.batches ≡ batches) }
         ensures words { IfOk result (λ shape. shape.words ≡ words) }
@@ -65,7 +65,7 @@ impl Shape {
         words: u32,
         quantum: u32,
     ) -> Result<Shape, ShapeFault>
-        ensures shape { IfOk result (λ shape. IsShape shape) }
+        ensures shape { IfOk result IsShape }
         ensures processes { IfOk result (λ shape. shape.processes ≡ processes) }
         ensures batches { IfOk result (λ shape. shape.batches ≡ batches) }
         ensures words { IfOk result (λ shape. shape.words ≡ words) }
@@ -167,6 +167,7 @@ impl Shape {
 }
 
 /// How many blocks a batch has: just enough that its calls have room for a transfer.
+#[tactic(auto, using(crate::proofs::Lengths::quotient_is_length))]
 fn least_length(processes: u32, quantum: u32) -> u32
     requires few_processes { processes ≤ 32 }
     requires some_step { 1 ≤ quantum }
