@@ -21,3 +21,6 @@ pub use memory_sink::MemorySink;
 pub use real::{RealFiles, StdSink};
 pub use sink::Sink;
 pub use write::write_whole;
+
+#[cfg(test)]
+mod tests;
