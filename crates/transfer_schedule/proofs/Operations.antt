@@ -1,0 +1,59 @@
+-- What each operation on the numbers of a plan leaves as it was.
+use Rattle.std.proofs.Common.{◌≡◌, ◌≢◌, ℕ, ◌+◌, ◌≤◌, Bool, true, false, arith}
+use Rattle.std.proofs.lemmas.Bool.Decides.{nat_tests}
+use Rattle.transfer_schedule.specs.declared.pending.Pending.{Pending}
+use Rattle.transfer_schedule.specs.declared.pending.Pending.TheVariants.{Idle}
+use Rattle.transfer_schedule.specs.declared.own_step.Source.TheVariants.{Nothing}
+use Rattle.transfer_schedule.specs.Numbers.{Numbers, is_idle, one_more, after_begin, after_choice, after_steps, after_end, after_took_one, after_gave_one, source_of}
+use Rattle.transfer_schedule.specs.Laws.{HasSizes}
+
+pub idle_is : (p : Pending) → is_idle p ≡ true → p ≡ Idle
+idle_is p e = grind arith
+
+pub busy_not_idle : (p : Pending) → is_idle p ≡ false → p ≢ Idle
+busy_not_idle p e = λ idle. grind arith
+
+pub not_idle_busy : (p : Pending) → p ≢ Idle → is_idle p ≡ false
+not_idle_busy p ne = grind arith
+
+-- few spares can be one more
+pub one_more_few : (n : ℕ) → n ≤ 3 → one_more n ≡ n + 1
+unfolding one_more
+one_more_few n few = omega arith
+
+pub choice_busy : (x : Numbers) → is_idle x.pending ≡ false → after_choice x ≡ x
+choice_busy x busy = grind (arith, nat_tests)
+
+pub choice_idle : (x : Numbers) → is_idle (after_choice x).pending ≡ true → after_choice x ≡ x
+choice_idle x idle = grind (arith, nat_tests)
+
+pub no_steps : (x : Numbers) → after_steps 0 x ≡ x
+no_steps x = grind arith
+
+pub end_steps : (x : Numbers) (found : Bool) (steps : ℕ) → after_end found (after_steps steps x) ≡ after_end found x
+end_steps x found steps = grind (arith, nat_tests)
+
+pub took_nothing : (x : Numbers) → source_of x ≡ Nothing → after_took_one x ≡ x
+took_nothing x none = grind (arith, nat_tests)
+
+pub took_pending : (x : Numbers) → (after_took_one x).pending ≡ x.pending
+took_pending x = grind (arith, nat_tests)
+
+pub gave_pending : (x : Numbers) → (after_gave_one x).pending ≡ x.pending
+gave_pending x = grind (arith, nat_tests)
+
+-- the sizes stay
+pub begin_sizes : (x : Numbers) (wish : Pending) → HasSizes x.length x.bound x.quantum (after_begin wish x)
+begin_sizes x wish = grind (arith, nat_tests)
+
+pub choice_sizes : (x : Numbers) → HasSizes x.length x.bound x.quantum (after_choice x)
+choice_sizes x = grind (arith, nat_tests)
+
+pub end_sizes : (x : Numbers) (found : Bool) → HasSizes x.length x.bound x.quantum (after_end found x)
+end_sizes x found = grind (arith, nat_tests)
+
+pub took_sizes : (x : Numbers) → HasSizes x.length x.bound x.quantum (after_took_one x)
+took_sizes x = grind (arith, nat_tests)
+
+pub gave_sizes : (x : Numbers) → HasSizes x.length x.bound x.quantum (after_gave_one x)
+gave_sizes x = grind (arith, nat_tests)

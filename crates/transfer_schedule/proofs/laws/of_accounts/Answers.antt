@@ -1,0 +1,29 @@
+use Rattle.transfer_schedule.proofs.Reaching.{reached_stands, reached_sizes, stands_table, stands_rests, stands_withholds, stands_in_time, stands_counts, stands_sound, stands_begins, stands_refuses}
+use Rattle.transfer_schedule.proofs.laws.of_accounts.Goals as goal
+
+pub returns-clause-sizes : goal.returns-clause-sizes
+returns-clause-sizes c = reached_sizes
+
+pub returns-clause-table : goal.returns-clause-table
+returns-clause-table c = λ l t q a sizes r. stands_table a (reached_stands l t q a sizes r)
+
+pub returns-clause-rests : goal.returns-clause-rests
+returns-clause-rests c = λ l t q a sizes r. stands_rests a (reached_stands l t q a sizes r)
+
+pub returns-clause-withholds : goal.returns-clause-withholds
+returns-clause-withholds c = λ l t q a sizes r. stands_withholds a (reached_stands l t q a sizes r)
+
+pub returns-clause-ends : goal.returns-clause-ends
+returns-clause-ends c = λ l t q a sizes r. stands_in_time a (reached_stands l t q a sizes r)
+
+pub returns-clause-counts : goal.returns-clause-counts
+returns-clause-counts c = λ l t q a sizes r. stands_counts a (reached_stands l t q a sizes r)
+
+pub returns-clause-sound : goal.returns-clause-sound
+returns-clause-sound c = λ l t q a sizes r. stands_sound a (reached_stands l t q a sizes r)
+
+pub returns-clause-begins : goal.returns-clause-begins
+returns-clause-begins c = λ l t q a sizes r. stands_begins a (reached_stands l t q a sizes r)
+
+pub returns-clause-refuses : goal.returns-clause-refuses
+returns-clause-refuses c = λ l t q a sizes r. stands_refuses a (reached_stands l t q a sizes r)

@@ -1,0 +1,6 @@
+pub mod Numbers
+pub mod Table
+pub mod Calls
+pub mod Account
+pub mod Laws
+pub mod Alone

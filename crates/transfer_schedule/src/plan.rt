@@ -1,0 +1,254 @@
+// The plan of one process.
+ghost use Rattle.std.specs.Prelude.{◌≡◌, ◌≢◌, ◌↔◌, ℕ, ◌+◌, ◌-◌, ◌*◌, ◌<◌, ◌≤◌, IsTrue};
+ghost use Rattle.transfer_schedule.specs.Numbers.{opening, after_begin, after_choice, after_steps, after_end, after_took_one, after_gave_one, source_of, target_of, Numbers, MayBegin, stock, kept, withheld};
+ghost use Rattle.transfer_schedule.specs.Table.{InTable};
+ghost use Rattle.transfer_schedule.specs.Calls.{ready_for, after_call, own_answer, after_calls, Fits, FitAll, EndWithin, EndsEmpty, IsMoment};
+ghost use Rattle.transfer_schedule.specs.declared.call.PlannedCall.{PlannedCall};
+
+use crate::call::{OwnAnswer, OwnStep, PlannedCall};
+use crate::own_step::{Source, Target};
+use crate::pending::Pending;
+use std::marker::Model;
+
+/// The numbers of one process's private pool. Contracts see the record of its numbers.
+///
+/// The sizes stay: the blocks of a batch, the most steps of a transfer, and the most steps of a transfer in
+/// one call. The other numbers are changed by the calls below, in the order in which a pool uses them.
+#[derive(Clone, Copy, Debug, PartialEq, Eq, Hash)]
+pub struct Plan {
+    length: u32,
+    bound: u32,
+    quantum: u32,
+    current: u32,
+    spares: u32,
+    pending: Pending,
+    done: u32,
+    dry: bool,
+}
+
+impl Model for Plan {
+    ghost use Rattle.transfer_schedule.specs.Numbers.{Numbers, IsPlan};
+
+    ghost Value = { Numbers };
+
+    ghost view = { λ p. record { length = p.length; bound = p.bound; quantum = p.quantum; current = p.current; spares = p.spares; pending = p.pending; done = p.done; dry = p.dry } };
+
+    ghost invariant = { λ p. IsPlan (record { length = p.length; bound = p.bound; quantum = p.quantum; current = p.current; spares = p.spares; pending = p.pending; done = p.done; dry = p.dry }) };
+
+    ghost inverse = { λ x. record { length = x.length; bound = x.bound; quantum = x.quantum; current = x.current; spares = x.spares; pending = x.pending; done = x.done; dry = x.dry } };
+}
+
+impl Plan {
+    /// The plan of a pool at its opening: a full current list and one spare, with nothing pending.
+    ///
+    /// A batch has `length` blocks. A transfer takes at most `bound` steps, of which a call makes at most
+    /// `quantum`, so that it ends within `length` calls.
+    pub fn of(length: u32, bound: u32, quantum: u32) -> Plan
+        requires long { 2 ≤ length }
+        requires some { 1 ≤ bound }
+        requires soon { bound ≤ quantum * length }
+        ensures { result ≡ opening length bound quantum }
+    {
+        Plan {
+            length,
+            bound,
+            quantum,
+            current: length,
+            spares: 1,
+            pending: Pending::Idle,
+            done: 0,
+            dry: false,
+        }
+    }
+
+    /// The plan of a pool for so many processes, 1 to 32, at eight transfer steps a call.
+    pub fn open(processes: u32) -> Plan
+        requires some { 1 ≤ processes }
+        requires few { processes ≤ 32 }
+        ensures { result ≡ opening (2 * processes + 2) (16 * processes + 15) 8 }
+    {
+        Plan::of(2 * processes + 2, 16 * processes + 15, 8)
+    }
+
+    /// How many blocks the current list has, 0 to the length of a batch.
+    pub fn current(&self) -> u32
+        ensures blocks { result ≡ self.now.current }
+        ensures within { result ≤ self.now.length }
+    {
+        self.current
+    }
+
+    /// How many spare batches there are.
+    pub fn spares(&self) -> u32
+        ensures { result ≡ self.now.spares }
+    {
+        self.spares
+    }
+
+    /// What is pending.
+    pub fn pending(&self) -> Pending
+        ensures { result ≡ self.now.pending }
+    {
+        self.pending
+    }
+
+    /// How many steps of the pending transfer were made; 0 where none is pending.
+    pub fn done(&self) -> u32
+        ensures steps { result ≡ self.now.done }
+        ensures within { result ≤ self.now.bound }
+        ensures idle { self.now.pending ≡ Pending.Idle → result ≡ 0 }
+    {
+        self.done
+    }
+
+    /// Whether the last ended take found nothing.
+    pub fn dry(&self) -> bool
+        ensures { result ≡ self.now.dry }
+    {
+        self.dry
+    }
+
+    /// Begins a transfer outside the rule of [`Plan::before_call`]. The batch of a give leaves the spares.
+    pub fn begin(&mut self, wish: Pending)
+        requires idle { self.old.pending ≡ Pending.Idle }
+        requires may { MayBegin wish self.old.spares }
+        ensures { self.new ≡ after_begin wish self.old }
+    {
+        if wish == Pending::Giving {
+            self.spares -= 1;
+        }
+        self.pending = wish;
+        self.done = 0;
+    }
+
+    /// Begins the transfer that is due as a call begins, and answers what is pending then.
+    ///
+    /// Where nothing is pending, at most one spare begins a take and three begin a give of the newest one.
+    pub fn before_call(&mut self) -> Pending
+        ensures numbers { self.new ≡ after_choice self.old }
+        ensures pending { result ≡ self.new.pending }
+
+        // A take never comes later than with the last spare, and a give takes no spare that is needed.
+        ensures take { self.old.pending ≡ Pending.Idle → ((result ≡ Pending.Taking) ↔ (self.old.spares ≤ 1)) }
+        ensures give { self.old.pending ≡ Pending.Idle → ((result ≡ Pending.Giving) ↔ (self.old.spares ≡ 3)) }
+    {
+        if self.pending == Pending::Idle {
+            if self.spares <= 1 {
+                self.begin(Pending::Taking);
+            } else if self.spares == 3 {
+                self.begin(Pending::Giving);
+            }
+        }
+        self.pending
+    }
+
+    /// Counts steps of the pending transfer, made in one call.
+    pub fn ran(&mut self, steps: u32)
+        requires pending { self.old.pending ≢ Pending.Idle }
+        requires few { steps ≤ self.old.quantum }
+        requires within { self.old.done + steps ≤ self.old.bound }
+        ensures { self.new ≡ after_steps steps self.old }
+    {
+        self.done += steps;
+    }
+
+    /// Ends the pending transfer. `found` says whether a batch was moved, which a give always does.
+    #[tactic(auto, unfolding(crate::specs::Numbers::one_more))]
+    pub fn came(&mut self, found: bool)
+        requires pending { self.old.pending ≢ Pending.Idle }
+        requires give { self.old.pending ≡ Pending.Giving → IsTrue found }
+        ensures { self.new ≡ after_end found self.old }
+    {
+        if self.pending == Pending::Taking {
+            if found {
+                self.spares = self.spares.saturating_add(1);
+            }
+            self.dry = !found;
+        }
+        self.pending = Pending::Idle;
+        self.done = 0;
+    }
+
+    /// Takes one block for an `allocate`, and answers where it comes from.
+    ///
+    /// The newest spare becomes the current list where that list is empty. Nothing changes where there is no
+    /// spare either.
+    pub fn took_one(&mut self) -> Source
+        ensures numbers { self.new ≡ after_took_one self.old }
+        ensures source { result ≡ source_of self.old }
+        ensures nothing { (result ≡ Source.Nothing) ↔ ((self.old.current ≡ 0) × (self.old.spares ≡ 0)) }
+    {
+        if self.current > 0 {
+            self.current -= 1;
+            Source::Current
+        } else if self.spares > 0 {
+            self.spares -= 1;
+            self.current = self.length - 1;
+            Source::Spare
+        } else {
+            Source::Nothing
+        }
+    }
+
+    /// Gives one block back for a `free`, and answers where it goes.
+    ///
+    /// A full current list becomes the newest spare, and the block begins a fresh list.
+    #[tactic(auto, unfolding(crate::specs::Numbers::one_more))]
+    pub fn gave_one(&mut self) -> Target
+        ensures numbers { self.new ≡ after_gave_one self.old }
+        ensures target { result ≡ target_of self.old }
+    {
+        if self.current < self.length {
+            self.current += 1;
+            Target::Current
+        } else {
+            self.spares = self.spares.saturating_add(1);
+            self.current = 1;
+            Target::Fresh
+        }
+    }
+
+    /// Makes one whole call: its beginning, its transfer steps, and its own step, which it answers.
+    pub fn make_call(&mut self, call: PlannedCall) -> OwnAnswer
+        requires { Fits call self.old }
+        ensures numbers { self.new ≡ after_call self.old call }
+        ensures answer { result ≡ own_answer call.own (ready_for call self.old) }
+    {
+        if self.before_call() != Pending::Idle {
+            self.ran(call.steps);
+            if let Some(found) = call.end {
+                self.came(found);
+            }
+        }
+        match call.own {
+            OwnStep::Allocate => OwnAnswer::Took(self.took_one()),
+            OwnStep::Free => OwnAnswer::Gave(self.gave_one()),
+        }
+    }
+
+    /// The plan of a pool that has made these calls since its opening.
+    ///
+    /// The clauses are the laws of the schedule: a transfer ends within `length` calls; the spares are those of
+    /// the table, and few blocks are kept, at every moment; a take begins with less than almost a batch only
+    /// after a call whose take found nothing; and an `allocate` finds no block only where the last ended take
+    /// found no batch.
+    pub fn after(length: u32, bound: u32, quantum: u32, calls: &[PlannedCall]) -> Plan
+        requires long { 2 ≤ length }
+        requires some { 1 ≤ bound }
+        requires soon { bound ≤ quantum * length }
+        requires fit { FitAll calls.now (opening length bound quantum) }
+        ensures numbers { result ≡ after_calls calls.now (opening length bound quantum) }
+        ensures transfers_end { EndWithin length calls.now (opening length bound quantum) }
+        ensures table { (y : Numbers) → IsMoment result y → InTable y }
+        ensures rests { (y : Numbers) → IsMoment result y → y.pending ≡ Pending.Idle → kept y ≤ 4 * length }
+        ensures withholds { (y : Numbers) → IsMoment result y → withheld y ≤ 5 * length }
+        ensures short { result.pending ≡ Pending.Idle → stock result < length - 1 → EndsEmpty calls.now (opening length bound quantum) }
+        ensures nothing { (call : PlannedCall) → Fits call result → source_of (ready_for call result) ≡ Source.Nothing → IsTrue (ready_for call result).dry }
+    {
+        let mut plan = Plan::of(length, bound, quantum);
+        for call in calls {
+            plan.make_call(*call);
+        }
+        plan
+    }
+}
