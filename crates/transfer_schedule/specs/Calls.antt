@@ -1,5 +1,6 @@
-use Rattle.std.specs.Prelude.{◌≡◌, ◌≢◌, ℕ, ◌+◌, ◌<◌, ◌≤◌, Bool, false, Option, None, Some, List, [], ◌∷◌, ◌++◌, length, take, fold, slice_get}
+use Rattle.std.specs.Prelude.{◌≡◌, ◌≢◌, ℕ, ◌+◌, ◌<◌, ◌≤◌, Bool, IsTrue, false, Option, None, Some, List, [], ◌∷◌, ◌++◌, length, take, fold, slice_get}
 use Rattle.transfer_schedule.specs.declared.pending.Pending.TheVariants.{Idle, Taking, Giving}
+use Rattle.transfer_schedule.specs.declared.own_step.Source.TheVariants.{Nothing}
 use Rattle.transfer_schedule.specs.declared.call.OwnStep.{OwnStep}
 use Rattle.transfer_schedule.specs.declared.call.OwnStep.TheVariants.{Allocate, Free}
 use Rattle.transfer_schedule.specs.declared.call.PlannedCall.{PlannedCall}
@@ -72,3 +73,11 @@ pub data IsMoment (x : Numbers) : Numbers → Type 0 where
   between : IsMoment x x
   moving : (steps : ℕ) → (after_choice x).pending ≢ Idle → steps ≤ x.quantum → (after_choice x).done + steps ≤ x.bound → IsMoment x (after_steps steps (after_choice x))
   ready : (call : PlannedCall) → Fits call x → IsMoment x (ready_for call x)
+
+-- a fact of the numbers at each of these moments
+abbrev pub EachMoment : (Numbers → Type 0) → Numbers → Type 0
+EachMoment Fact x = (y : Numbers) → IsMoment x y → Fact y
+
+-- the next call finds no block only where the last ended take found no batch
+abbrev pub RefusesOnlyDry : Numbers → Type 0
+RefusesOnlyDry x = (call : PlannedCall) → Fits call x → source_of (ready_for call x) ≡ Nothing → IsTrue (ready_for call x).dry

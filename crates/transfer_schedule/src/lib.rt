@@ -12,6 +12,8 @@ pub mod laws;
 mod own_step;
 mod pending;
 mod plan;
+#[cfg(test)]
+mod tests;
 
 pub use call::{OwnAnswer, OwnStep, PlannedCall};
 pub use own_step::{Source, Target};

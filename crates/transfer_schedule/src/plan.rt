@@ -1,9 +1,8 @@
 // The plan of one process.
-ghost use Rattle.std.specs.Prelude.{◌≡◌, ◌≢◌, ◌↔◌, ℕ, ◌+◌, ◌-◌, ◌*◌, ◌<◌, ◌≤◌, IsTrue};
-ghost use Rattle.transfer_schedule.specs.Numbers.{opening, after_begin, after_choice, after_steps, after_end, after_took_one, after_gave_one, source_of, target_of, Numbers, MayBegin, stock, kept, withheld};
+ghost use Rattle.std.specs.Prelude.{◌≡◌, ◌≢◌, ◌↔◌, ◌+◌, ◌-◌, ◌*◌, ◌<◌, ◌≤◌, IsTrue};
+ghost use Rattle.transfer_schedule.specs.Numbers.{opening, MayBegin, after_begin, after_choice, after_steps, after_end, after_took_one, source_of, after_gave_one, target_of, stock, kept, withheld};
 ghost use Rattle.transfer_schedule.specs.Table.{InTable};
-ghost use Rattle.transfer_schedule.specs.Calls.{ready_for, after_call, own_answer, after_calls, Fits, FitAll, EndWithin, EndsEmpty, IsMoment};
-ghost use Rattle.transfer_schedule.specs.declared.call.PlannedCall.{PlannedCall};
+ghost use Rattle.transfer_schedule.specs.Calls.{Fits, ready_for, after_call, own_answer, FitAll, after_calls, EndWithin, EndsEmpty, EachMoment, RefusesOnlyDry};
 
 use crate::call::{OwnAnswer, OwnStep, PlannedCall};
 use crate::own_step::{Source, Target};
@@ -31,11 +30,38 @@ impl Model for Plan {
 
     ghost Value = { Numbers };
 
-    ghost view = { λ p. record { length = p.length; bound = p.bound; quantum = p.quantum; current = p.current; spares = p.spares; pending = p.pending; done = p.done; dry = p.dry } };
+    ghost view = { λ p. record {
+      length = p.length;
+      bound = p.bound;
+      quantum = p.quantum;
+      current = p.current;
+      spares = p.spares;
+      pending = p.pending;
+      done = p.done;
+      dry = p.dry;
+    } };
 
-    ghost invariant = { λ p. IsPlan (record { length = p.length; bound = p.bound; quantum = p.quantum; current = p.current; spares = p.spares; pending = p.pending; done = p.done; dry = p.dry }) };
+    ghost invariant = { λ p. IsPlan (record {
+      length = p.length;
+      bound = p.bound;
+      quantum = p.quantum;
+      current = p.current;
+      spares = p.spares;
+      pending = p.pending;
+      done = p.done;
+      dry = p.dry;
+    }) };
 
-    ghost inverse = { λ x. record { length = x.length; bound = x.bound; quantum = x.quantum; current = x.current; spares = x.spares; pending = x.pending; done = x.done; dry = x.dry } };
+    ghost inverse = { λ x. record {
+      length = x.length;
+      bound = x.bound;
+      quantum = x.quantum;
+      current = x.current;
+      spares = x.spares;
+      pending = x.pending;
+      done = x.done;
+      dry = x.dry;
+    } };
 }
 
 impl Plan {
@@ -128,9 +154,11 @@ impl Plan {
         ensures numbers { self.new ≡ after_choice self.old }
         ensures pending { result ≡ self.new.pending }
 
-        // A take never comes later than with the last spare, and a give takes no spare that is needed.
-        ensures take { self.old.pending ≡ Pending.Idle → ((result ≡ Pending.Taking) ↔ (self.old.spares ≤ 1)) }
-        ensures give { self.old.pending ≡ Pending.Idle → ((result ≡ Pending.Giving) ↔ (self.old.spares ≡ 3)) }
+        // What is begun, where nothing was pending.
+        ensures take { self.old.pending ≡ Pending.Idle
+            → ((result ≡ Pending.Taking) ↔ (self.old.spares ≤ 1)) }
+        ensures give { self.old.pending ≡ Pending.Idle
+            → ((result ≡ Pending.Giving) ↔ (self.old.spares ≡ 3)) }
     {
         if self.pending == Pending::Idle {
             if self.spares <= 1 {
@@ -161,6 +189,7 @@ impl Plan {
     {
         if self.pending == Pending::Taking {
             if found {
+                // A plan that is used as the schedule says has at most three.
                 self.spares = self.spares.saturating_add(1);
             }
             self.dry = !found;
@@ -228,10 +257,10 @@ impl Plan {
 
     /// The plan of a pool that has made these calls since its opening.
     ///
-    /// The clauses are the laws of the schedule: a transfer ends within `length` calls; the spares are those of
-    /// the table, and few blocks are kept, at every moment; a take begins with less than almost a batch only
-    /// after a call whose take found nothing; and an `allocate` finds no block only where the last ended take
-    /// found no batch.
+    /// The clauses are the laws of the schedule. Of any `length` calls in a row one leaves nothing pending. At
+    /// every moment the spares are those of the table and few batches are kept. Fewer blocks than a batch less
+    /// one are left with nothing pending only by a call whose take found nothing. An `allocate` finds no block
+    /// only where the last ended take found nothing.
     pub fn after(length: u32, bound: u32, quantum: u32, calls: &[PlannedCall]) -> Plan
         requires long { 2 ≤ length }
         requires some { 1 ≤ bound }
@@ -239,11 +268,12 @@ impl Plan {
         requires fit { FitAll calls.now (opening length bound quantum) }
         ensures numbers { result ≡ after_calls calls.now (opening length bound quantum) }
         ensures transfers_end { EndWithin length calls.now (opening length bound quantum) }
-        ensures table { (y : Numbers) → IsMoment result y → InTable y }
-        ensures rests { (y : Numbers) → IsMoment result y → y.pending ≡ Pending.Idle → kept y ≤ 4 * length }
-        ensures withholds { (y : Numbers) → IsMoment result y → withheld y ≤ 5 * length }
-        ensures short { result.pending ≡ Pending.Idle → stock result < length - 1 → EndsEmpty calls.now (opening length bound quantum) }
-        ensures nothing { (call : PlannedCall) → Fits call result → source_of (ready_for call result) ≡ Source.Nothing → IsTrue (ready_for call result).dry }
+        ensures table { EachMoment InTable result }
+        ensures rests { EachMoment (λ y. y.pending ≡ Pending.Idle → kept y ≤ 4 * length) result }
+        ensures withholds { EachMoment (λ y. withheld y ≤ 5 * length) result }
+        ensures short { result.pending ≡ Pending.Idle → stock result < length - 1
+            → EndsEmpty calls.now (opening length bound quantum) }
+        ensures nothing { RefusesOnlyDry result }
     {
         let mut plan = Plan::of(length, bound, quantum);
         for call in calls {
