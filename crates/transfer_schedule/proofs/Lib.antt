@@ -1,5 +1,6 @@
 pub mod Products
 pub mod Operations
+pub mod Stock
 pub mod Standing
 pub mod Spared
 pub mod Calling

@@ -4,7 +4,7 @@ use Rattle.std.proofs.lemmas.Bool.Decides.{nat_tests}
 use Rattle.transfer_schedule.specs.declared.pending.Pending.{Pending}
 use Rattle.transfer_schedule.specs.declared.pending.Pending.TheVariants.{Idle}
 use Rattle.transfer_schedule.specs.declared.own_step.Source.TheVariants.{Nothing}
-use Rattle.transfer_schedule.specs.Numbers.{Numbers, is_idle, one_more, after_begin, after_choice, after_steps, after_end, after_took_one, after_gave_one, source_of}
+use Rattle.transfer_schedule.specs.Numbers.{Numbers, is_idle, one_more, after_choice, after_steps, after_end, after_took_one, after_gave_one, source_of}
 use Rattle.transfer_schedule.specs.Laws.{HasSizes}
 
 pub idle_is : (p : Pending) → is_idle p ≡ true → p ≡ Idle
@@ -24,9 +24,6 @@ one_more_few n few = omega arith
 pub choice_busy : (x : Numbers) → is_idle x.pending ≡ false → after_choice x ≡ x
 choice_busy x busy = grind (arith, nat_tests)
 
-pub choice_idle : (x : Numbers) → is_idle (after_choice x).pending ≡ true → after_choice x ≡ x
-choice_idle x idle = grind (arith, nat_tests)
-
 pub no_steps : (x : Numbers) → after_steps 0 x ≡ x
 no_steps x = grind arith
 
@@ -43,9 +40,6 @@ pub gave_pending : (x : Numbers) → (after_gave_one x).pending ≡ x.pending
 gave_pending x = grind (arith, nat_tests)
 
 -- the sizes stay
-pub begin_sizes : (x : Numbers) (wish : Pending) → HasSizes x.length x.bound x.quantum (after_begin wish x)
-begin_sizes x wish = grind (arith, nat_tests)
-
 pub choice_sizes : (x : Numbers) → HasSizes x.length x.bound x.quantum (after_choice x)
 choice_sizes x = grind (arith, nat_tests)
 

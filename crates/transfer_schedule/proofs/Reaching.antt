@@ -7,8 +7,9 @@ use Rattle.transfer_schedule.specs.Numbers.{Numbers, AreSizes, is_idle, after_ch
 use Rattle.transfer_schedule.specs.Table.{InTable}
 use Rattle.transfer_schedule.specs.Account.{CallPhase, Between, Moving, Own, Account, after_move, Follows, begins, continues, rests, moves, ends, gets, refuses, frees, Reached, opens, follows}
 use Rattle.transfer_schedule.specs.Laws.{HasSizes, RestsWithFour, WithholdsFive, IsSound, EndsInTime, CountsSteps, BeginsShort, RefusesSoon}
-use Rattle.transfer_schedule.proofs.Products.{times_two, times_three, times_more, times_less, quantum_some}
-use Rattle.transfer_schedule.proofs.Operations.{one_more_few, no_steps, end_steps, choice_busy, choice_sizes, end_sizes, took_sizes, gave_sizes, took_nothing, busy_not_idle, not_idle_busy}
+use Rattle.transfer_schedule.proofs.Products.{times_two, times_three, quantum_some}
+use Rattle.transfer_schedule.proofs.Operations.{no_steps, end_steps, choice_busy, choice_sizes, end_sizes, took_sizes, gave_sizes, took_nothing, busy_not_idle, not_idle_busy}
+use Rattle.transfer_schedule.proofs.Stock.{end_stock, took_stock, gave_stock}
 use Rattle.transfer_schedule.proofs.Standing.{Standing, Ready, opening_stands, choice_stands, choice_ready, steps_stand, steps_ready, end_ready, took_stands, gave_stands, young, young_ready, nothing_dry, standing_spares, ready_spares}
 use Rattle.transfer_schedule.proofs.Spared.{Spared, spared_standing, spared_ready, spared_table, spared_rests, spared_withholds}
 
@@ -37,16 +38,16 @@ choice_net : (x : Numbers) (gots backs : ℕ) → backs ≤ gots → 2 * x.lengt
 choice_net x gots backs held net = grind (arith, nat_tests, times_two, times_three)
 
 end_net : (x : Numbers) (found : Bool) (gots backs : ℕ) → x.spares ≤ 3 → 2 * x.length + backs ≤ stock x + gots → 2 * (after_end found x).length + backs ≤ stock (after_end found x) + gots
-end_net x found gots backs few net = grind (arith, nat_tests, times_more x.length x.spares, one_more_few x.spares)
+end_net x found gots backs few net = omega (arith, end_stock x found few, (end_sizes x found).0)
 
 took_net : (x : Numbers) (gots backs : ℕ) → source_of x ≢ Nothing → 2 ≤ x.length → 2 * x.length + backs ≤ stock x + gots → 2 * (after_took_one x).length + backs ≤ stock (after_took_one x) + (gots + 1)
-took_net x gots backs some long net = grind (arith, nat_tests, times_less x.length x.spares)
+took_net x gots backs some long net = omega (arith, took_stock x some (omega arith), (took_sizes x).0)
 
 refused_net : (x : Numbers) (gots backs : ℕ) → source_of x ≡ Nothing → 2 * x.length + backs ≤ stock x + gots → 2 * (after_took_one x).length + backs ≤ stock (after_took_one x) + gots
 refused_net x gots backs none net = rw (took_nothing x none) net
 
 gave_net : (x : Numbers) (gots backs : ℕ) → x.spares ≤ 3 → x.current ≤ x.length → 2 * x.length + backs ≤ stock x + gots → 2 * (after_gave_one x).length + (backs + 1) ≤ stock (after_gave_one x) + gots
-gave_net x gots backs few room net = grind (arith, nat_tests, times_more x.length x.spares, one_more_few x.spares)
+gave_net x gots backs few room net = omega (arith, gave_stock x few room, (gave_sizes x).0)
 
 some_of : (x : Numbers) → AreSizes x.length x.bound x.quantum → 0 < x.quantum
 some_of x sizes = quantum_some x.length x.bound x.quantum sizes.some sizes.soon
@@ -63,9 +64,6 @@ move_stands a made s m low = record { at_phase = facts; held = s.held; net = s.n
   where
     next : Standing (after_steps 1 a.plan) (made + 1) a.entries a.begun a.ended
     next = steps_stand a.plan 1 made a.entries a.begun a.ended m.standing m.busy low
-
-    b : Account
-    b = record a { plan = after_steps 1 a.plan; phase = after_move a.plan.quantum made }
 
     last : made + 1 ≡ a.plan.quantum → AtPhase Own (record a { plan = after_steps 1 a.plan; phase = after_move a.plan.quantum made })
     last e = steps_ready (after_steps 1 a.plan) a.entries a.begun a.ended (subst (λ n. Standing (after_steps 1 a.plan) n a.entries a.begun a.ended) e next) m.busy

@@ -8,9 +8,10 @@ use Rattle.transfer_schedule.specs.declared.call.OwnStep.TheVariants.{Allocate, 
 use Rattle.transfer_schedule.specs.declared.call.PlannedCall.{PlannedCall}
 use Rattle.transfer_schedule.specs.Numbers.{Numbers, is_idle, is_taking, is_giving, after_choice, after_steps, after_end, stock}
 use Rattle.transfer_schedule.specs.Calls.{after_transfer, ready_for, after_own, after_call, after_calls, Fits, FitAll, EndsEmpty}
-use Rattle.transfer_schedule.proofs.Products.{times_two, times_more, times_less}
-use Rattle.transfer_schedule.proofs.Operations.{one_more_few, busy_not_idle, end_steps, choice_sizes}
-use Rattle.transfer_schedule.proofs.Standing.{Standing, Ready, young, standing_spares}
+use Rattle.transfer_schedule.proofs.Products.{times_two, times_less}
+use Rattle.transfer_schedule.proofs.Operations.{busy_not_idle, end_steps, choice_sizes}
+use Rattle.transfer_schedule.proofs.Stock.{end_stock, gave_stock}
+use Rattle.transfer_schedule.proofs.Standing.{Standing, Ready, young, standing_spares, ready_spares}
 use Rattle.transfer_schedule.proofs.Calling.{Rested, choice_rested, call_prepared, call_rested, own_pending, idle_ready, first_fits, rest_fit}
 
 -- a call that leaves nothing pending and less than almost a batch has ended a take that found nothing
@@ -18,14 +19,14 @@ rests_full : (x : Numbers) (entries begun ended : ℕ) → Standing x 0 entries 
 rests_full x entries begun ended s idle = grind (arith, nat_tests, times_two)
 
 found_full : (x : Numbers) → is_taking x.pending ≡ true → x.spares ≤ 3 → x.length ≤ stock (after_end true x)
-found_full x taking few = grind (arith, nat_tests, times_more x.length x.spares, one_more_few x.spares)
+found_full x taking few = rw (end_stock x true few) (grind arith)
 
 given_full : (x : Numbers) (found : Bool) (made entries begun ended : ℕ) → Standing x made entries begun ended → is_giving x.pending ≡ true → x.length ≤ stock (after_end found x)
 given_full x found made entries begun ended s giving = grind (arith, nat_tests, young x made entries begun ended s)
 
 own_stock : (own : OwnStep) (x : Numbers) (entries begun ended : ℕ) → Ready x entries begun ended → stock x ≤ stock (after_own own x) + 1
 own_stock Allocate x entries begun ended r = grind (arith, nat_tests, times_less x.length x.spares)
-own_stock Free x entries begun ended r = grind (arith, nat_tests, times_more x.length x.spares, one_more_few x.spares)
+own_stock Free x entries begun ended r = omega (arith, gave_stock x (ready_spares x entries begun ended r) r.room)
 
 pub call_short : (size entries begun : ℕ) (call : PlannedCall) (x : Numbers) → Rested size entries begun x → Fits call x → is_idle (after_call x call).pending ≡ true → stock (after_call x call) + 1 < size → ((after_choice x).pending ≡ Taking) × (call.end ≡ Some false)
 call_short size entries begun call x s fits idle short = go (is_idle (after_choice x).pending) refl

@@ -42,10 +42,10 @@ pub record FoundNothing (n : ℕ) (a : Account) : Type 0 where
   pub dry : a.plan.dry ≡ true
   pub recent : a.entries ≤ a.ended + n
 
--- a take that begins with fewer blocks than a batch less one comes after a take that found nothing
+-- a take begins with fewer than length - 1 blocks only where the last ended take found nothing and began within the last `length` entries
 abbrev pub BeginsShort : Account → Type 0
 BeginsShort a = a.phase ≡ Between → a.plan.pending ≡ Idle → (after_choice a.plan).pending ≡ Taking → stock a.plan < a.plan.length - 1 → FoundNothing a.plan.length a
 
--- where an `allocate` finds no block, a take found nothing that began less than two batches of entries ago
+-- an `allocate` finds no block only where the last ended take found nothing and began within the last 2 * length - 2 entries
 abbrev pub RefusesSoon : Account → Type 0
 RefusesSoon a = a.phase ≡ Own → source_of a.plan ≡ Nothing → FoundNothing (2 * a.plan.length - 2) a
