@@ -1,0 +1,252 @@
+// The table, and the steps on one word.
+ghost use Rattle.std.specs.Prelude.{◌≡◌, ◌≢◌, ℕ, ◌+◌, ◌<◌, ◌^◌, [], ◌∷◌, length, IfOk, MatchResult};
+ghost use Rattle.word_rule.specs.Moves.{Keeps, Turned, unchanged, replaced_by, exchanged};
+ghost use Rattle.word_table.specs.Seats.{SameSeat, met_by};
+
+use crate::plays::{Exchanges, Loads, Ruled, Stores, Turn};
+use crate::seat::WordSeat;
+use atomic_table::Table;
+use pool_model::NoMemory;
+use std::alloc::Global;
+use std::marker::{Brand, Model};
+use std::snapshot::Snapshot;
+use step_counter::{Ledger, Steps};
+use word_rule::{TurnAbout, WordRule};
+
+/// Words under the rule `R`, which threads share by reference.
+///
+/// Clauses see which table it is, with the number of its words.
+#[derive(Drop)]
+pub struct WordTable<R: WordRule> {
+    pub(crate) table: Table<u8, R::View, Snapshot<Vec<u64>>, Ruled<R>, Global>,
+}
+
+impl<R: WordRule> Model for WordTable<R> {
+    ghost use Rattle.atomic_table.specs.Seated.{TableId};
+
+    ghost Value = { TableId };
+
+    ghost view = { λ table. table.table.shared.table_id };
+}
+
+impl<R: WordRule> WordTable<R> {
+    /// A table of these words, and its first seat, which has the number 0.
+    ///
+    /// `Err` for want of memory only.
+    pub fn open(alloc: Global, words: Vec<u64>) -> Result<(WordTable<R>, WordSeat<R>), NoMemory>
+        requires { R.holds words.items (R.first words.items ∷ []) }
+        ensures words { IfOk result (λ opened. opened.0.words ≡ length words.items) }
+        ensures seat { IfOk result (λ opened. (opened.1.table ≡ opened.0) × (opened.1.number ≡ 0)) }
+        ensures view { IfOk result (λ opened. opened.1.view ≡ R.first words.items) }
+    {
+        let opening = Snapshot::of(&words);
+        let (table, seat) = Table::of_words(alloc, words.as_slice(), &opening)?;
+        Ok((WordTable { table }, WordSeat { seat }))
+    }
+
+    /// Loads the word at `place` and answers it.
+    #[inline]
+    pub fn load<L: Ledger>(&self, seat: &mut WordSeat<R>, place: u32, steps: &mut Steps<L>) -> u64
+        requires seat { seat.old.table ≡ self.now }
+        requires place { place < self.now.words }
+        requires steps { steps.old + 1 < 2 ^ 64 }
+        requires rule { Keeps R.holds seat.old.number seat.old.view place unchanged R.turn }
+        ensures seat { SameSeat seat.old seat.new }
+        ensures steps { steps.new ≡ steps.old + 1 }
+        ensures step { Turned R.holds R.turn seat.old.number place unchanged seat.old.view result seat.new.view }
+    {
+        self.load_as::<(), Brand, L>(seat, place, &(), steps)
+    }
+
+    /// A [`load`](WordTable::load) whose turn is about a value.
+    #[inline]
+    pub fn load_with<T, L: Ledger>(
+        &self,
+        seat: &mut WordSeat<R>,
+        place: u32,
+        about: &T,
+        steps: &mut Steps<L>,
+    ) -> u64
+    where
+        R: TurnAbout<R::View, T>,
+        requires seat { seat.old.table ≡ self.now }
+        requires place { place < self.now.words }
+        requires steps { steps.old + 1 < 2 ^ 64 }
+        requires rule { Keeps R.holds seat.old.number seat.old.view place unchanged (R.turn_about about.now) }
+        ensures seat { SameSeat seat.old seat.new }
+        ensures steps { steps.new ≡ steps.old + 1 }
+        ensures step { Turned R.holds (R.turn_about about.now) seat.old.number place unchanged seat.old.view result seat.new.view }
+    {
+        self.load_as::<T, Brand, L>(seat, place, about, steps)
+    }
+
+    #[inline]
+    fn load_as<T, M: Turn<R::View>, L: Ledger>(
+        &self,
+        seat: &mut WordSeat<R>,
+        place: u32,
+        about: &T,
+        steps: &mut Steps<L>,
+    ) -> u64
+        requires number { M.number ≡ seat.old.number }
+        requires seat { seat.old.table ≡ self.now }
+        requires place { place < self.now.words }
+        requires steps { steps.old + 1 < 2 ^ 64 }
+        requires rule { Keeps R.holds M.number seat.old.view place unchanged M.turn }
+        ensures seat { SameSeat seat.old seat.new }
+        ensures steps { steps.new ≡ steps.old + 1 }
+        ensures step { Turned R.holds M.turn M.number place unchanged seat.old.view result seat.new.view }
+    {
+        let _ = about;
+        steps.tick();
+        self.table
+            .shared
+            .load::<Loads<R, M>>(&mut seat.seat, place as usize)
+    }
+
+    /// Stores `value` at `place`. What it replaces is told in proofs alone.
+    #[inline]
+    pub fn store<L: Ledger>(
+        &self,
+        seat: &mut WordSeat<R>,
+        place: u32,
+        value: u64,
+        steps: &mut Steps<L>,
+    )
+        requires seat { seat.old.table ≡ self.now }
+        requires place { place < self.now.words }
+        requires steps { steps.old + 1 < 2 ^ 64 }
+        requires rule { Keeps R.holds seat.old.number seat.old.view place (replaced_by value) R.turn }
+        ensures seat { SameSeat seat.old seat.new }
+        ensures steps { steps.new ≡ steps.old + 1 }
+        ensures step { (met : ℕ) × Turned R.holds R.turn seat.old.number place (replaced_by value) seat.old.view met seat.new.view }
+    {
+        self.store_as::<(), Brand, L>(seat, place, value, &(), steps)
+    }
+
+    /// A [`store`](WordTable::store) whose turn is about a value.
+    #[inline]
+    pub fn store_with<T, L: Ledger>(
+        &self,
+        seat: &mut WordSeat<R>,
+        place: u32,
+        value: u64,
+        about: &T,
+        steps: &mut Steps<L>,
+    )
+    where
+        R: TurnAbout<R::View, T>,
+        requires seat { seat.old.table ≡ self.now }
+        requires place { place < self.now.words }
+        requires steps { steps.old + 1 < 2 ^ 64 }
+        requires rule { Keeps R.holds seat.old.number seat.old.view place (replaced_by value) (R.turn_about about.now) }
+        ensures seat { SameSeat seat.old seat.new }
+        ensures steps { steps.new ≡ steps.old + 1 }
+        ensures step { (met : ℕ) × Turned R.holds (R.turn_about about.now) seat.old.number place (replaced_by value) seat.old.view met seat.new.view }
+    {
+        self.store_as::<T, Brand, L>(seat, place, value, about, steps)
+    }
+
+    #[inline]
+    fn store_as<T, M: Turn<R::View>, L: Ledger>(
+        &self,
+        seat: &mut WordSeat<R>,
+        place: u32,
+        value: u64,
+        about: &T,
+        steps: &mut Steps<L>,
+    )
+        requires number { M.number ≡ seat.old.number }
+        requires seat { seat.old.table ≡ self.now }
+        requires place { place < self.now.words }
+        requires steps { steps.old + 1 < 2 ^ 64 }
+        requires rule { Keeps R.holds M.number seat.old.view place (replaced_by value) M.turn }
+        ensures seat { SameSeat seat.old seat.new }
+        ensures steps { steps.new ≡ steps.old + 1 }
+        ensures step { (met : ℕ) × Turned R.holds M.turn M.number place (replaced_by value) seat.old.view met seat.new.view }
+    {
+        let _ = about;
+        steps.tick();
+        self.table
+            .shared
+            .store::<Stores<R, M>>(&mut seat.seat, place as usize, value);
+    }
+
+    /// Replaces the word at `place` by `new` where it is `old`, and answers the word that it met.
+    ///
+    /// `Ok` exactly where that is `old`; else the word stays.
+    #[inline]
+    pub fn compare_exchange<L: Ledger>(
+        &self,
+        seat: &mut WordSeat<R>,
+        place: u32,
+        old: u64,
+        new: u64,
+        steps: &mut Steps<L>,
+    ) -> Result<u64, u64>
+        requires seat { seat.old.table ≡ self.now }
+        requires place { place < self.now.words }
+        requires steps { steps.old + 1 < 2 ^ 64 }
+        requires rule { Keeps R.holds seat.old.number seat.old.view place (exchanged old new) R.turn }
+        ensures seat { SameSeat seat.old seat.new }
+        ensures steps { steps.new ≡ steps.old + 1 }
+        ensures answer { MatchResult result (λ word. word ≡ old) (λ word. word ≢ old) }
+        ensures step { Turned R.holds R.turn seat.old.number place (exchanged old new) seat.old.view (met_by result) seat.new.view }
+    {
+        self.compare_exchange_as::<(), Brand, L>(seat, place, old, new, &(), steps)
+    }
+
+    /// A [`compare_exchange`](WordTable::compare_exchange) whose turn is about a value.
+    #[inline]
+    pub fn compare_exchange_with<T, L: Ledger>(
+        &self,
+        seat: &mut WordSeat<R>,
+        place: u32,
+        old: u64,
+        new: u64,
+        about: &T,
+        steps: &mut Steps<L>,
+    ) -> Result<u64, u64>
+    where
+        R: TurnAbout<R::View, T>,
+        requires seat { seat.old.table ≡ self.now }
+        requires place { place < self.now.words }
+        requires steps { steps.old + 1 < 2 ^ 64 }
+        requires rule { Keeps R.holds seat.old.number seat.old.view place (exchanged old new) (R.turn_about about.now) }
+        ensures seat { SameSeat seat.old seat.new }
+        ensures steps { steps.new ≡ steps.old + 1 }
+        ensures answer { MatchResult result (λ word. word ≡ old) (λ word. word ≢ old) }
+        ensures step { Turned R.holds (R.turn_about about.now) seat.old.number place (exchanged old new) seat.old.view (met_by result) seat.new.view }
+    {
+        self.compare_exchange_as::<T, Brand, L>(seat, place, old, new, about, steps)
+    }
+
+    #[inline]
+    fn compare_exchange_as<T, M: Turn<R::View>, L: Ledger>(
+        &self,
+        seat: &mut WordSeat<R>,
+        place: u32,
+        old: u64,
+        new: u64,
+        about: &T,
+        steps: &mut Steps<L>,
+    ) -> Result<u64, u64>
+        requires number { M.number ≡ seat.old.number }
+        requires seat { seat.old.table ≡ self.now }
+        requires place { place < self.now.words }
+        requires steps { steps.old + 1 < 2 ^ 64 }
+        requires rule { Keeps R.holds M.number seat.old.view place (exchanged old new) M.turn }
+        ensures seat { SameSeat seat.old seat.new }
+        ensures steps { steps.new ≡ steps.old + 1 }
+        ensures answer { MatchResult result (λ word. word ≡ old) (λ word. word ≢ old) }
+        ensures step { Turned R.holds M.turn M.number place (exchanged old new) seat.old.view (met_by result) seat.new.view }
+    {
+        let _ = about;
+        steps.tick();
+        let met = self
+            .table
+            .shared
+            .compare_exchange::<Exchanges<R, M>>(&mut seat.seat, place as usize, old, new);
+        if met == old { Ok(met) } else { Err(met) }
+    }
+}
