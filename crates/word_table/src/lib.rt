@@ -7,6 +7,7 @@
 #![tactic(auto)]
 
 mod plays;
+pub mod rising;
 mod seat;
 mod seats;
 mod table;

@@ -29,6 +29,8 @@ impl<R: WordRule> Model for WordTable<R> {
     ghost view = { λ table. table.table.shared.table_id };
 }
 
+// Each step is one atomic step of one word, one tick, and one move of its seat. What it tells is the step as
+// it happened: the word that it met, and words and views that met the rule before it and meet it after it.
 impl<R: WordRule> WordTable<R> {
     /// A table of these words, and its first seat, which has the number 0.
     ///
@@ -44,7 +46,7 @@ impl<R: WordRule> WordTable<R> {
         Ok((WordTable { table }, WordSeat { seat }))
     }
 
-    /// Loads the word at `place` and answers it.
+    /// Loads the word at `place`, below the number of words, and answers it.
     #[inline]
     pub fn load<L: Ledger>(&self, seat: &mut WordSeat<R>, place: u32, steps: &mut Steps<L>) -> u64
         requires seat { seat.old.table ≡ self.now }
@@ -58,7 +60,7 @@ impl<R: WordRule> WordTable<R> {
         self.load_as::<(), Brand, L>(seat, place, &(), steps)
     }
 
-    /// A [`load`](WordTable::load) whose turn is about a value.
+    /// A [`load`](WordTable::load) about a value, which turns the view as the rule says of that value.
     #[inline]
     pub fn load_with<T, L: Ledger>(
         &self,
@@ -97,6 +99,7 @@ impl<R: WordRule> WordTable<R> {
         ensures steps { steps.new ≡ steps.old + 1 }
         ensures step { Turned R.holds M.turn M.number place unchanged seat.old.view result seat.new.view }
     {
+        // The turn reads it, in proofs alone.
         let _ = about;
         steps.tick();
         self.table
@@ -104,7 +107,7 @@ impl<R: WordRule> WordTable<R> {
             .load::<Loads<R, M>>(&mut seat.seat, place as usize)
     }
 
-    /// Stores `value` at `place`. What it replaces is told in proofs alone.
+    /// Stores `value` at `place`, below the number of words. The word that it replaces is known to proofs alone.
     #[inline]
     pub fn store<L: Ledger>(
         &self,
@@ -124,7 +127,7 @@ impl<R: WordRule> WordTable<R> {
         self.store_as::<(), Brand, L>(seat, place, value, &(), steps)
     }
 
-    /// A [`store`](WordTable::store) whose turn is about a value.
+    /// A [`store`](WordTable::store) about a value, which turns the view as the rule says of that value.
     #[inline]
     pub fn store_with<T, L: Ledger>(
         &self,
@@ -165,6 +168,7 @@ impl<R: WordRule> WordTable<R> {
         ensures steps { steps.new ≡ steps.old + 1 }
         ensures step { (met : ℕ) × Turned R.holds M.turn M.number place (replaced_by value) seat.old.view met seat.new.view }
     {
+        // The turn reads it, in proofs alone.
         let _ = about;
         steps.tick();
         self.table
@@ -172,7 +176,8 @@ impl<R: WordRule> WordTable<R> {
             .store::<Stores<R, M>>(&mut seat.seat, place as usize, value);
     }
 
-    /// Replaces the word at `place` by `new` where it is `old`, and answers the word that it met.
+    /// Replaces the word at `place`, below the number of words, by `new` where it is `old`, and answers the
+    /// word that it met.
     ///
     /// `Ok` exactly where that is `old`; else the word stays.
     #[inline]
@@ -196,7 +201,8 @@ impl<R: WordRule> WordTable<R> {
         self.compare_exchange_as::<(), Brand, L>(seat, place, old, new, &(), steps)
     }
 
-    /// A [`compare_exchange`](WordTable::compare_exchange) whose turn is about a value.
+    /// A [`compare_exchange`](WordTable::compare_exchange) about a value, which turns the view as the rule
+    /// says of that value.
     #[inline]
     pub fn compare_exchange_with<T, L: Ledger>(
         &self,
@@ -241,6 +247,7 @@ impl<R: WordRule> WordTable<R> {
         ensures answer { MatchResult result (λ word. word ≡ old) (λ word. word ≢ old) }
         ensures step { Turned R.holds M.turn M.number place (exchanged old new) seat.old.view (met_by result) seat.new.view }
     {
+        // The turn reads it, in proofs alone.
         let _ = about;
         steps.tick();
         let met = self

@@ -1,1 +1,2 @@
 mod always;
+mod rising;
