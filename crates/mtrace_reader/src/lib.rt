@@ -5,8 +5,10 @@
 //! words, and what a list of bytes reads as; the code meets these definitions.
 #![tactic(auto)]
 
-mod script;
+mod steps;
 mod trace;
+mod walk;
 
-pub use script::{Script, Step, StepList};
+pub use steps::{Script, Step, StepList};
 pub use trace::{Operation, OperationList, Trace, TraceFault};
+pub use walk::script;

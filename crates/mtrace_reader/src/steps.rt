@@ -1,6 +1,7 @@
 // What a player does with a trace.
-ghost use Rattle.std.specs.Prelude.{◌≡◌};
+ghost use Rattle.std.specs.Prelude.{◌≡◌, ◌++◌, ◌∷◌, [], OnErr, OnOk};
 
+use pool_model::NoMemory;
 use std::marker::Model;
 
 /// One step of a script. A slot is a place for one block, numbered from 0.
@@ -20,7 +21,7 @@ pub struct StepList {
 
 impl Model for StepList {
     ghost use Rattle.std.specs.Prelude.{List};
-    ghost use Rattle.mtrace_reader.specs.declared.script.Step.{Step};
+    ghost use Rattle.mtrace_reader.specs.declared.steps.Step.{Step};
 
     ghost Value = { List Step };
 
@@ -33,6 +34,15 @@ impl StepList {
         ensures { result ≡ steps.items }
     {
         StepList { steps }
+    }
+
+    /// Adds a step at the end. Want of memory leaves the list as it was.
+    pub fn push(&mut self, step: Step) -> Result<(), NoMemory>
+        ensures pushed { OnOk result (self.new ≡ self.old ++ step ∷ []) }
+        ensures kept { OnErr result (self.new ≡ self.old) }
+    {
+        self.steps.push(step)?;
+        Ok(())
     }
 
     /// The steps as a slice.

@@ -1,0 +1,2 @@
+pub mod LivePairs
+pub mod WellFormed

@@ -1,0 +1,230 @@
+// The walk over the operations of a trace that makes its script.
+ghost use Rattle.std.specs.Prelude.{◌≡◌, ◌+◌, ◌^◌, ◌<◌, ◌≤◌, length, IfOk, OnOk};
+ghost use Rattle.mtrace_reader.specs.Script.{after, after_new, after_release, begun, count_of, script_of, IsWellFormed};
+ghost use Rattle.mtrace_reader.specs.ScriptWriter.{Carries, IsAt};
+
+use crate::steps::{Script, Step, StepList};
+use crate::trace::{Operation, Trace};
+use pool_model::NoMemory;
+use std::alloc::Global;
+use std::collections::HashMap;
+
+/// What a live address names.
+#[derive(Clone, Copy, Debug, PartialEq, Eq)]
+enum Live {
+    /// The block of a slot.
+    Slot(u32),
+    /// A block larger than those of the pool.
+    Big,
+}
+
+/// A script that is being written, and what each live address names.
+#[derive(Drop)]
+struct ScriptWriter {
+    live: HashMap<u64, Live>,
+    script: Script,
+}
+
+impl ScriptWriter {
+    fn new(alloc: Global, cut: bool) -> ScriptWriter
+        ensures begun { IsAt result (begun cut) }
+        ensures counted { count_of result.script ≡ 0 }
+    {
+        ScriptWriter {
+            live: HashMap::new(alloc),
+            script: Script {
+                steps: StepList::new(Vec::new(alloc)),
+                news: 0,
+                big: 0,
+                failed: 0,
+                stray: 0,
+                twice: 0,
+                cut: u64::from(cut),
+            },
+        }
+    }
+
+    fn follow(&mut self, operation: Operation, size: u64) -> Result<(), NoMemory>
+        requires { count_of self.old.script + 1 < 2 ^ 32 }
+        ensures follows { OnOk result (Carries self.old self.new (λ walk. after size walk operation)) }
+        ensures counted { OnOk result (count_of self.new.script ≤ count_of self.old.script + 1) }
+    {
+        match operation {
+            Operation::New {
+                address,
+                size: bytes,
+            } => self.allocate(address, bytes, size),
+            Operation::Release { address } => self.release(address),
+            Operation::Failed => {
+                self.script.failed += 1;
+                Ok(())
+            }
+        }
+    }
+
+    fn allocate(&mut self, address: u64, bytes: u64, size: u64) -> Result<(), NoMemory>
+        requires { count_of self.old.script + 1 < 2 ^ 32 }
+        ensures follows { OnOk result (Carries self.old self.new (λ walk. after_new size walk address bytes)) }
+        ensures counted { OnOk result (count_of self.new.script ≤ count_of self.old.script + 1) }
+    {
+        if address == 0 {
+            self.script.failed += 1;
+        } else if self.live.contains_key(&address) {
+            self.script.twice += 1;
+        } else if size < bytes {
+            self.live.insert(address, Live::Big)?;
+            self.script.big += 1;
+        } else {
+            let slot = self.script.news;
+            self.live.insert(address, Live::Slot(slot))?;
+            self.script.steps.push(Step::Place { slot })?;
+            self.script.news += 1;
+        }
+        Ok(())
+    }
+
+    fn release(&mut self, address: u64) -> Result<(), NoMemory>
+        requires { count_of self.old.script + 1 < 2 ^ 32 }
+        ensures follows { OnOk result (Carries self.old self.new (λ walk. after_release walk address)) }
+        ensures counted { OnOk result (count_of self.new.script ≤ count_of self.old.script + 1) }
+    {
+        match self.live.remove(&address) {
+            Some(Live::Slot(slot)) => self.script.steps.push(Step::Leave { slot })?,
+            Some(Live::Big) => {}
+            None => self.script.stray += 1,
+        }
+        Ok(())
+    }
+}
+
+/// The script of a trace, for a pool whose blocks have `size` bytes. A slot is named by each allocation
+/// of at most that size at an address that isn't live. Its only error is want of memory.
+pub fn script(alloc: Global, trace: &Trace, size: u64) -> Result<Script, NoMemory>
+    requires { length trace.now.operations < 2 ^ 32 }
+    ensures walked { IfOk result (λ script. script ≡ script_of trace.now size) }
+    ensures well_formed { IfOk result IsWellFormed }
+{
+    let mut writer = ScriptWriter::new(alloc, trace.cut);
+    for operation in trace.operations.as_slice() {
+        writer.follow(*operation, size)?;
+    }
+    Ok(writer.script)
+}
+
+#[cfg(test)]
+mod tests {
+    use super::script;
+    use crate::steps::{Script, Step};
+    use crate::trace::{Operation, OperationList, Trace};
+    use std::test::Fail;
+
+    #[derive(Drop)]
+    struct Case<'a> {
+        name: &'a str,
+        operations: &'a [Operation],
+        cut: bool,
+        steps: &'a [Step],
+        numbers: [u64; 6],
+    }
+
+    // In the order of a report: news, big, failed, stray, twice, cut.
+    fn numbers_of(script: &Script) -> [u64; 6] {
+        [
+            u64::from(script.news),
+            script.big,
+            script.failed,
+            script.stray,
+            script.twice,
+            script.cut,
+        ]
+    }
+
+    fn new(address: u64, size: u64) -> Operation {
+        Operation::New { address, size }
+    }
+
+    fn release(address: u64) -> Operation {
+        Operation::Release { address }
+    }
+
+    fn place(slot: u32) -> Step {
+        Step::Place { slot }
+    }
+
+    fn leave(slot: u32) -> Step {
+        Step::Leave { slot }
+    }
+
+    #[test]
+    fn scripts_of_small_traces(rt: HostRuntime) -> Result<(), Fail> {
+        let cases = [
+            Case {
+                name: "first report",
+                operations: &[new(0x4052a0, 0x20), release(0x4052a0)],
+                cut: false,
+                steps: &[place(0), leave(0)],
+                numbers: [1, 0, 0, 0, 0, 0],
+            },
+            Case {
+                name: "empty file",
+                operations: &[],
+                cut: false,
+                steps: &[],
+                numbers: [0; 6],
+            },
+            Case {
+                name: "killed program",
+                operations: &[new(0x10, 0x8)],
+                cut: true,
+                steps: &[place(0)],
+                numbers: [1, 0, 0, 0, 0, 1],
+            },
+            Case {
+                name: "resize",
+                operations: &[new(0x10, 0x8), release(0x10), new(0x20, 0x10)],
+                cut: false,
+                steps: &[place(0), leave(0), place(1)],
+                numbers: [2, 0, 0, 0, 0, 0],
+            },
+            Case {
+                name: "failures",
+                operations: &[new(0, 0x40), Operation::Failed],
+                cut: false,
+                steps: &[],
+                numbers: [0, 0, 2, 0, 0, 0],
+            },
+            Case {
+                name: "boundary of the size",
+                operations: &[
+                    new(0x10, 0),
+                    new(0x20, 0x40),
+                    new(0x30, 0x41),
+                    release(0x30),
+                ],
+                cut: false,
+                steps: &[place(0), place(1)],
+                numbers: [2, 1, 0, 0, 0, 0],
+            },
+            Case {
+                name: "stray and twice",
+                operations: &[release(0x99), new(0x10, 0x8), new(0x10, 0x8)],
+                cut: false,
+                steps: &[place(0)],
+                numbers: [1, 0, 0, 1, 1, 0],
+            },
+        ];
+        for case in &cases {
+            let operations = Vec::from_slice(rt.alloc(), case.operations)?;
+            assert!(rt; operations.len() < 100);
+            let trace = Trace {
+                operations: OperationList::new(operations),
+                cut: case.cut,
+                bytes: 0,
+            };
+            let made = script(rt.alloc(), &trace, 64)?;
+            let same = made.steps.as_slice() == case.steps && numbers_of(&made) == case.numbers;
+            assert!(rt; same, "{}: {made:?}", case.name);
+        }
+        Ok(())
+    }
+}
