@@ -1,2 +1,3 @@
 pub mod LivePairs
 pub mod WellFormed
+pub mod Cuts

@@ -10,5 +10,12 @@ mod trace;
 mod walk;
 
 pub use steps::{Script, Step, StepList};
+mod line;
+mod script;
+mod trace;
+mod words;
+
+pub use line::Meaning;
+pub use script::{Script, Step, StepList};
 pub use trace::{Operation, OperationList, Trace, TraceFault};
 pub use walk::script;
