@@ -1,3 +1,4 @@
 pub mod LivePairs
 pub mod WellFormed
 pub mod Cuts
+pub mod Digits

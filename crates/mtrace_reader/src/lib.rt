@@ -13,6 +13,7 @@ pub use steps::{Script, Step, StepList};
 mod line;
 mod script;
 mod trace;
+mod value;
 mod words;
 
 pub use line::Meaning;
