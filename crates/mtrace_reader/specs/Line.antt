@@ -57,13 +57,18 @@ said_before [] address size = None
 said_before (sign ∷ before) address size =
     if none_or_begins_with at_sign (reverse before) then said_by_sign sign (address_of address) (size_of size) else None
 
+-- What words before a release's sign and an address say, the last one first.
+abbrev pub said_by_release : List (List ℕ) → List ℕ → Option Operation
+said_by_release before address =
+    if none_or_begins_with at_sign (reverse before) then option_map Release (address_of address) else None
+
 -- What words say, the last one first: a release where the last but one is its sign.
 abbrev pub said_by : List (List ℕ) → Option Operation
 said_by [] = None
 said_by (only ∷ []) = None
 said_by (last ∷ second ∷ before) =
     if bytes_eq second (codes "-") || bytes_eq second (codes "<")
-    then (if none_or_begins_with at_sign (reverse before) then option_map Release (address_of last) else None)
+    then said_by_release before last
     else said_before before second last
 
 -- what words mean that aren't skipped
