@@ -2,3 +2,4 @@ pub mod LivePairs
 pub mod WellFormed
 pub mod Cuts
 pub mod Digits
+pub mod Lines

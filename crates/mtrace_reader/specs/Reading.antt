@@ -5,6 +5,9 @@ use Rattle.mtrace_reader.specs.Line.{meaning_of}
 use Rattle.mtrace_reader.specs.declared.line.Meaning.{Meaning}
 use Rattle.mtrace_reader.specs.declared.line.Meaning.TheVariants.{Skipped, Says, Bad}
 use Rattle.mtrace_reader.specs.declared.trace.Operation.{Operation}
+use Rattle.mtrace_reader.specs.declared.trace.Trace.{Trace}
+use Rattle.mtrace_reader.specs.declared.trace.TraceFault.{TraceFault}
+use Rattle.mtrace_reader.specs.declared.trace.TraceFault.TheVariants.{ReadFault, TooLong, BadLine, NoMemory}
 
 -- the byte that ends a line
 abbrev pub is_end : ℕ → Bool
@@ -63,3 +66,19 @@ operations_of bytes = said (map meaning_of (pieces bytes))
 -- the trace ends within a line that means nothing by itself
 abbrev pub is_cut : List ℕ → Bool
 is_cut bytes = is_bad (meaning_of (last_piece bytes))
+
+-- these bytes are read as this trace
+pub record IsReading (bytes : List ℕ) (trace : Trace) : Type 0 where
+  pub good : bad_line bytes ≡ None
+  pub operations : trace.operations ≡ operations_of bytes
+  pub cut : trace.cut ≡ is_cut bytes
+  pub whole : trace.bytes ≡ length bytes
+
+-- Each answer to a source that has these bytes left, of which so many may be read, and where it comes.
+-- Want of memory and a fault of the source may come at any bytes.
+abbrev pub AnswersFor : ℕ → List ℕ → Result Trace TraceFault → Type 0
+AnswersFor limit bytes (Ok trace) = (length bytes ≤ limit) × IsReading bytes trace
+AnswersFor limit bytes (Err TooLong) = limit < length bytes
+AnswersFor limit bytes (Err (BadLine number)) = (length bytes ≤ limit) × (bad_line bytes ≡ Some number)
+AnswersFor limit bytes (Err ReadFault) = Unit {0}
+AnswersFor limit bytes (Err NoMemory) = Unit {0}

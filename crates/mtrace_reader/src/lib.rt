@@ -11,6 +11,7 @@ mod walk;
 
 pub use steps::{Script, Step, StepList};
 mod line;
+mod reading;
 mod script;
 mod trace;
 mod value;

@@ -1,6 +1,9 @@
 // What a trace file says, and why one isn't read.
 ghost use Rattle.std.specs.Prelude.{◌≡◌};
 
+use std::alloc::{AllocError, AllocFailed};
+use std::error::Error;
+use std::fmt;
 use std::marker::Model;
 
 /// What one line of a trace says.
@@ -88,5 +91,38 @@ impl TraceFault {
             TraceFault::BadLine(_) => 3,
             TraceFault::NoMemory => 4,
         }
+    }
+}
+
+impl fmt::Display for TraceFault {
+    fn fmt<W: fmt::Write>(&self, f: &mut fmt::Formatter<W>) -> fmt::Result {
+        match self {
+            TraceFault::ReadFault => f.write_str("the source failed"),
+            TraceFault::TooLong => f.write_str("too long"),
+            TraceFault::BadLine(line) => write!(f, "line {line}"),
+            TraceFault::NoMemory => f.write_str("no memory"),
+        }
+    }
+}
+
+impl Error for TraceFault {}
+
+impl From<AllocError> for TraceFault {
+    ghost use Rattle.mtrace_reader.specs.declared.trace.TraceFault.TheVariants.{NoMemory};
+
+    ghost from_gives = { λ _ fault. fault ≡ NoMemory };
+
+    fn from(_error: AllocError) -> TraceFault {
+        TraceFault::NoMemory
+    }
+}
+
+impl<T: Drop> From<AllocFailed<T>> for TraceFault {
+    ghost use Rattle.mtrace_reader.specs.declared.trace.TraceFault.TheVariants.{NoMemory};
+
+    ghost from_gives = { λ _ fault. fault ≡ NoMemory };
+
+    fn from(_error: AllocFailed<T>) -> TraceFault {
+        TraceFault::NoMemory
     }
 }
