@@ -13,11 +13,13 @@ pub use steps::{Script, Step, StepList};
 mod line;
 mod reading;
 mod script;
+mod source;
 mod trace;
 mod value;
 mod words;
 
 pub use line::Meaning;
 pub use script::{Script, Step, StepList};
+pub use source::{MOST_BYTES, read_trace};
 pub use trace::{Operation, OperationList, Trace, TraceFault};
 pub use walk::script;
