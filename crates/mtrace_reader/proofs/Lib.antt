@@ -3,3 +3,4 @@ pub mod WellFormed
 pub mod Cuts
 pub mod Digits
 pub mod Lines
+pub mod Meanings

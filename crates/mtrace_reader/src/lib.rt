@@ -10,6 +10,7 @@ mod trace;
 mod walk;
 
 pub use steps::{Script, Step, StepList};
+pub mod laws;
 mod line;
 mod reading;
 mod script;
