@@ -1,5 +1,5 @@
 -- Lists that are cut at a byte.
-use Rattle.std.proofs.Common.{◌≡◌, ◌≢◌, ℕ, ◌<◌, Bool, true, false, cond, eqb, not, List, [], ◌∷◌, ◌++◌, length, get_or, take, ◌+◌, ◌-◌, ◌≤◌, drop, subst, filter, find, Option, None, Some, MatchOption, inl, inr, refl, ap, sym, ◌∙◌, arith, rules}
+use Rattle.std.proofs.Common.{◌≡◌, ◌≢◌, ℕ, ◌<◌, Bool, true, false, cond, eqb, not, List, [], ◌∷◌, ◌++◌, length, get_or, take, ◌+◌, ◌-◌, ◌≤◌, drop, subst, filter, find, Option, None, Some, inl, inr, refl, ap, sym, ◌∙◌, arith}
 use Rattle.std.specs.List.{slice_split, onto_first, All}
 use Rattle.std.proofs.lemmas.List.{append-nil, length-drop, length-take-le, get_or-drop, get_or-take, take-append-drop, append_assoc, take_more, take_all}
 use Rattle.std.proofs.lemmas.List.Elements.{filter-append, All-from_get_or}
@@ -21,9 +21,9 @@ onto_first_has_first x (part ∷ parts) = record { first = x ∷ part; others = 
 pub slice_split_has_first : (p : ℕ → Bool) (xs : List ℕ) → HasFirst (slice_split p xs)
 slice_split_has_first p [] = record { first = []; others = []; is = refl }
 slice_split_has_first p (x ∷ xs) =
-    elim (p x) as (λ b. HasFirst (cond b ([] ∷ slice_split p xs) (onto_first x (slice_split p xs))))
-    [ true ↦ record { first = []; others = slice_split p xs; is = refl }
-    | false ↦ onto_first_has_first x (slice_split p xs)
+    elim (p x) as (λ b. HasFirst (cond b ([] ∷ slice_split p xs) (onto_first x (slice_split p xs)))) [
+      | true ↦ record { first = []; others = slice_split p xs; is = refl }
+      | false ↦ onto_first_has_first x (slice_split p xs)
     ]
 
 onto_first-append : (x : ℕ) (parts others : List (List ℕ)) → HasFirst parts → onto_first x (parts ++ others) ≡ onto_first x parts ++ others
@@ -34,9 +34,9 @@ pub slice_split-append : (p : ℕ → Bool) (xs : List ℕ) (y : ℕ) (ys : List
 slice_split-append p [] y ys passes = rw passes refl
 slice_split-append p (x ∷ xs) y ys passes =
     rw (slice_split-append p xs y ys passes)
-    (elim (p x) as (λ b. cond b ([] ∷ slice_split p xs ++ slice_split p ys) (onto_first x (slice_split p xs ++ slice_split p ys)) ≡ cond b ([] ∷ slice_split p xs) (onto_first x (slice_split p xs)) ++ slice_split p ys)
-    [ true ↦ refl
-    | false ↦ onto_first-append x (slice_split p xs) (slice_split p ys) (slice_split_has_first p xs)
+    (elim (p x) as (λ b. cond b ([] ∷ slice_split p xs ++ slice_split p ys) (onto_first x (slice_split p xs ++ slice_split p ys)) ≡ cond b ([] ∷ slice_split p xs) (onto_first x (slice_split p xs)) ++ slice_split p ys) [
+      | true ↦ refl
+      | false ↦ onto_first-append x (slice_split p xs) (slice_split p ys) (slice_split_has_first p xs)
     ])
 
 pub words-append : (front : List ℕ) (back : List ℕ) → words (front ++ 32 ∷ back) ≡ words front ++ words back
@@ -69,8 +69,8 @@ words-append_run (byte ∷ bytes) run some spaceless before =
     let is : cut ++ 32 ∷ [] ≡ front = by_last front 32 (omega arith) (before (omega arith)) in
     let P : List ℕ → Type 0 = λ xs. words (xs ++ run) ≡ words xs ++ run ∷ [] in
     let joined : P (cut ++ 32 ∷ []) =
-        ap words (append_assoc cut (32 ∷ []) run) ∙ words-append cut run ∙ ap (λ ws. words cut ++ ws) (words_of_run run some spaceless)
-        ∙ ap (λ ws. ws ++ run ∷ []) (sym (words-push_space cut))
+    ap words (append_assoc cut (32 ∷ []) run) ∙ words-append cut run ∙ ap (λ ws. words cut ++ ws) (words_of_run run some spaceless)
+    ∙ ap (λ ws. ws ++ run ∷ []) (sym (words-push_space cut))
     in subst P is joined
 
 -- what the first byte of a line says that isn't a space
@@ -84,19 +84,19 @@ first_of_run byte first parts h = rw h.is refl
 pub none_or_begins_with-words : (byte : ℕ) (line : List ℕ) → none_or_begins_with byte (words line) ≡ begins_with byte (find (λ b. not (is_space b)) line)
 none_or_begins_with-words byte [] = refl
 none_or_begins_with-words byte (first ∷ line) =
-    elim (eqb first 32) as (λ b. none_or_begins_with byte (filter has_bytes (cond b ([] ∷ slice_split is_space line) (onto_first first (slice_split is_space line)))) ≡ begins_with byte (cond (not b) (Some first) (find (λ b. not (is_space b)) line)))
-    [ true ↦ none_or_begins_with-words byte line
-    | false ↦ first_of_run byte first (slice_split is_space line) (slice_split_has_first is_space line)
+    elim (eqb first 32) as (λ b. none_or_begins_with byte (filter has_bytes (cond b ([] ∷ slice_split is_space line) (onto_first first (slice_split is_space line)))) ≡ begins_with byte (cond (not b) (Some first) (find (λ b. not (is_space b)) line))) [
+      | true ↦ none_or_begins_with-words byte line
+      | false ↦ first_of_run byte first (slice_split is_space line) (slice_split_has_first is_space line)
     ]
 
 -- the last run of a line begins within it, where the line doesn't end with a space
 pub begins_within : (line : List ℕ) (start : ℕ) → 0 < length line → start ≤ length line → get_or line (length line - 1) 0 ≢ 32 → (0 < start → get_or line (start - 1) 0 ≡ 32) → start < length line
 begins_within line start some fits ends before =
-    elim (cases_lt start (length line)) as (λ _. start < length line)
-    [ inl within ↦ within
-    | inr past ↦
-        let at_end : start ≡ length line = omega arith in
-        absurd (ends (ap (λ n. get_or line (n - 1) 0) (sym at_end) ∙ before (omega arith)))
+    elim (cases_lt start (length line)) as (λ _. start < length line) [
+      | inl within ↦ within
+      | inr past ↦
+          let at_end : start ≡ length line = omega arith in
+          absurd (ends (ap (λ n. get_or line (n - 1) 0) (sym at_end) ∙ before (omega arith)))
     ]
 
 -- The words of a line that is cut where its last word begins.
@@ -107,13 +107,13 @@ words_at_last_run line start within run before =
     let fits : start ≤ length line = omega arith in
     let long : length front ≡ start = length-take-le start line fits in
     let spaceless : All (λ byte. is_space byte ≡ false) word =
-        All-from_get_or (λ byte. is_space byte ≡ false) word 0 (λ k below.
-            let bound : start + k < length line = omega (arith, length-drop start line) in
-            let at : get_or line (start + k) 0 ≢ 32 = run (start + k) (omega arith) bound in
-            rw (get_or-drop start line k 0) (grind (arith, nat_tests)))
+    All-from_get_or (λ byte. is_space byte ≡ false) word 0 (λ k below.
+    let bound : start + k < length line = omega (arith, length-drop start line) in
+    let at : get_or line (start + k) 0 ≢ 32 = run (start + k) (omega arith) bound in
+    rw (get_or-drop start line k 0) (grind (arith, nat_tests)))
     in
     let ends : 0 < length front → get_or front (length front - 1) 0 ≡ 32 = λ some.
-        let last : get_or line (start - 1) 0 ≡ 32 = before (omega arith) in
-        rw long (rw (get_or-take start line (start - 1) 0 (omega arith)) last)
+    let last : get_or line (start - 1) 0 ≡ 32 = before (omega arith) in
+    rw long (rw (get_or-take start line (start - 1) 0 (omega arith)) last)
     in
     ap words (sym (take-append-drop start line)) ∙ words-append_run front word (omega (arith, length-drop start line)) spaceless ends

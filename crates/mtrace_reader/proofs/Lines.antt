@@ -1,8 +1,7 @@
 -- Lines that are read one by one.
-use Rattle.std.proofs.Common.{◌≡◌, ℕ, ◌+◌, ◌-◌, ◌<◌, ◌≤◌, Bool, true, false, cond, ltb, not, List, [], ◌∷◌, ◌++◌, length, take, drop, get_or, map, position, Option, None, Some, inl, inr, refl, ap, sym, ◌∙◌, subst, arith}
-use Rattle.std.specs.List.{position_or_len, before_first, after_first, slice_split, All}
+use Rattle.std.proofs.Common.{◌≡◌, ℕ, ◌+◌, ◌<◌, ◌≤◌, Bool, true, false, ltb, not, List, [], ◌∷◌, ◌++◌, length, take, drop, map, position, None, Some, inl, inr, refl, ap, sym, ◌∙◌, subst, arith}
+use Rattle.std.specs.List.{position_or_len}
 use Rattle.std.proofs.lemmas.Bool.{cases_lt, lt-ltb, ltb-true}
-use Rattle.std.proofs.lemmas.Bool.Decides.{nat_tests}
 use Rattle.std.proofs.lemmas.List.{append_assoc, length-append}
 use Rattle.std.proofs.lemmas.Option.{cond_some}
 use Rattle.std.proofs.lemmas.List.Elements.{All-from_get_or}
@@ -12,7 +11,7 @@ use Rattle.mtrace_reader.specs.declared.line.Meaning.{Meaning}
 use Rattle.mtrace_reader.specs.declared.line.Meaning.TheVariants.{Skipped, Says, Bad}
 use Rattle.mtrace_reader.specs.declared.trace.Operation.{Operation}
 use Rattle.mtrace_reader.specs.Line.{meaning_of}
-use Rattle.mtrace_reader.specs.Reading.{is_end, pieces, lines, last_piece, front, last, said, first_bad, is_bad, bad_line, operations_of, is_cut}
+use Rattle.mtrace_reader.specs.Reading.{is_end, pieces, lines, last_piece, front, last, said, first_bad, is_bad, bad_line, operations_of}
 use Rattle.mtrace_reader.proofs.Cuts.{HasFirst, slice_split_has_first}
 
 not_true : {b : Bool} → not b ≡ true → b ≡ false
@@ -22,13 +21,13 @@ not_true {b} h = elim b as (λ b. not b ≡ true → b ≡ false) [ true ↦ λ 
 pub pieces_without_end : (bytes : List ℕ) → position is_end bytes ≡ None → pieces bytes ≡ bytes ∷ []
 pieces_without_end bytes h =
     let past : length bytes ≤ position_or_len is_end bytes =
-        elim (cases_lt (position_or_len is_end bytes) (length bytes)) as (λ _. length bytes ≤ position_or_len is_end bytes)
-        [ inl within ↦ let found : position is_end bytes ≡ Some (position_or_len is_end bytes) = rw (lt-ltb _ _ within) refl in absurd (cc)
-        | inr past ↦ past
-        ]
+    elim (cases_lt (position_or_len is_end bytes) (length bytes)) as (λ _. length bytes ≤ position_or_len is_end bytes) [
+      | inl within ↦ let found : position is_end bytes ≡ Some (position_or_len is_end bytes) = rw (lt-ltb _ _ within) refl in absurd (cc)
+      | inr past ↦ past
+    ]
     in
     slice_split_none is_end bytes (All-from_get_or (λ b. is_end b ≡ false) bytes 0 (λ k below.
-        not_true (prefix_len_passes (λ b. not (is_end b)) bytes k 0 (omega arith))))
+    not_true (prefix_len_passes (λ b. not (is_end b)) bytes k 0 (omega arith))))
 
 -- the first line ends at the first end
 pub pieces_at_end : (bytes : List ℕ) (end : ℕ) → position is_end bytes ≡ Some end → pieces bytes ≡ take end bytes ∷ pieces (drop (end + 1) bytes)

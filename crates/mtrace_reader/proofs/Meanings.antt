@@ -1,5 +1,5 @@
 -- The relation of a line to its meaning is the meaning as it is computed.
-use Rattle.std.proofs.Common.{◌≡◌, ◌≢◌, ℕ, Bool, true, false, cond, eqb, ◌||◌, ◌⊎◌, inl, inr, List, [], ◌∷◌, ◌++◌, reverse, Option, None, Some, option_map, codes, refl, sym, ap, ◌∙◌, subst, Decides, arith}
+use Rattle.std.proofs.Common.{◌≡◌, ◌≢◌, ℕ, Bool, true, false, cond, ◌||◌, ◌⊎◌, inl, inr, List, [], ◌∷◌, ◌++◌, reverse, Option, None, Some, option_map, codes, refl, sym, ap, ◌∙◌, subst, Decides, arith}
 use Rattle.std.specs.Str.{bytes_eq}
 use Rattle.std.proofs.lemmas.Bool.{false≢true}
 use Rattle.std.proofs.lemmas.Bool.Decides.{Decides-eqb, Decides-or}
@@ -53,24 +53,24 @@ reverse-triple x y z before = reverse-append (z ∷ y ∷ x ∷ []) before
 -- A release that is computed is spelled so.
 release_spells : (sign address : List ℕ) (operation : Operation) → (sign ≡ codes "-") ⊎ (sign ≡ codes "<") → option_map Release (address_of address) ≡ Some operation → Spells (sign ∷ address ∷ []) operation
 release_spells sign address operation is_sign said =
-    elim (address_of address) as (λ o. address_of address ≡ o → option_map Release o ≡ Some operation → Spells (sign ∷ address ∷ []) operation)
-    [ None ↦ λ _ e. cc
-    | Some place ↦ λ is e. subst (Spells (sign ∷ address ∷ [])) (some_is (Release place) operation e) (is_sign, is)
+    elim (address_of address) as (λ o. address_of address ≡ o → option_map Release o ≡ Some operation → Spells (sign ∷ address ∷ []) operation) [
+      | None ↦ λ _ e. cc
+      | Some place ↦ λ is e. subst (Spells (sign ∷ address ∷ [])) (some_is (Release place) operation e) (is_sign, is)
     ]
     refl
     said
 
 pub release_sound : (sign address : List ℕ) (before : List (List ℕ)) (operation : Operation) → (sign ≡ codes "-") ⊎ (sign ≡ codes "<") → said_by_release before address ≡ Some operation → IsOperation (reverse (address ∷ sign ∷ before)) operation
 release_sound sign address before operation is_sign said =
-    elim (chosen (none_or_begins_with at_sign (reverse before)) (option_map Release (address_of address)) None (Some operation) said) as (λ _. IsOperation (reverse (address ∷ sign ∷ before)) operation)
-    [ inl begun ↦ record {
+    elim (chosen (none_or_begins_with at_sign (reverse before)) (option_map Release (address_of address)) None (Some operation) said) as (λ _. IsOperation (reverse (address ∷ sign ∷ before)) operation) [
+      | inl begun ↦ record {
         caller = reverse before;
         form = sign ∷ address ∷ [];
         whole = reverse-pair sign address before;
         begins = begins-true at_sign (reverse before) begun.0;
         spells = release_spells sign address operation is_sign begun.1;
       }
-    | inr other ↦ absurd (cc (other.1))
+      | inr other ↦ absurd (cc (other.1))
     ]
 
 -- What a sign says of an address and a size is spelled so.
@@ -83,15 +83,15 @@ sign_sound : (sign : List ℕ) (address size : Option ℕ) (operation : Operatio
 sign_sound sign None size operation said = cc
 sign_sound sign (Some place) None operation said = cc
 sign_sound sign (Some place) (Some bytes) operation said =
-    elim (chosen (bytes_eq sign (codes "+") || bytes_eq sign (codes ">")) (Some (New place bytes)) (cond (bytes_eq sign (codes "!")) (Some Failed) None) (Some operation) said) as (λ _. SpellsSized sign (Some place) (Some bytes) operation)
-    [ inl new ↦
-        subst (SpellsSized sign (Some place) (Some bytes)) (some_is (New place bytes) operation new.1) ((Decides-either sign (codes "+") (codes ">")).0 new.0, refl, refl)
-    | inr other ↦
-        elim (chosen (bytes_eq sign (codes "!")) (Some Failed) None (Some operation) other.1) as (λ _. SpellsSized sign (Some place) (Some bytes) operation)
-        [ inl failed ↦
-            subst (SpellsSized sign (Some place) (Some bytes)) (some_is Failed operation failed.1) ((bytes_eq-Decides sign (codes "!")).0 failed.0, (place, refl), (bytes, refl))
-        | inr none ↦ absurd (cc (none.1))
-        ]
+    elim (chosen (bytes_eq sign (codes "+") || bytes_eq sign (codes ">")) (Some (New place bytes)) (cond (bytes_eq sign (codes "!")) (Some Failed) None) (Some operation) said) as (λ _. SpellsSized sign (Some place) (Some bytes) operation) [
+      | inl new ↦
+          subst (SpellsSized sign (Some place) (Some bytes)) (some_is (New place bytes) operation new.1) ((Decides-either sign (codes "+") (codes ">")).0 new.0, refl, refl)
+      | inr other ↦
+          elim (chosen (bytes_eq sign (codes "!")) (Some Failed) None (Some operation) other.1) as (λ _. SpellsSized sign (Some place) (Some bytes) operation) [
+            | inl failed ↦
+                subst (SpellsSized sign (Some place) (Some bytes)) (some_is Failed operation failed.1) ((bytes_eq-Decides sign (codes "!")).0 failed.0, (place, refl), (bytes, refl))
+            | inr none ↦ absurd (cc (none.1))
+          ]
     ]
 
 sized_spells : (sign address size : List ℕ) (operation : Operation) → SpellsSized sign (address_of address) (size_of size) operation → Spells (sign ∷ address ∷ size ∷ []) operation
@@ -101,15 +101,15 @@ sized_spells sign address size Failed h = h
 
 pub sized_sound : (sign address size : List ℕ) (before : List (List ℕ)) (operation : Operation) → said_before (sign ∷ before) address size ≡ Some operation → IsOperation (reverse (size ∷ address ∷ sign ∷ before)) operation
 sized_sound sign address size before operation said =
-    elim (chosen (none_or_begins_with at_sign (reverse before)) (said_by_sign sign (address_of address) (size_of size)) None (Some operation) said) as (λ _. IsOperation (reverse (size ∷ address ∷ sign ∷ before)) operation)
-    [ inl begun ↦ record {
+    elim (chosen (none_or_begins_with at_sign (reverse before)) (said_by_sign sign (address_of address) (size_of size)) None (Some operation) said) as (λ _. IsOperation (reverse (size ∷ address ∷ sign ∷ before)) operation) [
+      | inl begun ↦ record {
         caller = reverse before;
         form = sign ∷ address ∷ size ∷ [];
         whole = reverse-triple sign address size before;
         begins = begins-true at_sign (reverse before) begun.0;
         spells = sized_spells sign address size operation (sign_sound sign (address_of address) (size_of size) operation begun.1);
       }
-    | inr other ↦ absurd (cc (other.1))
+      | inr other ↦ absurd (cc (other.1))
     ]
 
 said_before_sound : (size address : List ℕ) (before : List (List ℕ)) (operation : Operation) → said_before before address size ≡ Some operation → IsOperation (reverse (size ∷ address ∷ before)) operation
@@ -120,32 +120,32 @@ said_before_sound size address (sign ∷ before) operation said = sized_sound si
 address_is_no_sign : (address : List ℕ) (place : ℕ) → address_of address ≡ Some place → (bytes_eq address (codes "-") || bytes_eq address (codes "<")) ≡ false
 address_is_no_sign address place is =
     false_from_not _ (λ e.
-        elim ((Decides-either address (codes "-") (codes "<")).0 e) as (λ _. ⊥)
-        [ inl same ↦ let none : address_of (codes "-") ≡ Some place = ap address_of (sym same) ∙ is in cc
-        | inr same ↦ let none : address_of (codes "<") ≡ Some place = ap address_of (sym same) ∙ is in cc
-        ])
+    elim ((Decides-either address (codes "-") (codes "<")).0 e) as (λ _. ⊥) [
+      | inl same ↦ let none : address_of (codes "-") ≡ Some place = ap address_of (sym same) ∙ is in cc
+      | inr same ↦ let none : address_of (codes "<") ≡ Some place = ap address_of (sym same) ∙ is in cc
+    ])
 
 -- What is computed is spelled so.
 pub said_sound : (backwards : List (List ℕ)) (operation : Operation) → said_by backwards ≡ Some operation → IsOperation (reverse backwards) operation
 said_sound [] operation said = cc
 said_sound (only ∷ []) operation said = cc
 said_sound (last ∷ second ∷ before) operation said =
-    elim (chosen (bytes_eq second (codes "-") || bytes_eq second (codes "<")) (said_by_release before last) (said_before before second last) (Some operation) said) as (λ _. IsOperation (reverse (last ∷ second ∷ before)) operation)
-    [ inl release ↦ release_sound second last before operation ((Decides-either second (codes "-") (codes "<")).0 release.0) release.1
-    | inr sized ↦ said_before_sound last second before operation sized.1
+    elim (chosen (bytes_eq second (codes "-") || bytes_eq second (codes "<")) (said_by_release before last) (said_before before second last) (Some operation) said) as (λ _. IsOperation (reverse (last ∷ second ∷ before)) operation) [
+      | inl release ↦ release_sound second last before operation ((Decides-either second (codes "-") (codes "<")).0 release.0) release.1
+      | inr sized ↦ said_before_sound last second before operation sized.1
     ]
 
 -- What is spelled so is computed.
 pub spelled_complete : (caller form : List (List ℕ)) (operation : Operation) → NoneOrBeginsWith at_sign caller → Spells form operation → said_by (reverse (caller ++ form)) ≡ Some operation
 spelled_complete caller (sign ∷ address ∷ []) (Release place) begins spells =
     rw (reverse-append caller (sign ∷ address ∷ []))
-        (rw ((Decides-either sign (codes "-") (codes "<")).1 spells.0, reverse-reverse caller, true-begins at_sign caller begins, spells.1) refl)
+    (rw ((Decides-either sign (codes "-") (codes "<")).1 spells.0, reverse-reverse caller, true-begins at_sign caller begins, spells.1) refl)
 spelled_complete caller (sign ∷ address ∷ size ∷ []) (New place bytes) begins spells =
     rw (reverse-append caller (sign ∷ address ∷ size ∷ []))
-        (rw (address_is_no_sign address place spells.1, reverse-reverse caller, true-begins at_sign caller begins, spells.1, spells.2, (Decides-either sign (codes "+") (codes ">")).1 spells.0) refl)
+    (rw (address_is_no_sign address place spells.1, reverse-reverse caller, true-begins at_sign caller begins, spells.1, spells.2, (Decides-either sign (codes "+") (codes ">")).1 spells.0) refl)
 spelled_complete caller (sign ∷ address ∷ size ∷ []) Failed begins spells =
     rw (reverse-append caller (sign ∷ address ∷ size ∷ []))
-        (rw (address_is_no_sign address spells.1.0 spells.1.1, reverse-reverse caller, true-begins at_sign caller begins, spells.1.1, spells.2.1, spells.0) refl)
+    (rw (address_is_no_sign address spells.1.0 spells.1.1, reverse-reverse caller, true-begins at_sign caller begins, spells.1.1, spells.2.1, spells.0) refl)
 spelled_complete caller form operation begins spells = absurd spells
 
 pub operation_complete : (ws : List (List ℕ)) (operation : Operation) → IsOperation ws operation → said_by (reverse ws) ≡ Some operation
@@ -160,14 +160,14 @@ sign_not_skipped sign byte others is other skipped =
 -- the words that say an operation begin with its sign, so they aren't skipped
 spelled_not_skipped : (form : List (List ℕ)) (operation : Operation) → Spells form operation → IsSkipped form → ⊥
 spelled_not_skipped (sign ∷ address ∷ []) (Release place) spells skipped =
-    elim spells.0 as (λ _. ⊥)
-    [ inl is ↦ sign_not_skipped sign 45 (address ∷ []) is (λ e. omega arith) skipped
-    | inr is ↦ sign_not_skipped sign 60 (address ∷ []) is (λ e. omega arith) skipped
+    elim spells.0 as (λ _. ⊥) [
+      | inl is ↦ sign_not_skipped sign 45 (address ∷ []) is (λ e. omega arith) skipped
+      | inr is ↦ sign_not_skipped sign 60 (address ∷ []) is (λ e. omega arith) skipped
     ]
 spelled_not_skipped (sign ∷ address ∷ size ∷ []) (New place bytes) spells skipped =
-    elim spells.0 as (λ _. ⊥)
-    [ inl is ↦ sign_not_skipped sign 43 (address ∷ size ∷ []) is (λ e. omega arith) skipped
-    | inr is ↦ sign_not_skipped sign 62 (address ∷ size ∷ []) is (λ e. omega arith) skipped
+    elim spells.0 as (λ _. ⊥) [
+      | inl is ↦ sign_not_skipped sign 43 (address ∷ size ∷ []) is (λ e. omega arith) skipped
+      | inr is ↦ sign_not_skipped sign 62 (address ∷ size ∷ []) is (λ e. omega arith) skipped
     ]
 spelled_not_skipped (sign ∷ address ∷ size ∷ []) Failed spells skipped =
     sign_not_skipped sign 33 (address ∷ size ∷ []) spells.0 (λ e. omega arith) skipped
@@ -188,16 +188,18 @@ computed_is_meant : (line : List ℕ) (skipped : Bool) (said : Option Operation)
 computed_is_meant line true said is_skipped is_said = begins-true equals_sign (words line) is_skipped
 computed_is_meant line false (Some operation) is_skipped is_said =
     subst (λ ws. IsOperation ws operation) (reverse-reverse (words line)) (said_sound (reverse (words line)) operation is_said)
-computed_is_meant line false None is_skipped is_said =
-    (λ skipped. false≢true (sym is_skipped ∙ true-begins equals_sign (words line) skipped), λ operation is.
-        let said = operation_complete (words line) operation is in cc)
+computed_is_meant line false None is_skipped is_said = (
+  λ skipped. false≢true (sym is_skipped ∙ true-begins equals_sign (words line) skipped),
+  λ operation is.
+      let said = operation_complete (words line) operation is in cc,
+)
 
 -- words that say no operation are bad
 unsaid : (ws : List (List ℕ)) → ((operation : Operation) → ¬ (IsOperation ws operation)) → meaning_said (said_by (reverse ws)) ≡ Bad
 unsaid ws none =
-    elim (said_by (reverse ws)) as (λ said. said_by (reverse ws) ≡ said → meaning_said said ≡ Bad)
-    [ None ↦ λ _. refl
-    | Some operation ↦ λ is. absurd (none operation (subst (λ xs. IsOperation xs operation) (reverse-reverse ws) (said_sound (reverse ws) operation is)))
+    elim (said_by (reverse ws)) as (λ said. said_by (reverse ws) ≡ said → meaning_said said ≡ Bad) [
+      | None ↦ λ _. refl
+      | Some operation ↦ λ is. absurd (none operation (subst (λ xs. IsOperation xs operation) (reverse-reverse ws) (said_sound (reverse ws) operation is)))
     ]
     refl
 

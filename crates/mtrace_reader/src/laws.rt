@@ -6,5 +6,4 @@ ghost use Rattle.mtrace_reader.specs.Line.{Means, meaning_of};
 /// Each line means one thing, and that is its meaning as it is computed.
 pub fn each_line_means_one_thing()
     ensures { (line : List ℕ) (meaning : Meaning) → Means line meaning ↔ (meaning_of line ≡ meaning) }
-{
-}
+{}

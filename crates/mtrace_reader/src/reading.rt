@@ -2,10 +2,9 @@
 ghost use Rattle.std.specs.Prelude.{◌≡◌, ◌≢◌, ◌+◌, ◌≤◌, ◌<◌, ℕ, [], ◌∷◌, ◌++◌, length, IfOk, IfNone, IfSome, IfErr, position};
 ghost use Rattle.mtrace_reader.specs.Reading.{is_end, pieces, said, is_bad, bad_line, IsReading};
 
-use std::alloc::Global;
-
 use crate::line::read_line;
 use crate::{Meaning, Operation, OperationList, Trace, TraceFault};
+use std::alloc::Global;
 
 /// The byte that ends a line.
 const LINE_END: u8 = b'\n';

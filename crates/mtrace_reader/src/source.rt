@@ -4,12 +4,10 @@ ghost use Rattle.pool_io.specs.Counts.{HasRisen};
 ghost use Rattle.pool_io.specs.Told.{HandsOut, IsAtEnd};
 ghost use Rattle.mtrace_reader.specs.Reading.{AnswersFor};
 
-use std::alloc::Global;
-
-use pool_io::Files;
-
 use crate::reading::read_lines;
 use crate::{Trace, TraceFault};
+use pool_io::Files;
+use std::alloc::Global;
 
 /// The most bytes that a trace may have.
 pub const MOST_BYTES: u64 = 1 << 24;
@@ -119,4 +117,125 @@ pub fn read_trace<F: Files>(
     let limit = room.min(MOST_BYTES) as usize;
     let bytes = read_up_to(alloc, files, source, limit)?;
     read_lines(alloc, &bytes)
+}
+
+#[cfg(test)]
+mod tests {
+    use super::*;
+    use crate::Operation;
+    use crate::Operation::{Failed, New, Release};
+    use pool_io::MemoryFiles;
+    use std::process::Abort;
+    use std::test::Fail;
+
+    /// The operations of a trace and whether it is cut, or its fault.
+    type Read<'a> = Result<(&'a [Operation], bool), TraceFault>;
+
+    /// Compares what a file reads as.
+    fn check(
+        rt: &(impl Abort + AllocGlobal),
+        text: &[u8],
+        room: u64,
+        expected: Read<'_>,
+    ) -> Result<(), Fail> {
+        let alloc = rt.alloc();
+        let file = (String::from_str(alloc, "f")?, Vec::from_slice(alloc, text)?);
+        let mut files = MemoryFiles {
+            files: vec![in alloc; file]?,
+            failing: Vec::new(alloc),
+            most: 7,
+            calls: 0,
+            opens: 0,
+            faults: 0,
+        };
+        let source = files.open("f")?;
+        let trace = read_trace(alloc, &mut files, source, room);
+        let read = match &trace {
+            Ok(trace) => Ok((trace.operations.as_slice(), trace.cut)),
+            Err(fault) => Err(*fault),
+        };
+        assert!(rt; read == expected, "{text:?} reads as {read:?}");
+        Ok(())
+    }
+
+    #[test]
+    fn lines_and_the_last_piece(rt: HostRuntime) -> Result<(), Fail> {
+        let block = New {
+            address: 16,
+            size: 8,
+        };
+        let release = Release { address: 16 };
+        let moved = New {
+            address: 32,
+            size: 16,
+        };
+        let cases: [(&[u8], &[Operation], bool); 10] = [
+            (b"", &[], false),
+            (b"\n  \n= Start\n=\n = x + 0x10 0x8\n", &[], false),
+            (
+                b"@ ./a.out:[0x401136] + 0x10 0x8\n@ ./a.out:[0x401146] - 0x10\n",
+                &[block, release],
+                false,
+            ),
+            (
+                b"+ 0x10 0x8\n< 0x10\n> 0x20 0x10\n",
+                &[block, release, moved],
+                false,
+            ),
+            (
+                b"+ (nil) 0\n! 0x10 0x80\n",
+                &[
+                    New {
+                        address: 0,
+                        size: 0,
+                    },
+                    Failed,
+                ],
+                false,
+            ),
+            (b"@ + - 0x10\n", &[release], false),
+            (b" @\xff  + 0x0000000000000010   0x8 \n", &[block], false),
+            (
+                b"+ 0xFfFfffffffffffff 0xABCDEF\n",
+                &[New {
+                    address: u64::MAX,
+                    size: 0xabcdef,
+                }],
+                false,
+            ),
+            (b"= Start\n+ 0x10 0x8\n@ a.out:[0x40", &[block], true),
+            (b"+ 0x10 0x8\n- 0x10", &[block, release], false),
+        ];
+        for (text, operations, cut) in cases {
+            check(&rt, text, MOST_BYTES, Ok((operations, cut)))?;
+        }
+        Ok(())
+    }
+
+    #[test]
+    fn bad_lines(rt: HostRuntime) -> Result<(), Fail> {
+        let cases: [(&[u8], u64); 10] = [
+            (b"a + 0x10 0x8\n", 1),
+            (b"+ 0X10 0x8\n", 1),
+            (b"+ 0x10 8\n", 1),
+            (b"+ 0x11111111111111111 0x8\n", 1),
+            (b"@ - 0x10 0x8\n", 1),
+            (b"= Start\n+ 0x 0x8\n", 2),
+            (b"+ 0x10 0x8\r\n", 1),
+            (b"\xff\n", 1),
+            (b"\n- 0x10\n+\n- 0x10\n", 3),
+            (b"- 0\n", 1),
+        ];
+        for (text, line) in cases {
+            check(&rt, text, MOST_BYTES, Err(TraceFault::BadLine(line)))?;
+        }
+        Ok(())
+    }
+
+    #[test]
+    fn as_many_bytes_as_there_is_room_for(rt: HostRuntime) -> Result<(), Fail> {
+        check(&rt, b"= End\n", 6, Ok((&[], false)))?;
+        check(&rt, b"= End\n", 5, Err(TraceFault::TooLong))?;
+        check(&rt, b"+\n+\n+\n", 5, Err(TraceFault::TooLong))
+    }
 }

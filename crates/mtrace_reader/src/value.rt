@@ -37,12 +37,20 @@ fn hexadecimal(word: &[u8]) -> Option<u64>
 pub(crate) fn address(word: &[u8]) -> Option<u64>
     ensures { result ≡ address_of word.now }
 {
-    if word == b"(nil)".as_slice() { Some(0) } else { hexadecimal(word) }
+    if word == b"(nil)".as_slice() {
+        Some(0)
+    } else {
+        hexadecimal(word)
+    }
 }
 
 /// The size that a word spells.
 pub(crate) fn size(word: &[u8]) -> Option<u64>
     ensures { result ≡ size_of word.now }
 {
-    if word == b"0".as_slice() { Some(0) } else { hexadecimal(word) }
+    if word == b"0".as_slice() {
+        Some(0)
+    } else {
+        hexadecimal(word)
+    }
 }

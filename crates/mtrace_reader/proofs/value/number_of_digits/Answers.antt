@@ -16,4 +16,4 @@ pub loop-digit-preserved : goal.loop-digit-preserved
 loop-digit-preserved c =
     let digit = c.in_ok-value.ensures.value in
     rw (c.from-in-loop-digit.ensures, digit.1)
-        (ReadsDigits-more _ _ _ _ (omega arith) c.from.ensures digit.0 c.loop-digit.invariant)
+    (ReadsDigits-more _ _ _ _ (omega arith) c.from.ensures digit.0 c.loop-digit.invariant)

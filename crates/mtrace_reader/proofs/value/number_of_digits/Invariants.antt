@@ -1,7 +1,4 @@
-use Rattle.std.proofs.Common.{◌≡◌, ◌<◌, ◌^◌, true, take}
-use Rattle.std.specs.Char.{is_digit}
-use Rattle.std.specs.List.{list_all}
-use Rattle.std.specs.Str.Parse.{digits_value}
+use Rattle.std.proofs.Common.{take}
 use Rattle.mtrace_reader.proofs.Digits.{ReadsDigits}
 use Rattle.mtrace_reader.proofs.value.number_of_digits.Given as goal
 

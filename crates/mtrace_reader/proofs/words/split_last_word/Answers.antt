@@ -10,4 +10,4 @@ returns c =
     let some : 0 < length line = grind (arith, nat_tests) in
     let within = begins_within line _ some run.within (c.trim_end-line.ensures.ends some) run.before in
     rw (c.split_at.ensures.front, c.split_at.ensures.back)
-        (sym c.trim_end-line.ensures.words ∙ words_at_last_run line _ within run.word run.before)
+    (sym c.trim_end-line.ensures.words ∙ words_at_last_run line _ within run.word run.before)

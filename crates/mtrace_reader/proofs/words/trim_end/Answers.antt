@@ -1,4 +1,4 @@
-use Rattle.std.proofs.Common.{arith, sym, ap, ◌∙◌, ◌∷◌, [], ◌++◌}
+use Rattle.std.proofs.Common.{sym, ap, ◌∙◌, ◌∷◌, [], ◌++◌}
 use Rattle.mtrace_reader.specs.Words.{words}
 use Rattle.mtrace_reader.proofs.Cuts.{words-push_space}
 use Rattle.mtrace_reader.proofs.words.trim_end.Goals as goal
