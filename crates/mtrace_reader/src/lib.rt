@@ -5,22 +5,18 @@
 //! words, and what a list of bytes reads as; the code meets these definitions.
 #![tactic(auto)]
 
-mod steps;
-mod trace;
-mod walk;
-
-pub use steps::{Script, Step, StepList};
 pub mod laws;
 mod line;
 mod reading;
-mod script;
 mod source;
+mod steps;
 mod trace;
 mod value;
+mod walk;
 mod words;
 
 pub use line::Meaning;
-pub use script::{Script, Step, StepList};
 pub use source::{MOST_BYTES, read_trace};
+pub use steps::{Script, Step, StepList};
 pub use trace::{Operation, OperationList, Trace, TraceFault};
 pub use walk::script;
