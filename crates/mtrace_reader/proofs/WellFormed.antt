@@ -25,7 +25,7 @@ placed_slots-append (Place slot ∷ xs) ys = ap (λ slots. slot ∷ slots) (plac
 placed_slots-append (Leave slot ∷ xs) ys = placed_slots-append xs ys
 
 -- one more number from 0
-range_with_len_more : (n : ℕ) → range_with_len 0 (n + 1) ≡ range_with_len 0 n ++ n ∷ []
+pub range_with_len_more : (n : ℕ) → range_with_len 0 (n + 1) ≡ range_with_len 0 n ++ n ∷ []
 range_with_len_more n = sym (map-id (range_with_len 0 (n + 1))) ∙ map-range_with_len_more (λ k. k) 0 n n (omega arith) ∙ ap (λ slots. slots ++ n ∷ []) (map-id (range_with_len 0 n))
 
 pub placed_slots-at : (steps : List Step) (place slot : ℕ) → slice_get steps place ≡ Some (Place slot) → Contains (placed_slots steps) slot
@@ -45,12 +45,12 @@ placed_below steps news slot in_order placed =
 
 -- ---- leaves
 
-slice_get-append : {X : Type 0} (xs ys : List X) (i : ℕ) → i < length xs → slice_get (xs ++ ys) i ≡ slice_get xs i
+pub slice_get-append : {X : Type 0} (xs ys : List X) (i : ℕ) → i < length xs → slice_get (xs ++ ys) i ≡ slice_get xs i
 slice_get-append [] ys i inside = absurd (omega arith)
 slice_get-append (x ∷ xs) ys zero inside = refl
 slice_get-append (x ∷ xs) ys (suc i) inside = slice_get-append xs ys i (omega arith)
 
-slice_get-push : {X : Type 0} (xs : List X) (y : X) → slice_get (xs ++ y ∷ []) (length xs) ≡ Some y
+pub slice_get-push : {X : Type 0} (xs : List X) (y : X) → slice_get (xs ++ y ∷ []) (length xs) ≡ Some y
 slice_get-push [] y = refl
 slice_get-push (x ∷ xs) y = slice_get-push xs y
 

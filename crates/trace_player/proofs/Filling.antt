@@ -1,0 +1,214 @@
+-- What the slots of a script hold, one step on.
+use Rattle.std.proofs.Common.{◌≡◌, ◌≢◌, ℕ, ◌+◌, ◌<◌, ◌≤◌, ◌⊎◌, zero, suc, Bool, true, false, cond, Option, Some, None, is_some, List, [], ◌∷◌, ◌++◌, length, set, replicate, refl, sym, ap, ◌∙◌, subst, ⊎_elim, inl, inr, arith, length-append}
+use Rattle.std.specs.List.{Contains, count_by}
+use Rattle.std.proofs.lemmas.Bool.{cases_eq}
+use Rattle.std.proofs.lemmas.List.{get_or-set_same, get_or-set_other, get_or_push}
+use Rattle.std.proofs.lemmas.List.Elements.{All-contains, Contains-push_cases, Contains-append_left, Contains-push}
+use Rattle.std.proofs.lemmas.List.Sums.{sum_by-set}
+use Rattle.pool_model.specs.declared.entry.Entry.{Entry}
+use Rattle.pool_model.specs.declared.entry.Entry.TheVariants.{Got, Back, Dry}
+use Rattle.pool_model.proofs.Histories.{held_more}
+use Rattle.pool_model.proofs.Members.{contains_head, contains_tail, without_contains}
+use Rattle.std.proofs.lemmas.Option.{none-some, same_Some}
+use Rattle.pool_model.specs.History.{held}
+use Rattle.pool_model.specs.Plain.{Plain, IsHeld, Gives, Takes}
+use Rattle.mtrace_reader.specs.declared.steps.Step.{Step}
+use Rattle.mtrace_reader.specs.declared.steps.Step.TheVariants.{Place, Leave}
+use Rattle.trace_player.proofs.Agreeing.{Below, Keeps, keeps_all, keeps_more}
+use Rattle.trace_player.specs.Tally.{is_refused}
+use Rattle.trace_player.specs.Playing.{block_in, slot_of, IsFilled, NamesSlots, HoldsBlocks}
+
+-- no slot of an empty list has a block
+pub block_in-replicate : (n slot : ℕ) → block_in (replicate n None) slot ≡ None
+block_in-replicate zero slot = refl
+block_in-replicate (suc n) zero = refl
+block_in-replicate (suc n) (suc slot) = block_in-replicate n slot
+
+-- a slot that was filled keeps its block at a step that does not leave it
+pub filled_on : (refused later : List Bool) (blocks after : List ℕ) (done : List Step) (step : Step) (entries longer : List Entry) (pool new : Plain) (slot block : ℕ)
+    → Keeps refused later blocks after (length refused) → length refused ≤ length later → step ≢ Leave slot
+    → Contains (held longer) block → IsHeld new block
+    → IsFilled refused blocks done entries pool slot block → IsFilled later after (done ++ step ∷ []) longer new slot block
+filled_on refused later blocks after done step entries longer pool new slot block keeps longer_than stays mine holds filled = record {
+  placed = omega (arith, filled.placed);
+  given = keeps.refusals slot filled.placed ∙ filled.given;
+  block_of = keeps.given slot filled.placed ∙ filled.block_of;
+  not_left = λ left. ⊎_elim filled.not_left stays (Contains-push_cases done step (Leave slot) left);
+  mine = mine;
+  held = holds;
+}
+
+-- the slot that was just given a block is filled with it
+pub filled_now : (refused : List Bool) (blocks : List ℕ) (done : List Step) (entries : List Entry) (pool : Plain) (slot block : ℕ)
+    → slot ≡ length refused → length blocks ≡ length refused → Below (length refused) done → Contains (held entries) block → IsHeld pool block
+    → IsFilled (refused ++ false ∷ []) (blocks ++ block ∷ []) (done ++ Place slot ∷ []) entries pool slot block
+filled_now refused blocks done entries pool slot block next same below mine holds = record {
+  placed = omega (arith, length-append refused (false ∷ []));
+  given = get_or_push refused false false slot (sym next);
+  block_of = get_or_push blocks block 0 slot (same ∙ sym next);
+  not_left = λ left. ⊎_elim
+      (λ (c : Contains done (Leave slot)). absurd (omega (arith, All-contains (λ step. slot_of step < length refused) done (Leave slot) below c)))
+      (λ (e : Place slot ≡ Leave slot). absurd cc)
+      (Contains-push_cases done (Place slot) (Leave slot) left);
+  mine = mine;
+  held = holds;
+}
+
+-- what a slot has after another, or it itself, was written
+pub block_in-set : (slots : List (Option ℕ)) (slot other : ℕ) (new : Option ℕ) (block : ℕ) → slot < length slots → block_in (set slots slot new) other ≡ Some block
+    → ((other ≡ slot) × (new ≡ Some block)) ⊎ ((other ≢ slot) × (block_in slots other ≡ Some block))
+block_in-set slots slot other new block within e =
+    ⊎_elim
+    (λ (p : other ≡ slot). inl (p, sym (get_or-set_same slots slot new None within) ∙ ap (block_in (set slots slot new)) (sym p) ∙ e))
+    (λ (p : other ≢ slot). inr (p, sym (get_or-set_other slots slot other new None p) ∙ e))
+    (cases_eq other slot)
+
+pub empty_in-set : (slots : List (Option ℕ)) (slot other : ℕ) (new : Option ℕ) → slot < length slots → block_in (set slots slot new) other ≡ None
+    → ((other ≡ slot) × (new ≡ None)) ⊎ ((other ≢ slot) × (block_in slots other ≡ None))
+empty_in-set slots slot other new within e =
+    ⊎_elim
+    (λ (p : other ≡ slot). inl (p, sym (get_or-set_same slots slot new None within) ∙ ap (block_in (set slots slot new)) (sym p) ∙ e))
+    (λ (p : other ≢ slot). inr (p, sym (get_or-set_other slots slot other new None p) ∙ e))
+    (cases_eq other slot)
+
+-- how many slots have a block, after one was written
+pub count_by-set : (slots : List (Option ℕ)) (slot : ℕ) (new : Option ℕ) → slot < length slots
+    → count_by is_some (set slots slot new) + cond (is_some (block_in slots slot)) 1 0 ≡ count_by is_some slots + cond (is_some new) 1 0
+count_by-set slots slot new within = sum_by-set (λ o. cond (is_some o) 1 0) slots slot new None within
+
+pub holds_none : (pool : Plain) (n : ℕ) → HoldsBlocks [] [] [] [] pool (replicate n None)
+holds_none pool n = record {
+  filled = λ slot block e. absurd (none-some block (sym (block_in-replicate n slot) ∙ e));
+  empty = λ slot below e. absurd (omega arith);
+  apart = λ a b block ea eb. absurd (none-some block (sym (block_in-replicate n a) ∙ ea));
+}
+
+-- a slot that has no number yet has no block
+pub next_is_empty : (refused : List Bool) (blocks : List ℕ) (done : List Step) (entries : List Entry) (pool : Plain) (slots : List (Option ℕ)) (slot : ℕ)
+    → HoldsBlocks refused blocks done entries pool slots → slot ≡ length refused → block_in slots slot ≡ None
+next_is_empty refused blocks done entries pool slots slot holds next = cases (block_in slots slot) refl
+  where
+    cases : (o : Option ℕ) → block_in slots slot ≡ o → o ≡ None
+    cases None e = refl
+    cases (Some block) e = absurd (omega (arith, next, (holds.filled slot block e).placed))
+
+-- a slot without a block was refused or left, also one step on
+empty_on : (refused later : List Bool) (blocks after : List ℕ) (done : List Step) (step : Step) (slot : ℕ) → Keeps refused later blocks after (length refused) → slot < length refused
+    → (is_refused refused slot ≡ true) ⊎ Contains done (Leave slot) → (is_refused later slot ≡ true) ⊎ Contains (done ++ step ∷ []) (Leave slot)
+empty_on refused later blocks after done step slot keeps below was =
+    ⊎_elim
+    (λ (r : is_refused refused slot ≡ true). inl (keeps.refusals slot below ∙ r))
+    (λ (left : Contains done (Leave slot)). inr (Contains-append_left done (step ∷ []) (Leave slot) left))
+    was
+
+-- no slot has a block that the pool just gave
+apart_got : (refused : List Bool) (blocks : List ℕ) (done : List Step) (entries : List Entry) (pool : Plain) (slots : List (Option ℕ)) (slot block : ℕ)
+    → slot < length slots → ¬ IsHeld pool block → HoldsBlocks refused blocks done entries pool slots
+    → (a b other : ℕ) → block_in (set slots slot (Some block)) a ≡ Some other → block_in (set slots slot (Some block)) b ≡ Some other → a ≡ b
+apart_got refused blocks done entries pool slots slot block within free holds a b other ea eb =
+    ⊎_elim
+    (λ (q : (a ≡ slot) × (Some block ≡ Some other)). ⊎_elim
+    (λ (r : (b ≡ slot) × (Some block ≡ Some other)). q.0 ∙ sym r.0)
+    (λ (r : (b ≢ slot) × (block_in slots b ≡ Some other)). absurd (not_new b r.1 (same_Some block other q.1)))
+    (block_in-set slots slot b (Some block) other within eb))
+    (λ (q : (a ≢ slot) × (block_in slots a ≡ Some other)). ⊎_elim
+    (λ (r : (b ≡ slot) × (Some block ≡ Some other)). absurd (not_new a q.1 (same_Some block other r.1)))
+    (λ (r : (b ≢ slot) × (block_in slots b ≡ Some other)). holds.apart a b other q.1 r.1)
+    (block_in-set slots slot b (Some block) other within eb))
+    (block_in-set slots slot a (Some block) other within ea)
+  where
+    not_new : (c : ℕ) → block_in slots c ≡ Some other → block ≡ other → ⊥
+    not_new c e same = free (subst (λ (n : ℕ). IsHeld pool n) (sym same) (holds.filled c other e).held)
+
+pub holds_got : (i : ℕ) (refused : List Bool) (blocks : List ℕ) (done : List Step) (entries : List Entry) (pool new : Plain) (slots : List (Option ℕ)) (slot block : ℕ)
+    → NamesSlots refused blocks done → slot ≡ length refused → slot < length slots → Gives pool new block → HoldsBlocks refused blocks done entries pool slots
+    → HoldsBlocks (refused ++ false ∷ []) (blocks ++ block ∷ []) (done ++ Place slot ∷ []) (entries ++ Got i block ∷ []) new (set slots slot (Some block))
+holds_got i refused blocks done entries pool new slots slot block names next within gives holds =
+    let more = done ++ Place slot ∷ [] in
+    let longer = entries ++ Got i block ∷ [] in
+    let keeps = keeps_more refused blocks false block names.block_each in
+    let size : length (refused ++ false ∷ []) ≡ length refused + 1 = omega (arith, length-append refused (false ∷ [])) in
+    let P : ℕ → List ℕ → Type 0 = λ b bs. Contains bs b in
+    let new_block = filled_now refused blocks done longer new slot block next names.block_each names.below
+    (subst (P block) (sym (held_more entries (Got i block))) (contains_head block (held entries))) ((gives.held block).1 (inr refl)) in
+    record {
+      filled = λ other c e. ⊎_elim
+          (λ (q : (other ≡ slot) × (Some block ≡ Some c)).
+          subst (λ (s : ℕ). IsFilled (refused ++ false ∷ []) (blocks ++ block ∷ []) more longer new s c) (sym q.0)
+          (subst (λ (b : ℕ). IsFilled (refused ++ false ∷ []) (blocks ++ block ∷ []) more longer new slot b) (same_Some block c q.1) new_block))
+          (λ (q : (other ≢ slot) × (block_in slots other ≡ Some c)).
+          let was = holds.filled other c q.1 in
+          filled_on refused (refused ++ false ∷ []) blocks (blocks ++ block ∷ []) done (Place slot) entries longer pool new other c keeps (omega arith) (λ e. absurd cc)
+          (subst (P c) (sym (held_more entries (Got i block))) (contains_tail c block (held entries) was.mine)) ((gives.held c).1 (inl was.held)) was)
+          (block_in-set slots slot other (Some block) c within e);
+      empty = λ other low e. ⊎_elim
+          (λ (q : (other ≡ slot) × (Some block ≡ None)). absurd (none-some block (sym q.1)))
+          (λ (q : (other ≢ slot) × (block_in slots other ≡ None)).
+          let before : other < length refused = omega (arith, q.0) in
+          empty_on refused (refused ++ false ∷ []) blocks (blocks ++ block ∷ []) done (Place slot) other keeps before (holds.empty other before q.1))
+          (empty_in-set slots slot other (Some block) within e);
+      apart = apart_got refused blocks done entries pool slots slot block within gives.free holds;
+    }
+
+pub holds_dry : (i : ℕ) (refused : List Bool) (blocks : List ℕ) (done : List Step) (entries : List Entry) (pool : Plain) (slots : List (Option ℕ)) (slot : ℕ)
+    → NamesSlots refused blocks done → slot ≡ length refused → HoldsBlocks refused blocks done entries pool slots
+    → HoldsBlocks (refused ++ true ∷ []) (blocks ++ 0 ∷ []) (done ++ Place slot ∷ []) (entries ++ Dry i ∷ []) pool slots
+holds_dry i refused blocks done entries pool slots slot names next holds =
+    let keeps = keeps_more refused blocks true 0 names.block_each in
+    let size : length (refused ++ true ∷ []) ≡ length refused + 1 = omega (arith, length-append refused (true ∷ [])) in
+    record {
+      filled = λ other c e.
+          let was = holds.filled other c e in
+          filled_on refused (refused ++ true ∷ []) blocks (blocks ++ 0 ∷ []) done (Place slot) entries (entries ++ Dry i ∷ []) pool pool other c keeps (omega arith) (λ e. absurd cc)
+          (subst (λ (bs : List ℕ). Contains bs c) (sym (held_more entries (Dry i))) was.mine) was.held was;
+      empty = λ other low e. ⊎_elim
+          (λ (same : other ≡ slot). inl (get_or_push refused true false other (sym (same ∙ next))))
+          (λ (differs : other ≢ slot).
+          let before : other < length refused = omega arith in
+          empty_on refused (refused ++ true ∷ []) blocks (blocks ++ 0 ∷ []) done (Place slot) other keeps before (holds.empty other before e))
+          (cases_eq other slot);
+      apart = holds.apart;
+    }
+
+pub holds_back : (i : ℕ) (refused : List Bool) (blocks : List ℕ) (done : List Step) (entries : List Entry) (pool new : Plain) (slots : List (Option ℕ)) (slot block : ℕ)
+    → slot < length slots → block_in slots slot ≡ Some block → Takes pool new block → HoldsBlocks refused blocks done entries pool slots
+    → HoldsBlocks refused blocks (done ++ Leave slot ∷ []) (entries ++ Back i block ∷ []) new (set slots slot None)
+holds_back i refused blocks done entries pool new slots slot block within has takes holds =
+    let keeps = keeps_all refused blocks (length refused) in
+    let old : (other c : ℕ) → block_in (set slots slot None) other ≡ Some c → (other ≢ slot) × (block_in slots other ≡ Some c) =
+    λ other c e. ⊎_elim (λ (q : (other ≡ slot) × (None ≡ Some c)). absurd (none-some c q.1)) (λ q. q) (block_in-set slots slot other None c within e) in
+    record {
+      filled = λ other c e.
+          let q = old other c e in
+          let was = holds.filled other c q.1 in
+          let differs : ¬ (c ≡ block) = λ same. q.0 (holds.apart other slot block (q.1 ∙ ap Some same) has) in
+          filled_on refused refused blocks blocks done (Leave slot) entries (entries ++ Back i block ∷ []) pool new other c keeps (omega arith) (λ e. q.0 (sym (cc e)))
+          (subst (λ (bs : List ℕ). Contains bs c) (sym (held_more entries (Back i block))) (without_contains block c (held entries) was.mine differs))
+          ((takes.held c).1 (was.held, differs)) was;
+      empty = λ other low e. ⊎_elim
+          (λ (q : (other ≡ slot) × (None ≡ None)). inr (subst (λ (s : ℕ). Contains (done ++ Leave slot ∷ []) (Leave s)) (sym q.0) (Contains-push done (Leave slot))))
+          (λ (q : (other ≢ slot) × (block_in slots other ≡ None)).
+          empty_on refused refused blocks blocks done (Leave slot) other keeps low (holds.empty other low q.1))
+          (empty_in-set slots slot other None within e);
+      apart = λ a b c ea eb. holds.apart a b c (old a c ea).1 (old b c eb).1;
+    }
+
+pub holds_passed : (refused : List Bool) (blocks : List ℕ) (done : List Step) (entries : List Entry) (pool : Plain) (slots : List (Option ℕ)) (slot : ℕ)
+    → slot < length slots → is_refused refused slot ≡ true → HoldsBlocks refused blocks done entries pool slots
+    → HoldsBlocks refused blocks (done ++ Leave slot ∷ []) entries pool (set slots slot None)
+holds_passed refused blocks done entries pool slots slot within dry holds =
+    let keeps = keeps_all refused blocks (length refused) in
+    let old : (other c : ℕ) → block_in (set slots slot None) other ≡ Some c → (other ≢ slot) × (block_in slots other ≡ Some c) =
+    λ other c e. ⊎_elim (λ (q : (other ≡ slot) × (None ≡ Some c)). absurd (none-some c q.1)) (λ q. q) (block_in-set slots slot other None c within e) in
+    record {
+      filled = λ other c e.
+          let q = old other c e in
+          let was = holds.filled other c q.1 in
+          filled_on refused refused blocks blocks done (Leave slot) entries entries pool pool other c keeps (omega arith) (λ e. q.0 (sym (cc e))) was.mine was.held was;
+      empty = λ other low e. ⊎_elim
+          (λ (q : (other ≡ slot) × (None ≡ None)). inl (ap (is_refused refused) q.0 ∙ dry))
+          (λ (q : (other ≢ slot) × (block_in slots other ≡ None)).
+          empty_on refused refused blocks blocks done (Leave slot) other keeps low (holds.empty other low q.1))
+          (empty_in-set slots slot other None within e);
+      apart = λ a b c ea eb. holds.apart a b c (old a c ea).1 (old b c eb).1;
+    }

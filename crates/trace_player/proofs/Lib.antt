@@ -1,0 +1,12 @@
+pub mod Lists
+pub mod Agreeing
+pub mod Peaks
+pub mod Leading
+pub mod Naming
+pub mod Filling
+pub mod Counting
+pub mod Steps
+pub mod Ordered
+pub mod Determined
+pub mod Whole
+pub mod Turns

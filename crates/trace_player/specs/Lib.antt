@@ -1,0 +1,4 @@
+pub mod Tally
+pub mod Fit
+pub mod Playing
+pub mod Plain
