@@ -1,0 +1,34 @@
+use std::alloc::AllocError;
+use std::error::Error;
+use std::fmt;
+
+/// Why a command line gives no command.
+#[derive(Clone, Copy, Debug, PartialEq, Eq, Hash)]
+pub enum WordsFault {
+    /// The words mean no command.
+    Faulty,
+    /// Want of memory.
+    NoMemory,
+}
+
+impl fmt::Display for WordsFault {
+    fn fmt<W: fmt::Write>(&self, f: &mut fmt::Formatter<W>) -> fmt::Result {
+        match self {
+            WordsFault::Faulty => f.write_str("words"),
+            WordsFault::NoMemory => f.write_str("no memory"),
+        }
+    }
+}
+
+impl Error for WordsFault {}
+
+impl From<AllocError> for WordsFault {
+    ghost use Rattle.std.specs.Prelude.{◌≡◌};
+    ghost use Rattle.command_words.specs.declared.fault.WordsFault.TheVariants.{NoMemory};
+
+    ghost from_gives = { λ _ fault. fault ≡ NoMemory };
+
+    fn from(_error: AllocError) -> WordsFault {
+        WordsFault::NoMemory
+    }
+}

@@ -1,0 +1,19 @@
+//! The words of a command line, and the command that they ask for.
+//!
+//! The second word names the command. `clap` reads it and the words after it as one simple command without
+//! subcommands, help or version. `specs/` says what a command line means, in `clap`'s own words, and
+//! [`read_words`] answers exactly that.
+#![tactic(auto)]
+
+mod command;
+mod fault;
+mod number;
+mod play_words;
+mod read;
+
+pub use command::{Command, FileNames, Play};
+pub use fault::WordsFault;
+pub use read::read_words;
+
+#[cfg(test)]
+mod tests;

@@ -1,0 +1,20 @@
+// A number of the command line.
+ghost use Rattle.std.specs.Prelude.{◌≡◌};
+ghost use Rattle.command_words.specs.Number.{is_decimal, number_of};
+
+/// Reads a text of decimal digits alone as a number below 2^32. None where the text is no such number, as
+/// the empty text, `+10` and 4294967296.
+pub(crate) fn read_number(text: &str) -> Option<u32>
+    ensures { result ≡ number_of text.now }
+{
+    if !has_digits_alone(text) {
+        return None;
+    }
+    text.parse().ok()
+}
+
+fn has_digits_alone(text: &str) -> bool
+    ensures { result ≡ is_decimal text.now }
+{
+    text.bytes().all(|byte| byte.is_ascii_digit())
+}

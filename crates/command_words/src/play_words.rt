@@ -1,0 +1,87 @@
+// The words of `play`.
+ghost use Rattle.std.specs.Prelude.{◌≡◌, Some, None, IfOk, IfErr, false, map, string_bytes};
+ghost use Rattle.clap.specs.Words.{app_of, found_of, rows_of, rule_of};
+ghost use Rattle.command_words.specs.Play.{number_at, option_rule, play_app, play_in, play_meant};
+ghost use Rattle.command_words.specs.declared.fault.WordsFault.TheVariants.{Faulty};
+
+use crate::number::read_number;
+use crate::{FileNames, Play, WordsFault};
+use clap::error::ErrorKind;
+use clap::{Arg, ArgAction, ArgMatches};
+use std::alloc::{AllocError, Global};
+
+/// Reads `play` and the words after it.
+pub(crate) fn read_play(alloc: Global, words: &[String]) -> Result<Play, WordsFault>
+    ensures ok { IfOk result (λ play. play_meant (map string_bytes words.now) ≡ Some play) }
+    ensures faulty { IfErr result (λ fault. fault ≡ Faulty → play_meant (map string_bytes words.now) ≡ None) }
+{
+    let command = play_command(alloc)?;
+    match command.try_get_matches_from(words) {
+        Ok(matches) => play_of(alloc, &matches),
+        Err(error) => match error.kind() {
+            ErrorKind::OutOfMemory => Err(WordsFault::NoMemory),
+            _ => Err(WordsFault::Faulty),
+        },
+    }
+}
+
+/// The command `play` as `clap` reads it.
+fn play_command<'a>(alloc: Global) -> Result<clap::Command<'a>, AllocError>
+    ensures { IfOk result (λ command. app_of command ≡ play_app) }
+{
+    let files = Arg::new(alloc, "files")
+        .action(ArgAction::Append)
+        .required(true);
+    clap::Command::new(alloc, "play")
+        .disable_help_flag(true)
+        .arg(option(alloc, "batches", "1024"))?
+        .arg(option(alloc, "size", "64"))?
+        .arg(option(alloc, "quantum", "8"))?
+        .arg(files)
+}
+
+/// An option `--name V` with its default.
+fn option<'a>(alloc: Global, name: &'a str, default: &'a str) -> Arg<'a>
+    ensures rule { rule_of result ≡ option_rule name.entry.now default.entry.now }
+    ensures local { result.global ≡ false }
+{
+    Arg::new(alloc, name)
+        .long(name)
+        .action(ArgAction::Set)
+        .default_value(default)
+}
+
+/// What the matches of `play` ask for.
+fn play_of(alloc: Global, matches: &ArgMatches<'_>) -> Result<Play, WordsFault>
+    ensures ok { IfOk result (λ play. play_in (rows_of (found_of matches.now)) ≡ Some play) }
+    ensures faulty { IfErr result (λ fault. fault ≡ Faulty → play_in (rows_of (found_of matches.now)) ≡ None) }
+{
+    let batches = number_of_option(matches, "batches").ok_or(WordsFault::Faulty)?;
+    let size = number_of_option(matches, "size").ok_or(WordsFault::Faulty)?;
+    let quantum = number_of_option(matches, "quantum").ok_or(WordsFault::Faulty)?;
+    let names = matches.get_raw("files").ok_or(WordsFault::Faulty)?;
+    Ok(Play {
+        batches,
+        size,
+        quantum,
+        files: file_names(alloc, names)?,
+    })
+}
+
+/// The number of an option, given or default. None where its value is no number.
+fn number_of_option(matches: &ArgMatches<'_>, name: &str) -> Option<u32>
+    ensures { result ≡ number_at name.now (rows_of (found_of matches.now)) }
+{
+    read_number(matches.get_str(name)?)
+}
+
+/// Owned copies of the names.
+fn file_names(alloc: Global, names: &[&str]) -> Result<FileNames, AllocError>
+    ensures { IfOk result (λ files. files ≡ map (λ name. name.now) names.now) }
+{
+    let mut owned = Vec::with_capacity(alloc, names.len())?;
+    for name in names {
+        owned.push(String::from_str(alloc, name)?)?;
+    }
+    Ok(FileNames::new(owned))
+}

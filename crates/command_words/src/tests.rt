@@ -1,0 +1,108 @@
+use crate::{Command, Play, WordsFault, read_words};
+use std::alloc::Global;
+use std::test::Fail;
+
+/// What the words after the program's name ask of `play`; None where they are at fault.
+fn asked(alloc: Global, words: &[&str]) -> Result<Option<Play>, Fail> {
+    let mut owned = Vec::new(alloc);
+    owned.push(String::from_str(alloc, "pooltrace")?)?;
+    for word in words {
+        owned.push(String::from_str(alloc, word)?)?;
+    }
+    match read_words(alloc, owned.as_slice()) {
+        Ok(Command::Play(play)) => Ok(Some(play)),
+        Err(WordsFault::Faulty) => Ok(None),
+        Err(WordsFault::NoMemory) => Err(Fail::from("no memory")),
+    }
+}
+
+fn is_asked(play: &Play, numbers: (u32, u32, u32), files: &[&str]) -> bool {
+    let names = play.files.as_slice();
+    (play.batches, play.size, play.quantum) == numbers
+        && names.len() == files.len()
+        && names
+            .iter()
+            .zip(files.iter())
+            .all(|(name, file)| name.as_str() == *file)
+}
+
+#[test]
+fn words_of_play(rt: HostRuntime) -> Result<(), Fail> {
+    let many = ["f"; 33];
+    let cases: [(&[&str], (u32, u32, u32), &[&str]); 8] = [
+        (&["play", "f"], (1024, 64, 8), &["f"]),
+        (&["play", "--batches", "10", "f"], (10, 64, 8), &["f"]),
+        (&["play", "g", "--size=0", "f"], (1024, 0, 8), &["g", "f"]),
+        (
+            &["play", "f", "f", "--quantum", "3"],
+            (1024, 64, 3),
+            &["f", "f"],
+        ),
+        (
+            &[
+                "play",
+                "--quantum=16",
+                "f",
+                "--size",
+                "0063",
+                "g",
+                "--batches=4294967295",
+            ],
+            (4294967295, 63, 16),
+            &["f", "g"],
+        ),
+        (
+            &["play", "--size", "1", "--", "--size", "-h"],
+            (1024, 1, 8),
+            &["--size", "-h"],
+        ),
+        (
+            &["play", "f", "--", "g", "--"],
+            (1024, 64, 8),
+            &["f", "g", "--"],
+        ),
+        (&["play", "a b", "é"], (1024, 64, 8), &["a b", "é"]),
+    ];
+    for (words, numbers, files) in &cases {
+        let play = asked(rt.alloc(), words)?.ok_or("a fault")?;
+        assert!(rt; is_asked(&play, *numbers, files), "{words:?}: {play:?}");
+    }
+    let mut words = Vec::from_slice(rt.alloc(), &["play"])?;
+    words.extend_from_slice(&many)?;
+    let play = asked(rt.alloc(), words.as_slice())?.ok_or("a fault")?;
+    assert!(rt; is_asked(&play, (1024, 64, 8), &many));
+    Ok(())
+}
+
+#[test]
+fn faulty_words(rt: HostRuntime) -> Result<(), Fail> {
+    let cases: [&[&str]; 22] = [
+        &[],
+        &["plays", "f"],
+        &["Play", "f"],
+        &["", "f"],
+        &["--batches", "1", "play", "f"],
+        &["play"],
+        &["play", "--size", "1"],
+        &["play", "--batches", "x", "f"],
+        &["play", "--size", "1", "--size", "2", "f"],
+        &["play", "--size=1", "f", "--size=1"],
+        &["play", "--batches", "+10", "f"],
+        &["play", "--batches=-0", "f"],
+        &["play", "--quantum=", "f"],
+        &["play", "--quantum", "", "f"],
+        &["play", "--size", " 1", "f"],
+        &["play", "--size", "0x10", "f"],
+        &["play", "--batches", "4294967296", "f"],
+        &["play", "f", "--quantum"],
+        &["play", "f", "--files", "g"],
+        &["play", "--help"],
+        &["play", "-h", "f"],
+        &["play", "--version", "f"],
+    ];
+    for words in &cases {
+        let play = asked(rt.alloc(), words)?;
+        assert!(rt; play.is_none(), "{words:?}: {play:?}");
+    }
+    Ok(())
+}
