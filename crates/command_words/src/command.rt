@@ -13,11 +13,11 @@ pub enum Command {
 /// What `play` was asked for.
 #[derive(Debug, Drop)]
 pub struct Play {
-    /// How many batches of blocks the pool has for each process.
+    /// How many batches of blocks the pool has.
     pub batches: u32,
     /// How many bytes a block holds: a larger allocation takes no block.
     pub size: u32,
-    /// How many steps of a transfer a call makes.
+    /// How many steps of a transfer a call makes at most.
     pub quantum: u32,
     /// The trace files.
     pub files: FileNames,
