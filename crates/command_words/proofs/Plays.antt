@@ -28,12 +28,12 @@ pub app_of-without_help : (old new : Command) → out-Command new ≡ record (ou
     → app_of new ≡ without_help (app_of old)
 app_of-without_help old new is = ap app_of_fields is
 
--- `clap` says of `play` what its words match
+-- `clap` says what the words of `play` match
 pub play_is_simple : is_simple play_app ≡ true
 unfolding play_app clap_on_literals
 play_is_simple = refl
 
--- and of which words it finds a fault in them
+-- and which faults they have
 pub play_is_free : is_simple_and_free play_app ≡ true
 unfolding play_app clap_on_literals
 play_is_free = refl
