@@ -2,3 +2,4 @@ pub mod Tally
 pub mod Fit
 pub mod Playing
 pub mod Plain
+pub mod Report
