@@ -1,0 +1,4 @@
+pub mod Growing
+pub mod Reports
+pub mod FilesRead
+pub mod Endings

@@ -1,0 +1,151 @@
+-- When each ending of a run comes.
+use Rattle.std.specs.Prelude.{◌≡◌, ℕ, ◌+◌, ◌^◌, ◌<◌, ◌≤◌, ◌⊎◌, zero, suc, Option, Some, None, List, length, slice_get}
+use Rattle.command_words.specs.declared.command.Command.{Command}
+use Rattle.command_words.specs.declared.command.Command.TheVariants.{Play as PlayCommand}
+use Rattle.command_words.specs.declared.command.Play.{Play}
+use Rattle.word_layout.specs.declared.fault.ShapeFault.{ShapeFault}
+use Rattle.word_layout.specs.Sizes.{Sizes, blocks}
+use Rattle.word_layout.specs.Faults.{IsFirstFault}
+use Rattle.pool_model.specs.declared.entry.Entry.{Entry}
+use Rattle.pool_model.specs.Limits.{Limits}
+use Rattle.pool_model.specs.History.{own}
+use Rattle.pool_model.specs.Legal.{IsExact}
+use Rattle.pool_io.specs.Counts.{HasRisen}
+use Rattle.pool_io.specs.Told.{GrowsBy, GrowsByPart}
+use Rattle.mtrace_reader.specs.declared.trace.Trace.{Trace}
+use Rattle.mtrace_reader.specs.declared.steps.Script.{Script}
+use Rattle.mtrace_reader.specs.Reading.{IsReading, bad_line}
+use Rattle.mtrace_reader.specs.Script.{script_of}
+use Rattle.trace_player.specs.declared.tally.Tally.{Tally}
+use Rattle.trace_player.specs.Fit.{IsTallied}
+use Rattle.trace_player.specs.Report.{report}
+use Rattle.pool_cli.specs.declared.ending.Ending.{Ending}
+use Rattle.pool_cli.specs.declared.ending.Ending.TheVariants.{Done, Words, Shape, Read, Long, Line, Write, Memory}
+use Rattle.pool_cli.specs.Ending.{line_of, status_of}
+use Rattle.pool_cli.specs.Shapes.{IsShapeOf}
+
+-- the outside before a run, or after it: the bytes of files where they are told, what the output holds where it tells it, and
+-- the counts of opens and faults
+pub record Outside : Type 0 where
+  pub told : List ℕ → Option (List ℕ)
+  pub opens : ℕ
+  pub file_faults : ℕ
+  pub out : Option (List ℕ)
+  pub out_faults : ℕ
+
+-- the first so many names are told to hold these contents
+abbrev pub Hold : (List ℕ → Option (List ℕ)) → List (List ℕ) → (ℕ → List ℕ) → ℕ → Type 0
+Hold told names content count = (j : ℕ) (name : List ℕ) → j < count → slice_get names j ≡ Some name → told name ≡ Some (content j)
+
+-- how many bytes the first so many files have
+abbrev pub taken : (ℕ → List ℕ) → ℕ → ℕ
+taken content zero = 0
+taken content (suc count) = taken content count + length (content count)
+
+-- the file may be read whole, after so many bytes of other files
+abbrev pub IsWithin : ℕ → List ℕ → Type 0
+IsWithin before bytes = (length bytes ≤ 2 ^ 24) × (before + length bytes ≤ 2 ^ 26)
+
+-- the first so many files may be read whole and have no bad line
+abbrev pub AreFine : (ℕ → List ℕ) → ℕ → Type 0
+AreFine content count = (j : ℕ) → j < count → IsWithin (taken content j) (content j) × (bad_line (content j) ≡ None)
+
+-- the script of a file's bytes, where a block has `size` bytes
+abbrev pub IsScriptOf : ℕ → List ℕ → Script → Type 0
+IsScriptOf size bytes script = (trace : Trace) × IsReading bytes trace × (script ≡ script_of trace size)
+
+-- the words ask for this play, and its numbers are those of a pool: a process for each file, no data words
+pub record IsAccepted (meaning : Option Command) (play : Play) (sizes : Sizes) : Type 0 where
+  pub meant : meaning ≡ Some (PlayCommand play)
+  pub asked : IsShapeOf play sizes
+
+-- the numbers of a pool by which its history is judged
+abbrev pub limits_of : Sizes → Limits
+limits_of sizes = record { processes = sizes.processes; blocks = blocks sizes; batch_length = sizes.length }
+
+-- one history of a free set, which refuses only where all blocks are held, in which the entries of each process fit the script
+-- of its file and give its tally
+pub record IsHistoryOf (play : Play) (sizes : Sizes) (content : ℕ → List ℕ) (tallies : List Tally) : Type 0 where
+  pub history : List Entry
+  pub exact : IsExact (limits_of sizes) history
+  pub each : (j : ℕ) (tally : Tally) → slice_get tallies j ≡ Some tally
+      → (script : Script) × IsScriptOf play.size (content j) script × IsTallied j script (own history j) tally
+
+-- all files were read and played: they are fine, and the tallies are computed from one history
+pub record IsPlayed (told : List ℕ → Option (List ℕ)) (play : Play) (sizes : Sizes) (tallies : List Tally) : Type 0 where
+  pub one_each : length tallies ≡ length play.files
+  pub fine : (content : ℕ → List ℕ) → Hold told play.files content (length play.files) → AreFine content (length play.files)
+  pub played : (content : ℕ → List ℕ) → Hold told play.files content (length play.files) → IsHistoryOf play sizes content tallies
+
+-- the run ended at a file, which has this fact after so many bytes of the files before it, which are fine
+pub record StopsAt (told : List ℕ → Option (List ℕ)) (names : List (List ℕ)) (file : ℕ) (Fact : ℕ → List ℕ → Type 0) : Type 0 where
+  pub index : ℕ
+  pub number : file ≡ index + 1
+  pub within : index < length names
+  pub earlier : (content : ℕ → List ℕ) → Hold told names content index → AreFine content index
+  pub here : (content : ℕ → List ℕ) → Hold told names content (index + 1) → Fact (taken content index) (content index)
+
+-- the words were accepted and the run ended at a file
+pub record EndsAtFile (meaning : Option Command) (before : Outside) (file : ℕ) (Fact : ℕ → List ℕ → Type 0) : Type 0 where
+  pub play : Play
+  pub sizes : Sizes
+  pub accepted : IsAccepted meaning play sizes
+  pub stops : StopsAt before.told play.files file Fact
+
+-- the words were accepted and all files were played
+pub record EndsPlayed (meaning : Option Command) (before : Outside) (Report : List ℕ → Type 0) : Type 0 where
+  pub play : Play
+  pub sizes : Sizes
+  pub accepted : IsAccepted meaning play sizes
+  pub tallies : List Tally
+  pub played : IsPlayed before.told play sizes tallies
+  pub reported : Report (report tallies)
+
+-- the words ask for a play whose numbers have this fault and none before it
+pub record EndsAtShape (meaning : Option Command) (fault : ShapeFault) : Type 0 where
+  pub play : Play
+  pub meant : meaning ≡ Some (PlayCommand play)
+  pub first : IsFirstFault (length play.files) play.batches 0 play.quantum fault
+
+-- nothing was written to the output
+abbrev pub IsUnwritten : Outside → Outside → Type 0
+IsUnwritten before after = after.out ≡ before.out
+
+-- when each ending comes; want of memory may come at any time before the playing
+abbrev pub CauseOf : Option Command → Outside → Outside → Ending → Type 0
+CauseOf meaning before after Done = EndsPlayed meaning before (GrowsBy before.out after.out)
+CauseOf meaning before after Words = (meaning ≡ None) × IsUnwritten before after
+CauseOf meaning before after (Shape fault) = EndsAtShape meaning fault × IsUnwritten before after
+CauseOf meaning before after (Read file) =
+    EndsAtFile meaning before file (λ _ _. Unit {0})
+    × HasRisen before.file_faults after.file_faults × (after.opens ≡ before.opens + file) × IsUnwritten before after
+CauseOf meaning before after (Long file) =
+    EndsAtFile meaning before file (λ others bytes. ¬ IsWithin others bytes) × (after.opens ≡ before.opens + file) × IsUnwritten before after
+CauseOf meaning before after (Line file line) =
+    EndsAtFile meaning before file (λ others bytes. IsWithin others bytes × (bad_line bytes ≡ Some line)) × (after.opens ≡ before.opens + file) × IsUnwritten before after
+CauseOf meaning before after Write =
+    EndsPlayed meaning before (GrowsByPart before.out after.out) × HasRisen before.out_faults after.out_faults
+CauseOf meaning before after Memory = IsUnwritten before after
+
+-- the error sink grew by the line of the ending, or by a part of it where it failed
+abbrev pub IsTold : Option (List ℕ) → Option (List ℕ) → ℕ → ℕ → Ending → Type 0
+IsTold before after faults faults_now ending =
+    GrowsBy before after (line_of ending) ⊎ (GrowsByPart before after (line_of ending) × HasRisen faults faults_now)
+
+-- a run with this status: it had cause to end so, and was told so
+pub record Ends (meaning : Option Command) (before after : Outside) (Told : Ending → Type 0) (status : ℕ) : Type 0 where
+  pub ending : Ending
+  pub cause : CauseOf meaning before after ending
+  pub line : Told ending
+  pub answered : status ≡ status_of ending
+
+-- the words are accepted, all files are told, fine, and none of the outside failed
+pub record IsUnhindered (meaning : Option Command) (before after : Outside) : Type 0 where
+  pub play : Play
+  pub sizes : Sizes
+  pub accepted : IsAccepted meaning play sizes
+  pub content : ℕ → List ℕ
+  pub told : Hold before.told play.files content (length play.files)
+  pub fine : AreFine content (length play.files)
+  pub read : ¬ HasRisen before.file_faults after.file_faults
+  pub written : ¬ HasRisen before.out_faults after.out_faults

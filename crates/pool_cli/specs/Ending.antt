@@ -1,0 +1,40 @@
+-- How a run ends: its status, and its line on the error sink.
+use Rattle.std.specs.Prelude.{ℕ, Result, Ok, Err, List, [], ◌∷◌, codes, decimal}
+use Rattle.command_words.specs.declared.fault.WordsFault.{WordsFault}
+use Rattle.command_words.specs.declared.fault.WordsFault.TheVariants.{Faulty, NoMemory}
+use Rattle.word_layout.specs.Faults.{number_of}
+use Rattle.pool_cli.specs.Pieces.{texts}
+use Rattle.pool_cli.specs.declared.ending.Ending.{Ending}
+use Rattle.pool_cli.specs.declared.ending.Ending.TheVariants.{Done, Words, Shape, Read, Long, Line, Write, Memory}
+
+-- the status of an ending
+abbrev pub status_of : Ending → ℕ
+status_of Done = 0
+status_of Words = 2
+status_of (Shape fault) = 3
+status_of (Read file) = 4
+status_of (Long file) = 5
+status_of (Line file line) = 6
+status_of Write = 7
+status_of Memory = 8
+
+-- the text of an ending on the error sink
+abbrev pub line_of : Ending → List ℕ
+line_of Done = []
+line_of Words = codes "pooltrace: words\n"
+line_of (Shape fault) = texts (codes "pooltrace: shape " ∷ decimal (number_of fault) ∷ codes "\n" ∷ [])
+line_of (Read file) = texts (codes "pooltrace: file " ∷ decimal file ∷ codes " read\n" ∷ [])
+line_of (Long file) = texts (codes "pooltrace: file " ∷ decimal file ∷ codes " long\n" ∷ [])
+line_of (Line file line) = texts (codes "pooltrace: file " ∷ decimal file ∷ codes " line " ∷ decimal line ∷ codes "\n" ∷ [])
+line_of Write = codes "pooltrace: write\n"
+line_of Memory = codes "pooltrace: memory\n"
+
+-- the ending for a fault of the words
+abbrev pub for_words : WordsFault → Ending
+for_words Faulty = Words
+for_words NoMemory = Memory
+
+-- the ending of work that did all, or ended early
+abbrev pub ending_of : Result (Unit {0}) Ending → Ending
+ending_of (Ok done) = Done
+ending_of (Err ending) = ending

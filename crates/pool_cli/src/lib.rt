@@ -1,0 +1,12 @@
+//! The program as one call over any files, sinks and gate: words in, a report and a status out.
+#![tactic(auto)]
+
+mod ending;
+mod pieces;
+mod program;
+mod reading;
+mod report;
+mod tell;
+
+pub use ending::{Ended, Ending};
+pub use program::run;
