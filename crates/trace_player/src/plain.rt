@@ -1,5 +1,5 @@
 // Scripts over a pool for one thread.
-ghost use Rattle.std.specs.Prelude.{◌≡◌, ℕ, ◌^◌, ◌<◌, ◌∷◌, ◌++◌, [], None, List, length, replicate, All, IfOk};
+ghost use Rattle.std.specs.Prelude.{◌≡◌, ℕ, ◌^◌, ◌<◌, ◌≤◌, ◌∷◌, ◌++◌, [], None, List, length, replicate, All, IfOk};
 ghost use Rattle.pool_model.specs.Plain.{Plain};
 ghost use Rattle.mtrace_reader.specs.declared.steps.Step.{Step};
 ghost use Rattle.mtrace_reader.specs.declared.steps.Script.{Script};
@@ -13,7 +13,8 @@ use pool_model::{NoMemory, PlainPool};
 use std::alloc::Global;
 
 /// Plays the scripts on one thread over one plain pool of so many blocks, one after the other: script `k`
-/// by process `k`. Answers their tallies in the same order. Its only error is want of memory.
+/// by process `k`. Answers their tallies in the same order. Its only error is want of memory, which comes
+/// before the first call of the pool.
 pub fn play_plain(alloc: Global, blocks: u32, scripts: &[Script]) -> Result<Vec<Tally>, NoMemory>
     requires few { length scripts.now < 2 ^ 32 }
     requires well_formed { All IsWellFormed scripts.now }
@@ -21,12 +22,34 @@ pub fn play_plain(alloc: Global, blocks: u32, scripts: &[Script]) -> Result<Vec<
 {
     let mut pool = PlainPool::open(alloc, blocks)?;
     let mut tallies = Vec::with_capacity(alloc, scripts.len())?;
+    let mut slots = vec![in alloc; None; most_slots(scripts)]?;
     for (process, script) in scripts.iter().enumerate() {
-        let mut slots = vec![in alloc; None; script.news as usize]?;
-        let tally = play_script(&mut pool, process as u32, script, slots.as_mut_slice());
-        tallies.push(tally)?;
+        let slots = &mut slots[..script.news as usize];
+        empty(slots);
+        let tally = play_script(&mut pool, process as u32, script, slots);
+        tallies.push(tally).unwrap();
     }
     Ok(tallies)
+}
+
+// The most slots that one of the scripts has.
+fn most_slots(scripts: &[Script]) -> usize
+    ensures { All (λ script. script.news ≤ result) scripts.now }
+{
+    let mut most = 0;
+    for script in scripts {
+        most = most.max(script.news as usize);
+    }
+    most
+}
+
+// Empties the slots.
+fn empty(slots: &mut [Option<u32>])
+    ensures { slots.new ≡ replicate (length slots.old) None }
+{
+    for slot in slots.iter_mut() {
+        *slot = None;
+    }
 }
 
 // Plays a script by process `by`. The slots are empty, one for each of the script.
