@@ -33,6 +33,10 @@ pub record Outside : Type 0 where
   pub out : Option (List ℕ)
   pub out_faults : ℕ
 
+-- what is known of the files and of the output
+abbrev pub outside : (List ℕ → Option (List ℕ)) → ℕ → ℕ → Option (List ℕ) → ℕ → Outside
+outside told opens file_faults out out_faults = record { told = told; opens = opens; file_faults = file_faults; out = out; out_faults = out_faults }
+
 -- the first so many names are told to hold these contents
 abbrev pub Hold : (List ℕ → Option (List ℕ)) → List (List ℕ) → (ℕ → List ℕ) → ℕ → Type 0
 Hold told names content count = (j : ℕ) (name : List ℕ) → j < count → slice_get names j ≡ Some name → told name ≡ Some (content j)

@@ -3,7 +3,7 @@ ghost use Rattle.std.specs.Prelude.{◌≡◌, ◌⊎◌, ◌^◌, ◌<◌, Some
 ghost use Rattle.command_words.specs.declared.command.Command.{Command};
 ghost use Rattle.command_words.specs.Meant.{meant};
 ghost use Rattle.pool_cli.specs.Ending.{ending_of};
-ghost use Rattle.pool_cli.specs.Causes.{CauseOf, Ends, IsTold, IsUnhindered};
+ghost use Rattle.pool_cli.specs.Causes.{CauseOf, Ends, IsTold, IsUnhindered, outside};
 ghost use Rattle.pool_cli.specs.Shapes.{IsShapeOf, IsRefused};
 
 use crate::reading::read_files;
@@ -33,13 +33,13 @@ pub fn run<R: Threads + Sync, F: Files, K: Sink, G: Gate + Sync>(
 ) -> Ended
     requires { F.opens files.old < 2 ^ 63 }
     ensures ends { Ends (meant (map string_bytes words.now))
-        (record { told = F.told files.old; opens = F.opens files.old; file_faults = F.faults files.old; out = K.written out.old; out_faults = K.faults out.old })
-        (record { told = F.told files.new; opens = F.opens files.new; file_faults = F.faults files.new; out = K.written out.new; out_faults = K.faults out.new })
+        (outside (F.told files.old) (F.opens files.old) (F.faults files.old) (K.written out.old) (K.faults out.old))
+        (outside (F.told files.new) (F.opens files.new) (F.faults files.new) (K.written out.new) (K.faults out.new))
         (IsTold (K.written err.old) (K.written err.new) (K.faults err.old) (K.faults err.new))
         result.status }
     ensures unhindered { IsUnhindered (meant (map string_bytes words.now))
-        (record { told = F.told files.old; opens = F.opens files.old; file_faults = F.faults files.old; out = K.written out.old; out_faults = K.faults out.old })
-        (record { told = F.told files.new; opens = F.opens files.new; file_faults = F.faults files.new; out = K.written out.new; out_faults = K.faults out.new })
+        (outside (F.told files.old) (F.opens files.old) (F.faults files.old) (K.written out.old) (K.faults out.old))
+        (outside (F.told files.new) (F.opens files.new) (F.faults files.new) (K.written out.new) (K.faults out.new))
         → (result.status ≡ 0) ⊎ (result.status ≡ 8) }
 {
     let _ = rt;
@@ -60,8 +60,8 @@ fn work<F: Files, K: Sink>(
 ) -> Result<(), Ending>
     requires { F.opens files.old < 2 ^ 63 }
     ensures { CauseOf (meant (map string_bytes words.now))
-        (record { told = F.told files.old; opens = F.opens files.old; file_faults = F.faults files.old; out = K.written out.old; out_faults = K.faults out.old })
-        (record { told = F.told files.new; opens = F.opens files.new; file_faults = F.faults files.new; out = K.written out.new; out_faults = K.faults out.new })
+        (outside (F.told files.old) (F.opens files.old) (F.faults files.old) (K.written out.old) (K.faults out.old))
+        (outside (F.told files.new) (F.opens files.new) (F.faults files.new) (K.written out.new) (K.faults out.new))
         (ending_of result) }
 {
     let play = play_of(read_words(alloc, words)?);
@@ -86,8 +86,8 @@ fn play_files<F: Files, K: Sink>(
 ) -> Result<(), Ending>
     requires { F.opens files.old < 2 ^ 63 }
     ensures { (meaning : Option Command) → meaning ≡ Some (Command.Play play.now) → CauseOf meaning
-        (record { told = F.told files.old; opens = F.opens files.old; file_faults = F.faults files.old; out = K.written out.old; out_faults = K.faults out.old })
-        (record { told = F.told files.new; opens = F.opens files.new; file_faults = F.faults files.new; out = K.written out.new; out_faults = K.faults out.new })
+        (outside (F.told files.old) (F.opens files.old) (F.faults files.old) (K.written out.old) (K.faults out.old))
+        (outside (F.told files.new) (F.opens files.new) (F.faults files.new) (K.written out.new) (K.faults out.new))
         (ending_of result) }
 {
     let shape = shape_of(play)?;
