@@ -10,3 +10,6 @@ mod tell;
 
 pub use ending::{Ended, Ending};
 pub use program::run;
+
+#[cfg(test)]
+mod tests;
