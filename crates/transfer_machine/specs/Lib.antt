@@ -1,0 +1,9 @@
+pub mod Loads
+pub mod Stages
+pub mod Tries
+pub mod Machine
+pub mod Pools
+pub mod Words
+pub mod Opening
+pub mod Filling
+pub mod States

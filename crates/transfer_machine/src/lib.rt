@@ -1,0 +1,34 @@
+//! The machine of the transfers of whole batches between private pools and one shared stack.
+//!
+//! Each process moves a batch by announcing its wish and then trying, at most twice, to install a new state
+//! that has every pending wish applied; so a process that stops is helped by the others. The design follows
+//! Blelloch and Wei (2020) for the pools, and the helping of Fatourou and Kallimanis (P-Sim, 2011).
+//!
+//! The machine is pure data. A [`ProcessView`] is what one process knows. Its [`Action`] names the one word
+//! that its next step is on; `meet` says what the view becomes once that step met a word; [`step_words`]
+//! makes the whole step on a list of words. `specs/` has the definitions that these are proved equal to.
+#![tactic(auto)]
+
+mod action;
+mod heads;
+mod kind;
+mod loaded;
+mod opening;
+mod stage;
+mod step;
+#[cfg(test)]
+mod tests;
+mod transfer;
+mod try_plan;
+mod view;
+
+pub use action::Action;
+pub use heads::Heads;
+pub use kind::Kind;
+pub use loaded::Loaded;
+pub use opening::opening_words;
+pub use stage::{NextStep, Phase, Stage};
+pub use step::{can_step, step_transfer, step_words};
+pub use transfer::TransferView;
+pub use try_plan::TryPlan;
+pub use view::{PoolView, ProcessView, begin_transfer};
