@@ -6,4 +6,6 @@ pub mod Pools
 pub mod Words
 pub mod Opening
 pub mod Filling
+pub mod Planned
+pub mod NextStates
 pub mod States

@@ -12,6 +12,7 @@
 mod action;
 mod heads;
 mod kind;
+pub mod laws;
 mod loaded;
 mod opening;
 mod stage;

@@ -1,0 +1,250 @@
+-- the kept plan is that of the loaded words
+use Rattle.std.proofs.Common.{◌≡◌, ◌≢◌, ℕ, zero, suc, ◌+◌, ◌-◌, ◌<◌, ◌≤◌, ◌==◌, Bool, true, false, refl, sym, ◌∙◌, ap, subst, inl, inr, arith, add-one, List, length, get_or, set, get_or-set_same, get_or-set_other, length-set}
+use Rattle.std.specs.Prelude.{slice_set, if◌then◌else◌, nat_lt, ◌&&◌}
+use Rattle.std.proofs.lemmas.Bool.{cases_eq, cases_lt}
+use Rattle.std.proofs.lemmas.Bool.Decides.{nat_tests}
+use Rattle.std.proofs.lemmas.List.{length-replicate}
+use Rattle.word_layout.specs.Sizes.{Sizes}
+use Rattle.word_layout.specs.Names.{record_words}
+use Rattle.word_layout.specs.Packing.{value_of, tag_of, reply_value}
+use Rattle.word_layout.specs.declared.reply.Reply.{Reply}
+use Rattle.word_layout.specs.declared.announced.Wish.{Wish}
+use Rattle.word_layout.specs.declared.announced.Wish.TheVariants.{Take, Give}
+use Rattle.transfer_machine.specs.Loads.{popped_head, loaded_reply, loaded_tag, overlay_length}
+use Rattle.transfer_machine.specs.Tries.{begun_plan, after_announcement, granted, replied, wish_reply, take_reply, announced_wish, pops_slot, is_pending, is_odd_transfer, is_take, takes_from_slot}
+use Rattle.transfer_machine.specs.Planned.{planned, SamePlan, HasRoom, PlansLoaded, PlansLoadedAt, StepsKeepPlan}
+use Rattle.transfer_machine.specs.Machine.{met_at, CanMeetAt, after_heard, after_slot, after_record, try_ended, installed, record_word_loaded, popped_loaded}
+use Rattle.transfer_machine.specs.declared.loaded.Loaded.{Loaded}
+use Rattle.transfer_machine.specs.declared.try_plan.TryPlan.{TryPlan}
+use Rattle.transfer_machine.specs.declared.transfer.TransferView.{TransferView}
+use Rattle.transfer_machine.specs.declared.stage.NextStep.{NextStep}
+use Rattle.transfer_machine.specs.declared.stage.NextStep.TheVariants.{Rest, Announce, LoadState, LoadRecordWord, LoadCoveredSlot, ExchangeSlot, LoadAnnouncement, LoadPoppedSlot, StoreRecordWord, ExchangeState, LoadFinalState, LoadReply}
+
+-- lists that agree below a place go on so once both have one value there
+set_both : (xs ys : List ℕ) (n x y k : ℕ) → n < length xs → n < length ys → x ≡ y → ((j : ℕ) → j < n → get_or xs j 0 ≡ get_or ys j 0) → k < n + 1 → get_or (set xs n x) k 0 ≡ get_or (set ys n y) k 0
+set_both xs ys n x y k hx hy e same lt = elim (cases_eq k n) [
+  | inl at ↦ rw (at, e) (get_or-set_same xs n y 0 hx ∙ sym (get_or-set_same ys n y 0 hy))
+  | inr apart ↦ get_or-set_other xs n k x 0 apart ∙ same k (omega arith) ∙ sym (get_or-set_other ys n k y 0 apart)
+]
+
+-- a wish is granted alike
+granted_base : (wish : Wish) (n : ℕ) (kept plan : TryPlan) → SamePlan n kept plan → (granted wish kept).base ≡ (granted wish plan).base
+granted_base Take n kept plan h = grind (arith, nat_tests, h.base, h.overlay)
+granted_base (Give head) n kept plan h = h.base
+
+granted_overlay : (wish : Wish) (n : ℕ) (kept plan : TryPlan) → SamePlan n kept plan → (granted wish kept).overlay ≡ (granted wish plan).overlay
+granted_overlay Take n kept plan h = grind (arith, nat_tests, h.base, h.overlay)
+granted_overlay (Give head) n kept plan h = ap (λ m. m + 1) h.overlay
+
+granted_heads : (wish : Wish) (n : ℕ) (kept plan : TryPlan) → SamePlan n kept plan → length kept.heads ≡ 32 → length plan.heads ≡ 32 → plan.overlay < 32 → (k : ℕ) → k < (granted wish plan).overlay → get_or (granted wish kept).heads k 0 ≡ get_or (granted wish plan).heads k 0
+granted_heads Take n kept plan h lk lp o k lt = grind (arith, nat_tests, h.heads, h.overlay)
+granted_heads (Give head) n kept plan h lk lp o k lt =
+    rw h.overlay (set_both kept.heads plan.heads plan.overlay head head k (omega arith) (omega arith) refl h.heads lt)
+
+pub granted_replies : (wish : Wish) (plan : TryPlan) → (granted wish plan).replies ≡ plan.replies
+granted_replies Take plan = grind (arith, nat_tests)
+granted_replies (Give head) plan = refl
+
+-- and answered alike
+same_answer : (loaded : Loaded) (popped : ℕ) (wish : Wish) (n : ℕ) (kept plan : TryPlan) → SamePlan n kept plan → wish_reply loaded popped kept wish ≡ wish_reply loaded popped plan wish
+same_answer loaded popped Take n kept plan h = elim (cases_lt 0 plan.overlay) [
+  | inl some ↦ (let last : get_or kept.heads (plan.overlay - 1) 0 ≡ get_or plan.heads (plan.overlay - 1) 0 = h.heads (plan.overlay - 1) (omega arith) in rw (h.base, h.overlay, last) refl)
+  | inr none ↦ grind (arith, nat_tests, h.base, h.overlay)
+]
+same_answer loaded popped (Give head) n kept plan h = refl
+
+granted_same : (wish : Wish) (n : ℕ) (kept plan : TryPlan) → SamePlan n kept plan → length kept.heads ≡ 32 → length plan.heads ≡ 32 → plan.overlay < 32 → SamePlan n (granted wish kept) (granted wish plan)
+granted_same wish n kept plan h lk lp o = record {
+  base = granted_base wish n kept plan h;
+  overlay = granted_overlay wish n kept plan h;
+  heads = granted_heads wish n kept plan h lk lp o;
+  replies = λ i lt. rw (granted_replies wish kept, granted_replies wish plan) (h.replies i lt);
+}
+
+-- one more reply is noted alike
+replied_same : (n x y : ℕ) (kept plan : TryPlan) → SamePlan n kept plan → length kept.replies ≡ 32 → length plan.replies ≡ 32 → n < 32 → x ≡ y → SamePlan (n + 1) (replied n x kept) (replied n y plan)
+replied_same n x y kept plan h lk lp lt e = record {
+  base = h.base;
+  overlay = h.overlay;
+  heads = h.heads;
+  replies = λ i below. set_both kept.replies plan.replies n x y i (omega arith) (omega arith) e h.replies below;
+}
+
+after_cases : (b : Bool) (n x y old : ℕ) (kept plan kept_granted plan_granted : TryPlan) → SamePlan n kept plan → SamePlan n kept_granted plan_granted
+    → length kept.replies ≡ 32 → length plan.replies ≡ 32 → length kept_granted.replies ≡ 32 → length plan_granted.replies ≡ 32 → n < 32 → x ≡ y
+    → SamePlan (n + 1) (if b then replied n x kept_granted else replied n old kept) (if b then replied n y plan_granted else replied n old plan)
+after_cases true n x y old kept plan kg pg h g lk lp lkg lpg lt e = replied_same n x y kg pg g lkg lpg lt e
+after_cases false n x y old kept plan kg pg h g lk lp lkg lpg lt e = replied_same n old old kept plan h lk lp lt refl
+
+-- one more announcement is applied alike
+applied_same : (processes : ℕ) (loaded : Loaded) (process word popped : ℕ) (kept plan : TryPlan) → SamePlan process kept plan → length kept.heads ≡ 32 → length plan.heads ≡ 32 → length kept.replies ≡ 32 → length plan.replies ≡ 32 → plan.overlay < 32 → process < 32
+    → SamePlan (process + 1) (after_announcement processes loaded process word popped kept) (after_announcement processes loaded process word popped plan)
+applied_same processes loaded process word popped kept plan h lk lp rk rp o lt =
+    after_cases (is_pending word (loaded_reply processes loaded process)) process
+    (reply_value (is_odd_transfer word) (wish_reply loaded popped kept (announced_wish word))) (reply_value (is_odd_transfer word) (wish_reply loaded popped plan (announced_wish word))) (loaded_reply processes loaded process)
+    kept plan (granted (announced_wish word) kept) (granted (announced_wish word) plan) h (granted_same (announced_wish word) process kept plan h lk lp o) rk rp
+    (ap length (granted_replies (announced_wish word) kept) ∙ rk) (ap length (granted_replies (announced_wish word) plan) ∙ rp) lt
+    (ap (reply_value (is_odd_transfer word)) (same_answer loaded popped (announced_wish word) process kept plan h))
+
+-- what an announcement leaves of the room and the overlay
+granted_room : (wish : Wish) (plan : TryPlan) → length (granted wish plan).heads ≡ length plan.heads
+granted_room Take plan = grind (arith, nat_tests)
+granted_room (Give head) plan = length-set plan.heads plan.overlay head
+
+granted_few : (wish : Wish) (plan : TryPlan) → (granted wish plan).overlay ≤ plan.overlay + 1
+granted_few Take plan = grind (arith, nat_tests)
+granted_few (Give head) plan = omega arith
+
+either_room : (b : Bool) (n x y m : ℕ) (one other : TryPlan) → length one.heads ≡ m → length other.heads ≡ m → length (if b then replied n x one else replied n y other).heads ≡ m
+either_room true n x y m one other h k = h
+either_room false n x y m one other h k = k
+
+either_replies : (b : Bool) (n x y m : ℕ) (one other : TryPlan) → length one.replies ≡ m → length other.replies ≡ m → length (if b then replied n x one else replied n y other).replies ≡ m
+either_replies true n x y m one other h k = length-set one.replies n x ∙ h
+either_replies false n x y m one other h k = length-set other.replies n y ∙ k
+
+either_few : (b : Bool) (n x y m : ℕ) (one other : TryPlan) → one.overlay ≤ m → other.overlay ≤ m → (if b then replied n x one else replied n y other).overlay ≤ m
+either_few true n x y m one other h k = h
+either_few false n x y m one other h k = k
+
+-- the plan of the loaded words has its room, and at most one head for each announcement
+pub planned_room : (processes : ℕ) (loaded : Loaded) (k : ℕ) → length (planned processes loaded k).heads ≡ 32
+unfolding planned
+planned_room processes loaded zero = length-replicate {A = ℕ} 32 0
+planned_room processes loaded (suc k) = either_room (is_pending (get_or loaded.announcements k 0) (loaded_reply processes loaded k)) k _ _ 32 _ _ (granted_room _ (planned processes loaded k) ∙ planned_room processes loaded k) (planned_room processes loaded k)
+
+pub planned_replies : (processes : ℕ) (loaded : Loaded) (k : ℕ) → length (planned processes loaded k).replies ≡ 32
+unfolding planned
+planned_replies processes loaded zero = length-replicate {A = ℕ} 32 0
+planned_replies processes loaded (suc k) = either_replies (is_pending (get_or loaded.announcements k 0) (loaded_reply processes loaded k)) k _ _ 32 _ _ (ap length (granted_replies _ (planned processes loaded k)) ∙ planned_replies processes loaded k) (planned_replies processes loaded k)
+
+pub planned_few : (processes : ℕ) (loaded : Loaded) (k : ℕ) → (planned processes loaded k).overlay ≤ k
+unfolding planned
+planned_few processes loaded zero = omega arith
+planned_few processes loaded (suc k) = either_few (is_pending (get_or loaded.announcements k 0) (loaded_reply processes loaded k)) k _ _ (suc k) _ _ (omega (arith, granted_few (announced_wish (get_or loaded.announcements k 0)) (planned processes loaded k), planned_few processes loaded k)) (omega (arith, planned_few processes loaded k))
+
+-- the plan reads the loaded record, and no more announcements and popped slots than it applies
+planned_reads : (processes : ℕ) (loaded other : Loaded) (k : ℕ) → loaded.record_words ≡ other.record_words → ((j : ℕ) → j < k → get_or loaded.announcements j 0 ≡ get_or other.announcements j 0) → ((j : ℕ) → j < k → get_or loaded.popped j 0 ≡ get_or other.popped j 0)
+    → planned processes loaded k ≡ planned processes other k
+unfolding planned
+planned_reads processes loaded other zero e a b = rw e refl
+planned_reads processes loaded other (suc k) e a b = rw (e, a k (omega arith), b k (omega arith), planned_reads processes loaded other k e (λ j lt. a j (omega arith)) (λ j lt. b j (omega arith))) refl
+
+below_apart : (j n : ℕ) → j < n → j ≢ n
+below_apart j n lt e = absurd (omega arith)
+
+-- the view after an announcement, by whether it waits for its slot
+abbrev announcement_met : Sizes → ℕ → ℕ → Bool → TransferView → TransferView
+announcement_met sizes process word b v =
+    if b
+    then record v { loaded = record v.loaded { announcements = slice_set v.loaded.announcements process word }; next = LoadPoppedSlot process }
+    else record v { loaded = record v.loaded { announcements = slice_set v.loaded.announcements process word }; next = after_heard sizes process; plan = after_announcement sizes.processes v.loaded process word 0 v.plan }
+
+unpopped_take : (loaded : Loaded) (x y : ℕ) (plan : TryPlan) → takes_from_slot loaded plan ≡ false → take_reply loaded x plan ≡ take_reply loaded y plan
+unpopped_take loaded x y plan h = grind (arith, nat_tests)
+
+unpopped_wish : (loaded : Loaded) (process old x y : ℕ) (answer : Reply → ℕ) (plan : TryPlan) (wish : Wish) (b : Bool) → (b && (is_take wish && takes_from_slot loaded plan)) ≡ false
+    → (if b then replied process (answer (wish_reply loaded x plan wish)) (granted wish plan) else replied process old plan) ≡ (if b then replied process (answer (wish_reply loaded y plan wish)) (granted wish plan) else replied process old plan)
+unpopped_wish loaded process old x y answer plan wish false h = refl
+unpopped_wish loaded process old x y answer plan (Give head) true h = refl
+unpopped_wish loaded process old x y answer plan Take true h = ap (λ reply. replied process (answer reply) (granted Take plan)) (unpopped_take loaded x y plan h)
+
+-- a batch that isn't loaded from a slot is answered without what was popped
+unpopped : (processes : ℕ) (loaded : Loaded) (process word x y : ℕ) (plan : TryPlan) → pops_slot processes loaded process word plan ≡ false
+    → after_announcement processes loaded process word x plan ≡ after_announcement processes loaded process word y plan
+unpopped processes loaded process word x y plan h = unpopped_wish loaded process (loaded_reply processes loaded process) x y (reply_value (is_odd_transfer word)) plan (announced_wish word) (is_pending word (loaded_reply processes loaded process)) h
+
+-- the plan begins as that of the loaded record
+begun_same : (processes : ℕ) (loaded : Loaded) (kept : TryPlan) → SamePlan 0 (begun_plan loaded kept) (planned processes loaded 0)
+unfolding planned
+begun_same processes loaded kept = record { base = refl; overlay = refl; heads = λ k lt. absurd (omega arith); replies = λ i lt. absurd (omega arith) }
+
+-- one more announcement
+planned_more : (processes : ℕ) (loaded : Loaded) (k : ℕ) → planned processes loaded (k + 1) ≡ after_announcement processes loaded k (get_or loaded.announcements k 0) (popped_head loaded k) (planned processes loaded k)
+unfolding planned
+planned_more processes loaded k = rw add-one refl
+
+-- the plan after one more announcement, where the words before it are those of another view of the same try
+heard_same : (processes : ℕ) (loaded other : Loaded) (process word popped : ℕ) (kept : TryPlan) → SamePlan process kept (planned processes loaded process) → length kept.heads ≡ 32 → length kept.replies ≡ 32 → process < 32
+    → loaded.record_words ≡ other.record_words → ((j : ℕ) → j < process → get_or loaded.announcements j 0 ≡ get_or other.announcements j 0) → ((j : ℕ) → j < process → get_or loaded.popped j 0 ≡ get_or other.popped j 0)
+    → get_or other.announcements process 0 ≡ word → popped_head other process ≡ popped → SamePlan (process + 1) (after_announcement processes loaded process word popped kept) (planned processes other (process + 1))
+heard_same processes loaded other process word popped kept h room replies lt e a b here taken =
+    rw (planned_more processes other process, here, taken, sym (planned_reads processes loaded other process e a b), sym e)
+    (applied_same processes loaded process word popped kept (planned processes loaded process) h room (planned_room processes loaded process) replies (planned_replies processes loaded process) (omega (arith, planned_few processes loaded process)) lt)
+
+-- what follows leaves the plan
+kept_after_heard : (sizes : Sizes) (v : TransferView) (process : ℕ) → SamePlan (process + 1) v.plan (planned sizes.processes v.loaded (process + 1)) → PlansLoadedAt sizes v (after_heard sizes process)
+kept_after_heard sizes v process h = elim (cases_eq (process + 1) sizes.processes) [
+  | inl last ↦ (let test : (process + 1 == sizes.processes) ≡ true = grind (arith, nat_tests) in rw test (subst (λ n. SamePlan n v.plan (planned sizes.processes v.loaded n)) last h))
+  | inr more ↦ (let test : (process + 1 == sizes.processes) ≡ false = grind (arith, nat_tests) in rw test h)
+]
+
+kept_after_slot : (sizes : Sizes) (v : TransferView) (b : Bool) (offset : ℕ) → SamePlan 0 v.plan (planned sizes.processes v.loaded 0) → PlansLoadedAt sizes v (if b then LoadAnnouncement 0 else LoadCoveredSlot offset)
+kept_after_slot sizes v true offset h = h
+kept_after_slot sizes v false offset h = h
+
+kept_after_try : (sizes : Sizes) (v : TransferView) (b : Bool) → PlansLoadedAt sizes v (if b then LoadState else LoadFinalState)
+kept_after_try sizes v true = tt
+kept_after_try sizes v false = tt
+
+kept_after_stored : (sizes : Sizes) (v : TransferView) (b : Bool) (index : ℕ) → SamePlan sizes.processes v.plan (planned sizes.processes v.loaded sizes.processes) → PlansLoadedAt sizes v (if b then ExchangeState else StoreRecordWord index)
+kept_after_stored sizes v true index h = h
+kept_after_stored sizes v false index h = h
+
+-- a fact of either of two views holds of the one that is chosen
+either : (sizes : Sizes) (b : Bool) (one other : TransferView) → PlansLoaded sizes one → PlansLoaded sizes other → PlansLoaded sizes (if b then one else other)
+either sizes true one other h k = h
+either sizes false one other h k = k
+
+record_word_kept : (sizes : Sizes) (v : TransferView) (index : ℕ) (loaded : Loaded) → PlansLoaded sizes (record_word_loaded sizes index loaded v)
+record_word_kept sizes v index loaded =
+    either sizes (index + 1 == record_words sizes) (record v { loaded = loaded; next = after_record loaded; plan = begun_plan loaded v.plan }) (record v { loaded = loaded; next = LoadRecordWord (index + 1) })
+    (kept_after_slot sizes (record v { loaded = loaded; next = after_record loaded; plan = begun_plan loaded v.plan }) (overlay_length loaded == 0) 0 (begun_same sizes.processes loaded v.plan)) tt
+
+slot_kept : (sizes : Sizes) (v : TransferView) (b : Bool) (offset : ℕ) → SamePlan 0 v.plan (planned sizes.processes v.loaded 0) → PlansLoadedAt sizes v (if b then ExchangeSlot offset else after_slot v.loaded offset)
+slot_kept sizes v true offset h = h
+slot_kept sizes v false offset h = kept_after_slot sizes v (offset + 1 == overlay_length v.loaded) (offset + 1) h
+
+same_none : (processes : ℕ) (loaded other : Loaded) (kept : TryPlan) → loaded.record_words ≡ other.record_words → SamePlan 0 kept (planned processes loaded 0) → SamePlan 0 kept (planned processes other 0)
+same_none processes loaded other kept e h = subst (SamePlan 0 kept) (planned_reads processes loaded other 0 e (λ j lt. absurd (omega arith)) (λ j lt. absurd (omega arith))) h
+
+-- the announcement that waits for its slot
+waiting_kept : (sizes : Sizes) (v : TransferView) (process word : ℕ) → SamePlan process v.plan (planned sizes.processes v.loaded process) → SamePlan process v.plan (planned sizes.processes (record v.loaded { announcements = slice_set v.loaded.announcements process word }) process)
+waiting_kept sizes v process word h =
+    subst (SamePlan process v.plan) (planned_reads sizes.processes v.loaded (record v.loaded { announcements = slice_set v.loaded.announcements process word }) process refl (λ j lt. sym (get_or-set_other v.loaded.announcements process j word 0 (below_apart j process lt))) (λ j lt. refl)) h
+
+announcement_kept : (sizes : Sizes) (v : TransferView) (process word : ℕ) (b : Bool) → pops_slot sizes.processes v.loaded process word v.plan ≡ b → HasRoom v → process < 32 → SamePlan process v.plan (planned sizes.processes v.loaded process) → PlansLoaded sizes (announcement_met sizes process word b v)
+announcement_kept sizes v process word true e room lt h = waiting_kept sizes v process word h
+announcement_kept sizes v process word false e room lt h =
+    kept_after_heard sizes (announcement_met sizes process word false v) process
+    (rw (unpopped sizes.processes v.loaded process word 0 (popped_head v.loaded process) v.plan e)
+    (heard_same sizes.processes v.loaded (record v.loaded { announcements = slice_set v.loaded.announcements process word }) process word (popped_head v.loaded process) v.plan h room.heads room.replies lt refl
+    (λ j below. sym (get_or-set_other v.loaded.announcements process j word 0 (below_apart j process below))) (λ j below. refl)
+    (get_or-set_same v.loaded.announcements process word 0 (omega (arith, room.announcements))) refl))
+
+popped_kept : (sizes : Sizes) (v : TransferView) (process word : ℕ) → HasRoom v → process < 32 → SamePlan process v.plan (planned sizes.processes v.loaded process) → PlansLoaded sizes (popped_loaded sizes process word v)
+popped_kept sizes v process word room lt h =
+    kept_after_heard sizes (popped_loaded sizes process word v) process
+    (heard_same sizes.processes v.loaded (record v.loaded { popped = slice_set v.loaded.popped process word }) process (get_or v.loaded.announcements process 0) (value_of word) v.plan h room.heads room.replies lt refl
+    (λ j below. refl) (λ j below. sym (get_or-set_other v.loaded.popped process j word 0 (below_apart j process below)))
+    refl (ap value_of (get_or-set_same v.loaded.popped process word 0 (omega (arith, room.popped)))))
+
+keeps_at : (sizes : Sizes) (v : TransferView) (word : ℕ) (next : NextStep) → v.next ≡ next → HasRoom v → CanMeetAt sizes v word next → PlansLoadedAt sizes v next → PlansLoaded sizes (met_at sizes v word next)
+keeps_at sizes v word Rest e room can h = subst (PlansLoadedAt sizes v) (sym e) tt
+keeps_at sizes v word Announce e room can h = tt
+keeps_at sizes v word LoadState e room can h = tt
+keeps_at sizes v word (LoadRecordWord index) e room can h =
+    either sizes (nat_lt (loaded_tag v.loaded) (tag_of word)) (try_ended v) (record_word_loaded sizes index (record v.loaded { record_words = slice_set v.loaded.record_words index word }) v) (kept_after_try sizes (try_ended v) (v.turn == 1)) (record_word_kept sizes v index (record v.loaded { record_words = slice_set v.loaded.record_words index word }))
+keeps_at sizes v word (LoadCoveredSlot offset) e room can h =
+    slot_kept sizes (met_at sizes v word (LoadCoveredSlot offset)) (nat_lt (tag_of word) (loaded_tag v.loaded)) offset (same_none sizes.processes v.loaded (record v.loaded { slots = slice_set v.loaded.slots offset word }) v.plan refl h)
+keeps_at sizes v word (ExchangeSlot offset) e room can h = kept_after_slot sizes (met_at sizes v word (ExchangeSlot offset)) (offset + 1 == overlay_length v.loaded) (offset + 1) h
+keeps_at sizes v word (LoadAnnouncement process) e room can h = announcement_kept sizes v process word (pops_slot sizes.processes v.loaded process word v.plan) refl room (omega (arith, can.few, can.among)) h
+keeps_at sizes v word (LoadPoppedSlot process) e room can h = popped_kept sizes v process word room (omega (arith, can.few, can.among)) h
+keeps_at sizes v word (StoreRecordWord index) e room can h = kept_after_stored sizes (met_at sizes v word (StoreRecordWord index)) (index + 1 == record_words sizes) (index + 1) h
+keeps_at sizes v word ExchangeState e room can h = either sizes (word == v.loaded.state) (installed v) (try_ended v) tt (kept_after_try sizes (try_ended v) (v.turn == 1))
+keeps_at sizes v word LoadFinalState e room can h = tt
+keeps_at sizes v word LoadReply e room can h = tt
+
+-- every step keeps the plan
+pub steps_keep_plan : StepsKeepPlan
+steps_keep_plan sizes v word room act can h = keeps_at sizes v word v.next refl room can h
