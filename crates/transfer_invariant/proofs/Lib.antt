@@ -1,0 +1,9 @@
+pub mod Changes
+pub mod Stable
+pub mod Own
+pub mod Steps
+pub mod Stages
+pub mod Writes
+pub mod Acts
+pub mod Keeps
+pub mod Opened

@@ -1,0 +1,150 @@
+-- the steps that store a record word, and that install a state
+use Rattle.std.proofs.Common.{◌≡◌, ℕ, ◌+◌, ◌-◌, ◌<◌, ◌≤◌, ◌==◌, true, false, refl, inl, inr, arith, length, get_or}
+use Rattle.std.specs.Prelude.{if◌then◌else◌, nat_lt}
+use Rattle.std.proofs.lemmas.Bool.{cases_eq}
+use Rattle.std.proofs.lemmas.Bool.Decides.{nat_tests}
+use Rattle.word_layout.specs.Sizes.{Sizes}
+use Rattle.word_layout.specs.Names.{record_words}
+use Rattle.transfer_machine.specs.Loads.{loaded_tag}
+use Rattle.transfer_machine.specs.declared.transfer.TransferView.{TransferView}
+use Rattle.transfer_machine.specs.declared.stage.NextStep.TheVariants.{StoreRecordWord, ExchangeState}
+use Rattle.transfer_invariant.specs.Memory.{Words, Views, States, Moved, state_tag, state_value}
+use Rattle.transfer_invariant.specs.Progress.{has_loaded, loaded_words}
+use Rattle.transfer_invariant.specs.Records.{StatesFit, LoadedState, OwnerWentOn}
+use Rattle.transfer_invariant.specs.Invariant.{Invariant}
+use Rattle.transfer_invariant.proofs.Stable.{stay_states}
+use Rattle.transfer_invariant.proofs.Own.{GoesOn, goes_loaded, goes_from, goes_to}
+use Rattle.word_layout.specs.Sizes.{blocks}
+use Rattle.transfer_machine.specs.Tries.{planned_value, is_pending}
+use Rattle.transfer_machine.specs.Machine.{after_stored, installed}
+use Rattle.transfer_machine.specs.States.{StackState}
+use Rattle.transfer_invariant.specs.Laws.{PlanFits}
+use Rattle.transfer_invariant.proofs.Changes.{WordStored, StateInstalled}
+use Rattle.transfer_invariant.proofs.Stable.{store_current, store_tags, store_own, store_loaded, install_current, install_tags, install_own, install_loaded}
+use Rattle.transfer_invariant.proofs.Own.{stores_loaded, store_own_view, install_own_view, install_to}
+use Rattle.transfer_invariant.proofs.Steps.{assemble, within}
+
+-- a record word is stored
+pub store_step : (sizes : Sizes) (m n : Words) (views after : Views) (states : States) (i index : ℕ) → i < sizes.processes → Invariant sizes m views states → (views i).next ≡ StoreRecordWord index
+    → WordStored sizes m n (views i).next_record index (loaded_tag (views i).loaded + 1) (planned_value sizes.processes (views i).plan index)
+    → Moved i (record (views i) { next = after_stored sizes index }) views after → Invariant sizes n after states
+store_step sizes m n views after states i index li inv e s moved =
+    let v = views i in
+    let x = record v { next = after_stored sizes index } in
+    let tag = loaded_tag v.loaded + 1 in
+    let value = planned_value sizes.processes v.plan index in
+    let own = inv.own i li in
+    let loaded = inv.loaded i li in
+    let low : index < record_words sizes = rw e at own.index in
+    let tried : v.installed ≤ loaded_tag v.loaded = own.tried (rw e refl) in
+    let past : loaded_tag v.loaded ≤ state_tag m = loaded.past (rw e refl) in
+    let below : v.installed < tag = omega arith in
+    let g : GoesOn v x = within v x (rw e refl) refl refl refl in
+    let loads : (w : TransferView) → LoadedState sizes m states w → OwnerWentOn w v → LoadedState sizes n states w = λ w h o. store_loaded sizes m n states index tag value v w h o below low s in
+    assemble sizes n views after states i x moved (record {
+      current = store_current sizes m n states i index tag value v own inv.current s;
+      states_fit = stay_states sizes m n states inv.states_fit s.state;
+      tags_below = store_tags sizes m n v.next_record index tag value inv.tags_below (omega arith) s;
+      own = store_own_view sizes m n i index v li own e low s;
+      loaded = goes_loaded sizes n states v x (loads v loaded (inv.owners i i li li)) g loaded.room (λ k lt. loaded.loaded k (rw e (rw (stores_loaded sizes index) at lt)));
+      others_own = λ o lo ne. store_own sizes m n i o index tag value v (views o) lo own (inv.own o lo) ne s;
+      others_loaded = λ o lo ne. loads (views o) (inv.loaded o lo) (inv.owners o i lo li);
+      from = λ o lo ne. goes_from v x (views o) (inv.owners i o li lo) g;
+      into = λ o lo ne. goes_to v x (views o) (inv.owners o i lo li) g;
+      self = goes_to v x x (goes_from v x v (inv.owners i i li li) g) g;
+      rest = λ a o la lo na no. inv.owners a o la lo;
+    })
+
+-- the state that a view planned
+pub planned_state : StackState → TransferView → StackState
+planned_state s v = record {
+  base = v.plan.base;
+  height = v.plan.base + v.plan.overlay;
+  content = λ place. if nat_lt place v.plan.base then s.content place else get_or v.plan.heads (place - v.plan.base) 0;
+  reply = λ o. get_or v.plan.replies o 0;
+  applied = λ o. if is_pending (get_or v.loaded.announcements o 0) (s.reply o) then s.applied o + 1 else s.applied o;
+}
+
+-- its words are the planned ones
+planned_words : (processes : ℕ) (s : StackState) (v : TransferView) (k : ℕ) → state_value processes (planned_state s v) k ≡ planned_value processes v.plan k
+unfolding planned_state state_value
+planned_words processes s v k =
+    let over : v.plan.base + v.plan.overlay - v.plan.base ≡ v.plan.overlay = omega arith in
+    let place : v.plan.base + (k - 2) - v.plan.base ≡ k - 2 = omega arith in
+    let above : nat_lt (v.plan.base + (k - 2)) v.plan.base ≡ false = grind (arith, nat_tests) in
+    rw (over, above, place) refl
+
+planned_heads : (sizes : Sizes) (s : StackState) (v : TransferView) (place : ℕ) → PlanFits sizes v.plan → v.plan.base ≤ place → place < v.plan.base + v.plan.overlay → (planned_state s v).content place < blocks sizes
+unfolding planned_state
+planned_heads sizes s v place fits ge lt =
+    let above : nat_lt place v.plan.base ≡ false = grind (arith, nat_tests) in
+    rw above (fits.heads (place - v.plan.base) (omega arith))
+
+planned_tall : (sizes : Sizes) (s : StackState) (v : TransferView) → PlanFits sizes v.plan → (planned_state s v).height ≤ (planned_state s v).base + sizes.processes
+unfolding planned_state
+planned_tall sizes s v fits = let o = fits.overlay in omega arith
+
+planned_within : (sizes : Sizes) (s : StackState) (v : TransferView) → PlanFits sizes v.plan → (planned_state s v).height ≤ sizes.batches
+unfolding planned_state
+planned_within sizes s v fits = fits.within
+
+planned_heads_low : (sizes : Sizes) (s : StackState) (v : TransferView) → PlanFits sizes v.plan → (place : ℕ) → (planned_state s v).base ≤ place → place < (planned_state s v).height → (planned_state s v).content place < blocks sizes
+unfolding planned_state
+planned_heads_low sizes s v fits place ge lt = planned_heads sizes s v place fits ge lt
+
+-- the states with one more
+pub with_state : ℕ → StackState → States → States
+with_state number new states m = if m == number then new else states m
+
+pub with_state_here : (number : ℕ) (new : StackState) (states : States) → with_state number new states number ≡ new
+unfolding with_state
+with_state_here number new states = let test : (number == number) ≡ true = grind (arith, nat_tests) in rw test refl
+
+pub with_state_below : (last : ℕ) (new : StackState) (states : States) (m : ℕ) → m ≤ last → with_state (last + 1) new states m ≡ states m
+unfolding with_state
+with_state_below last new states m le = let test : (m == last + 1) ≡ false = grind (arith, nat_tests) in rw test refl
+
+-- every state fits, and so does the new one
+states_fit_more : (sizes : Sizes) (m n : Words) (states later : States) (new : StackState) → StatesFit sizes m states → state_tag n ≡ state_tag m + 1 → later (state_tag m + 1) ≡ new → ((t : ℕ) → t ≤ state_tag m → later t ≡ states t)
+    → new.height ≤ new.base + sizes.processes → new.height ≤ sizes.batches → ((place : ℕ) → new.base ≤ place → place < new.height → new.content place < blocks sizes) → StatesFit sizes n later
+states_fit_more sizes m n states later new h et hit same tall within heads = record {
+  overlay = λ t some le. elim (cases_eq t (state_tag m + 1)) [ inl e ↦ rw (e, hit) tall | inr ne ↦ rw (same t (omega (arith, et))) (h.overlay t some (omega (arith, et))) ];
+  within = λ t some le. elim (cases_eq t (state_tag m + 1)) [ inl e ↦ rw (e, hit) within | inr ne ↦ rw (same t (omega (arith, et))) (h.within t some (omega (arith, et))) ];
+  heads = λ t place some le ge lt. elim (cases_eq t (state_tag m + 1)) [
+    | inl e ↦ rw (e, hit) (heads place (rw (e, hit) at ge) (rw (e, hit) at lt))
+    | inr ne ↦ let eq = same t (omega (arith, et)) in rw eq (h.heads t place some (omega (arith, et)) (rw eq at ge) (rw eq at lt))
+  ];
+}
+
+-- a state is installed, by a view that loaded the present one
+pub install_step : (sizes : Sizes) (m n : Words) (views after : Views) (states : States) (i : ℕ) → i < sizes.processes → Invariant sizes m views states → (views i).next ≡ ExchangeState → loaded_tag (views i).loaded ≡ state_tag m → PlanFits sizes (views i).plan
+    → StateInstalled sizes m n (loaded_tag (views i).loaded + 1) (views i).next_record → Moved i (installed (views i)) views after
+    → Invariant sizes n after (with_state (state_tag m + 1) (planned_state (states (state_tag m)) (views i)) states)
+install_step sizes m n views after states i li inv e now fits s moved =
+    let v = views i in
+    let x = installed v in
+    let new = planned_state (states (state_tag m)) v in
+    let later : States = with_state (state_tag m + 1) new states in
+    let own = inv.own i li in
+    let here : later (state_tag m + 1) ≡ new = with_state_here (state_tag m + 1) new states in
+    let same : (t : ℕ) → t ≤ state_tag m → later t ≡ states t = with_state_below (state_tag m) new states in
+    let there : StateInstalled sizes m n (state_tag m + 1) v.next_record = rw now at s in
+    assemble sizes n views after later i x moved (record {
+      current = install_current sizes m n states later i v li own e now s (λ k lt. rw (now, here) (planned_words sizes.processes (states (state_tag m)) v k));
+      states_fit = states_fit_more sizes m n states later new inv.states_fit there.state here same (planned_tall sizes (states (state_tag m)) v fits) (planned_within sizes (states (state_tag m)) v fits) (planned_heads_low sizes (states (state_tag m)) v fits);
+      tags_below = install_tags sizes m n v.next_record inv.tags_below there;
+      own = install_own_view sizes m n i v own s;
+      loaded = nothing_kept sizes n later x (inv.loaded i li).room refl refl;
+      others_own = λ o lo ne. install_own sizes m n i o v (views o) lo own (inv.own o lo) ne there;
+      others_loaded = λ o lo ne. install_loaded sizes m n states later v.next_record (views o) (inv.loaded o lo) there same;
+      from = λ o lo ne. λ h. absurd (false_true h);
+      into = λ o lo ne. install_to sizes m states v (views o) (inv.loaded o lo) now;
+      self = λ h. absurd (false_true h);
+      rest = λ a o la lo na no. inv.owners a o la lo;
+    })
+  where
+    false_true : false ≡ true → ⊥
+    false_true h = grind arith
+
+    nothing_kept : (sizes : Sizes) (n : Words) (states : States) (x : TransferView) → length x.loaded.record_words ≡ 66 → has_loaded x.next ≡ false → loaded_words (record_words sizes) x.next ≡ 0 → LoadedState sizes n states x
+    nothing_kept sizes n states x room h none = grind arith

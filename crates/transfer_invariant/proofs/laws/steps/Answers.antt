@@ -1,0 +1,6 @@
+use Rattle.std.proofs.Common.{refl}
+use Rattle.transfer_invariant.proofs.Keeps.{step_kept}
+use Rattle.transfer_invariant.proofs.laws.steps.Goals as goal
+
+pub returns : goal.returns
+returns c sizes words new views after states i shape li inv fits acted moved = step_kept sizes words new views after states i (views i).next shape.few_processes li inv fits refl acted moved

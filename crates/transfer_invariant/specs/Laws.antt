@@ -1,0 +1,51 @@
+-- the opening meets the invariant, and steps keep it
+use Rattle.std.specs.Prelude.{◌≡◌, ℕ, ◌+◌, ◌<◌, ◌≤◌, ◌^◌, slice_index}
+use Rattle.word_layout.specs.Sizes.{Sizes, IsShape, blocks}
+use Rattle.word_layout.specs.Names.{InRange}
+use Rattle.word_layout.specs.declared.announced.Wish.{Wish}
+use Rattle.word_layout.specs.declared.name.WordName.{WordName}
+use Rattle.word_layout.specs.declared.name.WordName.TheVariants.{State}
+use Rattle.transfer_machine.specs.Machine.{action_of, met_of, begun}
+use Rattle.transfer_machine.specs.Tries.{planned_value}
+use Rattle.transfer_machine.specs.Words.{name_of}
+use Rattle.transfer_machine.specs.Opening.{opening_word, opening_transfer}
+use Rattle.transfer_machine.specs.declared.transfer.TransferView.{TransferView}
+use Rattle.transfer_machine.specs.declared.try_plan.TryPlan.{TryPlan}
+use Rattle.transfer_machine.specs.declared.stage.NextStep.TheVariants.{Rest, StoreRecordWord, ExchangeState}
+use Rattle.transfer_invariant.specs.Memory.{Words, Views, States, Acted, Moved, SameUpTo, state_tag}
+use Rattle.transfer_invariant.specs.Invariant.{Invariant}
+
+-- the words and views of the opening meet the invariant with some states
+abbrev pub OpeningMeetsInvariant : Type 0
+OpeningMeetsInvariant = (sizes : Sizes) (words : Words) (views : Views) → IsShape sizes
+    → ((name : WordName) → InRange sizes name → words name ≡ opening_word sizes name)
+    → ((i : ℕ) → i < sizes.processes → views i ≡ opening_transfer i)
+    → (states : States) × Invariant sizes words views states
+
+-- a plan has room: at most a head a process, all places are slots, the heads are blocks
+pub record PlanFits (sizes : Sizes) (plan : TryPlan) : Type 0 where
+  pub overlay : plan.overlay ≤ sizes.processes
+  pub within : plan.base + plan.overlay ≤ sizes.batches
+  pub heads : (k : ℕ) → k < plan.overlay → slice_index plan.heads k < blocks sizes
+
+-- what a view writes fits: a record word its value, and a state that is installed its place
+pub record WritesFit (sizes : Sizes) (words : Words) (v : TransferView) : Type 0 where
+  pub store : (index : ℕ) → v.next ≡ StoreRecordWord index → planned_value sizes.processes v.plan index < 2 ^ 24
+  pub install : v.next ≡ ExchangeState → words State ≡ v.loaded.state → PlanFits sizes v.plan
+
+-- the step of a process from words and views that meet the invariant leads to such words and views; the states so far stay
+abbrev pub StepsKeepInvariant : Type 0
+StepsKeepInvariant = (sizes : Sizes) (words new : Words) (views after : Views) (states : States) (i : ℕ) → IsShape sizes → i < sizes.processes
+    → Invariant sizes words views states
+    → WritesFit sizes words (views i)
+    → Acted sizes (action_of sizes (views i)) words new
+    → Moved i (met_of sizes (views i) (words (name_of (action_of sizes (views i))))) views after
+    → (later : States) × SameUpTo (state_tag words) states later × Invariant sizes new after later
+
+-- a process at rest that begins a transfer keeps it
+abbrev pub BeginningsKeepInvariant : Type 0
+BeginningsKeepInvariant = (sizes : Sizes) (words : Words) (views after : Views) (states : States) (i : ℕ) (wish : Wish) → i < sizes.processes
+    → Invariant sizes words views states
+    → (views i).next ≡ Rest
+    → Moved i (begun wish (views i)) views after
+    → Invariant sizes words after states

@@ -1,0 +1,5 @@
+pub mod Memory
+pub mod Progress
+pub mod Records
+pub mod Invariant
+pub mod Laws

@@ -1,0 +1,49 @@
+-- the parts of the invariant that speak of the state and of the records
+use Rattle.std.specs.Prelude.{◌≡◌, ◌≢◌, ℕ, ◌+◌, ◌/◌, ◌<◌, ◌≤◌, true, length}
+use Rattle.word_layout.specs.Sizes.{Sizes, blocks}
+use Rattle.word_layout.specs.Names.{records, record_words}
+use Rattle.transfer_machine.specs.Loads.{loaded_tag, loaded_record, record_value}
+use Rattle.transfer_machine.specs.Tries.{planned_value}
+use Rattle.transfer_machine.specs.declared.transfer.TransferView.{TransferView}
+use Rattle.transfer_invariant.specs.Memory.{Words, States, state_tag, current_record, word_tag, word_value, state_value}
+use Rattle.transfer_invariant.specs.Progress.{in_try, has_loaded, record_index, loaded_words, stored_words}
+
+-- Current record: its words have the state's number and the state's values
+pub record CurrentRecord (sizes : Sizes) (words : Words) (states : States) : Type 0 where
+  pub row : current_record words < records sizes
+  pub tags : (index : ℕ) → index < record_words sizes → word_tag words (current_record words) index ≡ state_tag words
+  pub values : (index : ℕ) → index < record_words sizes → word_value words (current_record words) index ≡ state_value sizes.processes (states (state_tag words)) index
+
+-- of it, each state: the overlay has at most a place a process, all places are slots, the overlay's heads are blocks
+pub record StatesFit (sizes : Sizes) (words : Words) (states : States) : Type 0 where
+  pub overlay : (m : ℕ) → 1 ≤ m → m ≤ state_tag words → (states m).height ≤ (states m).base + sizes.processes
+  pub within : (m : ℕ) → 1 ≤ m → m ≤ state_tag words → (states m).height ≤ sizes.batches
+  pub heads : (m place : ℕ) → 1 ≤ m → m ≤ state_tag words → (states m).base ≤ place → place < (states m).height → (states m).content place < blocks sizes
+
+-- Own record: no record word has a tag above that of the state to come
+abbrev pub TagsBelow : Sizes → Words → Type 0
+TagsBelow sizes words = (row index : ℕ) → row < records sizes → index < record_words sizes → word_tag words row index ≤ state_tag words + 1
+
+-- Own record, of one process: its next record is one of its two and isn't current; its last installed state is at most the present one and the one that its try loaded; what it stored in the try has the next tag and the planned values
+pub record OwnRecord (sizes : Sizes) (words : Words) (process : ℕ) (v : TransferView) : Type 0 where
+  pub index : record_index v.next < record_words sizes
+  pub next : v.next_record / 2 ≡ process
+  pub apart : current_record words ≢ v.next_record
+  pub installed : v.installed ≤ state_tag words
+  pub tried : in_try v.next ≡ true → v.installed ≤ loaded_tag v.loaded
+  pub stored_tags : (index : ℕ) → index < stored_words (record_words sizes) v.next → word_tag words v.next_record index ≡ loaded_tag v.loaded + 1
+  pub stored_values : (index : ℕ) → index < stored_words (record_words sizes) v.next → word_value words v.next_record index ≡ planned_value sizes.processes v.plan index
+
+-- Loaded state: it is at most the present one, with the same record where it is the same; words of its record have its number or a higher one, and those with its number have its values, and so have those that were loaded
+pub record LoadedState (sizes : Sizes) (words : Words) (states : States) (v : TransferView) : Type 0 where
+  pub room : length v.loaded.record_words ≡ 66
+  pub past : has_loaded v.next ≡ true → loaded_tag v.loaded ≤ state_tag words
+  pub row : has_loaded v.next ≡ true → loaded_record v.loaded < records sizes
+  pub same : has_loaded v.next ≡ true → loaded_tag v.loaded ≡ state_tag words → loaded_record v.loaded ≡ current_record words
+  pub tags : has_loaded v.next ≡ true → (index : ℕ) → index < record_words sizes → loaded_tag v.loaded ≤ word_tag words (loaded_record v.loaded) index
+  pub values : has_loaded v.next ≡ true → (index : ℕ) → index < record_words sizes → word_tag words (loaded_record v.loaded) index ≡ loaded_tag v.loaded → word_value words (loaded_record v.loaded) index ≡ state_value sizes.processes (states (loaded_tag v.loaded)) index
+  pub loaded : (index : ℕ) → index < loaded_words (record_words sizes) v.next → record_value v.loaded index ≡ state_value sizes.processes (states (loaded_tag v.loaded)) index
+
+-- Loaded state, of two views: where the one loaded the record that is the other's next one, the other installed a later state
+abbrev pub OwnerWentOn : TransferView → TransferView → Type 0
+OwnerWentOn v owner = has_loaded v.next ≡ true → owner.next_record ≡ loaded_record v.loaded → loaded_tag v.loaded < owner.installed
