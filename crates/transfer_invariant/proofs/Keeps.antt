@@ -1,4 +1,4 @@
--- every step of every process keeps the invariant
+-- every step of every process keeps what holds of the state and the records
 use Rattle.std.proofs.Common.{◌≡◌, ℕ, ◌+◌, ◌-◌, ◌<◌, ◌≤◌, ◌^◌, ◌==◌, Bool, true, false, refl, sym, ap, arith}
 use Rattle.std.specs.Prelude.{if◌then◌else◌, nat_lt}
 use Rattle.std.proofs.lemmas.Bool.Decides.{nat_tests}
@@ -15,7 +15,7 @@ use Rattle.transfer_machine.specs.declared.stage.NextStep.{NextStep}
 use Rattle.transfer_machine.specs.declared.stage.NextStep.TheVariants.{Rest, Announce, LoadState, LoadRecordWord, LoadCoveredSlot, ExchangeSlot, LoadAnnouncement, LoadPoppedSlot, StoreRecordWord, ExchangeState, LoadFinalState, LoadReply}
 use Rattle.transfer_invariant.specs.Memory.{Words, Views, States, Acted, Moved, SameUpTo, state_tag, word_tag, word_value}
 use Rattle.transfer_invariant.specs.Records.{OwnRecord}
-use Rattle.transfer_invariant.specs.Invariant.{Invariant}
+use Rattle.transfer_invariant.specs.Invariant.{RecordsHold}
 use Rattle.transfer_invariant.specs.Laws.{PlanFits, WritesFit}
 use Rattle.transfer_invariant.proofs.Changes.{RecordsStay}
 use Rattle.transfer_invariant.proofs.Stable.{next_low}
@@ -26,21 +26,21 @@ use Rattle.transfer_invariant.proofs.Acts.{leaves_records, announces, exchanges_
 
 -- what a step leads to: the states so far stay, and the invariant holds
 abbrev pub Kept : Sizes → Words → Words → Views → States → Type 0
-Kept sizes m n after states = (later : States) × SameUpTo (state_tag m) states later × Invariant sizes n after later
+Kept sizes m n after states = (later : States) × SameUpTo (state_tag m) states later × RecordsHold sizes n after later
 
 -- a step that changes neither the state nor a record
-kept : (sizes : Sizes) (m n : Words) (after : Views) (states : States) → Invariant sizes m after states → RecordsStay sizes m n → Kept sizes m n after states
+kept : (sizes : Sizes) (m n : Words) (after : Views) (states : States) → RecordsHold sizes m after states → RecordsStay sizes m n → Kept sizes m n after states
 kept sizes m n after states inv s = (states, λ t le. refl, stay sizes m n after states inv s)
 
 -- the next record fits the value of a word
-row_fits : (sizes : Sizes) (m : Words) (i : ℕ) (v : TransferView) → sizes.processes ≤ 32 → i < sizes.processes → OwnRecord sizes m i v → v.next_record < 2 ^ 24
+pub row_fits : (sizes : Sizes) (m : Words) (i : ℕ) (v : TransferView) → sizes.processes ≤ 32 → i < sizes.processes → OwnRecord sizes m i v → v.next_record < 2 ^ 24
 row_fits sizes m i v few li own = let low = next_low sizes.processes i v.next_record li own.next in omega arith
 
 -- an exchange of the state, made or not
 same_words : (a b : ℕ) → (a == b) ≡ true → a ≡ b
 same_words a b h = grind (arith, nat_tests)
 
-exchange_kept : (sizes : Sizes) (m n : Words) (views after : Views) (states : States) (i : ℕ) (t : Bool) → sizes.processes ≤ 32 → i < sizes.processes → Invariant sizes m views states → (views i).next ≡ ExchangeState
+exchange_kept : (sizes : Sizes) (m n : Words) (views after : Views) (states : States) (i : ℕ) (t : Bool) → sizes.processes ≤ 32 → i < sizes.processes → RecordsHold sizes m views states → (views i).next ≡ ExchangeState
     → (m State ≡ (views i).loaded.state → PlanFits sizes (views i).plan) → (m State == (views i).loaded.state) ≡ t → Acted sizes (Exchange State (views i).loaded.state (next_state (views i))) m n
     → Moved i (if t then installed (views i) else try_ended (views i)) views after → Kept sizes m n after states
 unfolding state_tag
@@ -58,7 +58,7 @@ exchange_kept sizes m n views after states i false few li inv e fits test a move
     kept sizes m n after states (try_ends sizes m views after states i li inv (rw e refl) moved) (keeps_state sizes (views i).loaded.state (next_state (views i)) m n test a)
 
 -- the step at each stage
-pub step_kept : (sizes : Sizes) (m n : Words) (views after : Views) (states : States) (i : ℕ) (s : NextStep) → sizes.processes ≤ 32 → i < sizes.processes → Invariant sizes m views states → WritesFit sizes m (views i) → (views i).next ≡ s
+pub step_kept : (sizes : Sizes) (m n : Words) (views after : Views) (states : States) (i : ℕ) (s : NextStep) → sizes.processes ≤ 32 → i < sizes.processes → RecordsHold sizes m views states → WritesFit sizes m (views i) → (views i).next ≡ s
     → Acted sizes (action_at sizes (views i) s) m n → Moved i (met_at sizes (views i) (m (name_of (action_at sizes (views i) s))) s) views after → Kept sizes m n after states
 unfolding word_tag word_value
 step_kept sizes m n views after states i Rest few li inv w e a moved =

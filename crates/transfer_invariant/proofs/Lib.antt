@@ -7,3 +7,5 @@ pub mod Writes
 pub mod Acts
 pub mod Keeps
 pub mod Opened
+pub mod Installs
+pub mod Counts

@@ -15,7 +15,7 @@ use Rattle.transfer_machine.specs.Opening.{opening_word, opening_record, opening
 use Rattle.transfer_machine.specs.States.{StackState}
 use Rattle.transfer_invariant.specs.Memory.{Words, Views, state_tag, current_record, word_tag, word_value, state_value}
 use Rattle.transfer_invariant.specs.Records.{CurrentRecord, StatesFit, TagsBelow, OwnRecord, LoadedState}
-use Rattle.transfer_invariant.specs.Invariant.{Invariant}
+use Rattle.transfer_invariant.specs.Invariant.{RecordsHold}
 
 -- the state of the opening
 pub opening_state : Sizes → StackState
@@ -51,7 +51,7 @@ unfolding tag_of
 tag_of-zero = refl
 
 module _ (sizes : Sizes) (words : Words) (shape : IsShape sizes) (opened : (name : WordName) → InRange sizes name → words name ≡ opening_word sizes name) where
-  opened_tag : state_tag words ≡ 1
+  pub opened_tag : state_tag words ≡ 1
   unfolding state_tag
   opened_tag = ap tag_of (opened State tt) ∙ tag_of-tagged 1 (opening_record sizes) (let few = shape.few_processes in omega arith)
 
@@ -115,7 +115,7 @@ module _ (sizes : Sizes) (words : Words) (shape : IsShape sizes) (opened : (name
       false_true : false ≡ true → ⊥
       false_true h = grind arith
 
-  pub opened_invariant : (views : Views) → ((i : ℕ) → i < sizes.processes → views i ≡ opening_transfer i) → Invariant sizes words views (λ m. opening_state sizes)
+  pub opened_invariant : (views : Views) → ((i : ℕ) → i < sizes.processes → views i ≡ opening_transfer i) → RecordsHold sizes words views (λ m. opening_state sizes)
   opened_invariant views seats = record {
     current = opened_current;
     states_fit = opened_states;

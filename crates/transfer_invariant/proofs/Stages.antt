@@ -13,13 +13,13 @@ use Rattle.transfer_machine.specs.declared.transfer.TransferView.{TransferView}
 use Rattle.transfer_machine.specs.declared.stage.NextStep.TheVariants.{LoadRecordWord, LoadCoveredSlot, ExchangeSlot, LoadAnnouncement, LoadPoppedSlot}
 use Rattle.transfer_invariant.specs.Memory.{Words, Views, States, Moved, word_tag, word_value}
 use Rattle.transfer_invariant.specs.Progress.{in_try, has_loaded, loaded_words}
-use Rattle.transfer_invariant.specs.Invariant.{Invariant}
+use Rattle.transfer_invariant.specs.Invariant.{RecordsHold}
 use Rattle.transfer_invariant.proofs.Own.{GoesOn, StoresNone, word_loaded}
 use Rattle.transfer_invariant.proofs.Steps.{goes, goes_same, within, try_ends, slot_none, slot_loads, heard_none, heard_loads, record_none, record_loads}
 
 -- a process at rest stays so, and one that begins or ends a transfer has nothing loaded
-pub leaves : (sizes : Sizes) (m : Words) (views after : Views) (states : States) (i : ℕ) (x : TransferView) → i < sizes.processes → Invariant sizes m views states → has_loaded x.next ≡ false → in_try x.next ≡ false → StoresNone sizes x.next → loaded_words (record_words sizes) x.next ≡ 0
-    → x.next_record ≡ (views i).next_record → x.installed ≡ (views i).installed → x.loaded ≡ (views i).loaded → Moved i x views after → Invariant sizes m after states
+pub leaves : (sizes : Sizes) (m : Words) (views after : Views) (states : States) (i : ℕ) (x : TransferView) → i < sizes.processes → RecordsHold sizes m views states → has_loaded x.next ≡ false → in_try x.next ≡ false → StoresNone sizes x.next → loaded_words (record_words sizes) x.next ≡ 0
+    → x.next_record ≡ (views i).next_record → x.installed ≡ (views i).installed → x.loaded ≡ (views i).loaded → Moved i x views after → RecordsHold sizes m after states
 leaves sizes m views after states i x li inv h t none l en ei el moved =
     goes_same sizes m views after states i x li inv (record { next_record = en; installed = ei; state = ap (λ k. k.state) el; has = λ k. absurd (grind (arith, h, k)); tries = λ k. absurd (grind (arith, t, k)) }) none (ap (λ k. k.record_words) el) (omega arith) moved
 
@@ -27,23 +27,23 @@ leaves sizes m views after states i x li inv h t none l en ei el moved =
 word_count : (sizes : Sizes) (index : ℕ) (loaded : Loaded) (t : Bool) → (t ≡ true → index + 1 ≡ record_words sizes) → loaded_words (record_words sizes) (if t then after_record loaded else LoadRecordWord (index + 1)) ≤ index + 1
 word_count sizes index loaded t last = grind (arith, nat_tests)
 
-word_goes_on : (sizes : Sizes) (m : Words) (views after : Views) (states : States) (i index word : ℕ) → sizes.processes ≤ 32 → i < sizes.processes → Invariant sizes m views states → (views i).next ≡ LoadRecordWord index
+word_goes_on : (sizes : Sizes) (m : Words) (views after : Views) (states : States) (i index word : ℕ) → sizes.processes ≤ 32 → i < sizes.processes → RecordsHold sizes m views states → (views i).next ≡ LoadRecordWord index
     → tag_of word ≡ word_tag m (loaded_record (views i).loaded) index → value_of word ≡ word_value m (loaded_record (views i).loaded) index → tag_of word ≤ loaded_tag (views i).loaded
     → (x : TransferView) → GoesOn (views i) x → StoresNone sizes x.next → x.loaded.record_words ≡ set (views i).loaded.record_words index word → loaded_words (record_words sizes) x.next ≤ index + 1
-    → Moved i x views after → Invariant sizes m after states
+    → Moved i x views after → RecordsHold sizes m after states
 word_goes_on sizes m views after states i index word few li inv e et ev le x g none same count moved =
     let h = inv.loaded i li in
     let low : index < record_words sizes = rw e at (inv.own i li).index in
     goes sizes m views after states i x li inv g none (rw same (length-set (views i).loaded.record_words index word ∙ h.room))
     (λ k lt. rw same (word_loaded sizes m states index word (views i) few h e low et ev le k (omega arith))) moved
 
-word_met : (sizes : Sizes) (m : Words) (views after : Views) (states : States) (i index word : ℕ) → sizes.processes ≤ 32 → i < sizes.processes → Invariant sizes m views states → (views i).next ≡ LoadRecordWord index
+word_met : (sizes : Sizes) (m : Words) (views after : Views) (states : States) (i index word : ℕ) → sizes.processes ≤ 32 → i < sizes.processes → RecordsHold sizes m views states → (views i).next ≡ LoadRecordWord index
     → tag_of word ≡ word_tag m (loaded_record (views i).loaded) index → value_of word ≡ word_value m (loaded_record (views i).loaded) index → tag_of word ≤ loaded_tag (views i).loaded
     → (t : Bool) → (index + 1 == record_words sizes) ≡ t
     → Moved i (if t
     then record (views i) { loaded = record (views i).loaded { record_words = set (views i).loaded.record_words index word }; next = after_record (record (views i).loaded { record_words = set (views i).loaded.record_words index word }); plan = begun_plan (record (views i).loaded { record_words = set (views i).loaded.record_words index word }) (views i).plan }
     else record (views i) { loaded = record (views i).loaded { record_words = set (views i).loaded.record_words index word }; next = LoadRecordWord (index + 1) }) views after
-    → Invariant sizes m after states
+    → RecordsHold sizes m after states
 word_met sizes m views after states i index word few li inv e et ev le true test moved =
     let v = views i in
     let loaded = record v.loaded { record_words = set v.loaded.record_words index word } in
@@ -62,10 +62,10 @@ word_met sizes m views after states i index word few li inv e et ev le false tes
     more_words : (n index : ℕ) → index < n → (index + 1 == n) ≡ false → index + 1 < n
     more_words n index lt h = grind (arith, nat_tests)
 
-pub record_step : (sizes : Sizes) (m : Words) (views after : Views) (states : States) (i index word : ℕ) → sizes.processes ≤ 32 → i < sizes.processes → Invariant sizes m views states → (views i).next ≡ LoadRecordWord index
+pub record_step : (sizes : Sizes) (m : Words) (views after : Views) (states : States) (i index word : ℕ) → sizes.processes ≤ 32 → i < sizes.processes → RecordsHold sizes m views states → (views i).next ≡ LoadRecordWord index
     → tag_of word ≡ word_tag m (loaded_record (views i).loaded) index → value_of word ≡ word_value m (loaded_record (views i).loaded) index
     → (t : Bool) → nat_lt (loaded_tag (views i).loaded) (tag_of word) ≡ t
-    → Moved i (if t then try_ended (views i) else record_word_loaded sizes index (record (views i).loaded { record_words = set (views i).loaded.record_words index word }) (views i)) views after → Invariant sizes m after states
+    → Moved i (if t then try_ended (views i) else record_word_loaded sizes index (record (views i).loaded { record_words = set (views i).loaded.record_words index word }) (views i)) views after → RecordsHold sizes m after states
 record_step sizes m views after states i index word few li inv e et ev true test moved = try_ends sizes m views after states i li inv (rw e refl) moved
 record_step sizes m views after states i index word few li inv e et ev false test moved =
     word_met sizes m views after states i index word few li inv e et ev (not_above (loaded_tag (views i).loaded) (tag_of word) test) (index + 1 == record_words sizes) refl moved
@@ -74,8 +74,8 @@ record_step sizes m views after states i index word few li inv e et ev false tes
     not_above a b h = grind (arith, nat_tests)
 
 -- a covered slot is loaded, or exchanged
-pub slot_step : (sizes : Sizes) (m : Words) (views after : Views) (states : States) (i offset word : ℕ) → i < sizes.processes → Invariant sizes m views states → (views i).next ≡ LoadCoveredSlot offset → (t : Bool)
-    → Moved i (record (views i) { loaded = record (views i).loaded { slots = set (views i).loaded.slots offset word }; next = if t then ExchangeSlot offset else after_slot (views i).loaded offset }) views after → Invariant sizes m after states
+pub slot_step : (sizes : Sizes) (m : Words) (views after : Views) (states : States) (i offset word : ℕ) → i < sizes.processes → RecordsHold sizes m views states → (views i).next ≡ LoadCoveredSlot offset → (t : Bool)
+    → Moved i (record (views i) { loaded = record (views i).loaded { slots = set (views i).loaded.slots offset word }; next = if t then ExchangeSlot offset else after_slot (views i).loaded offset }) views after → RecordsHold sizes m after states
 slot_step sizes m views after states i offset word li inv e true moved =
     let v = views i in
     let x = record v { loaded = record v.loaded { slots = set v.loaded.slots offset word }; next = ExchangeSlot offset } in
@@ -85,19 +85,19 @@ slot_step sizes m views after states i offset word li inv e false moved =
     let x = record v { loaded = record v.loaded { slots = set v.loaded.slots offset word }; next = after_slot v.loaded offset } in
     goes_same sizes m views after states i x li inv (within v x (rw e refl) refl refl refl) (slot_none sizes v.loaded offset) refl (rw e (slot_loads (record_words sizes) v.loaded offset)) moved
 
-pub exchange_step : (sizes : Sizes) (m : Words) (views after : Views) (states : States) (i offset : ℕ) → i < sizes.processes → Invariant sizes m views states → (views i).next ≡ ExchangeSlot offset
-    → Moved i (record (views i) { next = after_slot (views i).loaded offset }) views after → Invariant sizes m after states
+pub exchange_step : (sizes : Sizes) (m : Words) (views after : Views) (states : States) (i offset : ℕ) → i < sizes.processes → RecordsHold sizes m views states → (views i).next ≡ ExchangeSlot offset
+    → Moved i (record (views i) { next = after_slot (views i).loaded offset }) views after → RecordsHold sizes m after states
 exchange_step sizes m views after states i offset li inv e moved =
     let v = views i in
     let x = record v { next = after_slot v.loaded offset } in
     goes_same sizes m views after states i x li inv (within v x (rw e refl) refl refl refl) (slot_none sizes v.loaded offset) refl (rw e (slot_loads (record_words sizes) v.loaded offset)) moved
 
 -- an announcement is loaded
-pub announcement_step : (sizes : Sizes) (m : Words) (views after : Views) (states : States) (i process word : ℕ) → i < sizes.processes → Invariant sizes m views states → (views i).next ≡ LoadAnnouncement process → (t : Bool)
+pub announcement_step : (sizes : Sizes) (m : Words) (views after : Views) (states : States) (i process word : ℕ) → i < sizes.processes → RecordsHold sizes m views states → (views i).next ≡ LoadAnnouncement process → (t : Bool)
     → Moved i (if t
     then record (views i) { loaded = record (views i).loaded { announcements = set (views i).loaded.announcements process word }; next = LoadPoppedSlot process }
     else record (views i) { loaded = record (views i).loaded { announcements = set (views i).loaded.announcements process word }; next = after_heard sizes process; plan = after_announcement sizes.processes (views i).loaded process word 0 (views i).plan }) views after
-    → Invariant sizes m after states
+    → RecordsHold sizes m after states
 announcement_step sizes m views after states i process word li inv e true moved =
     let v = views i in
     let x = record v { loaded = record v.loaded { announcements = set v.loaded.announcements process word }; next = LoadPoppedSlot process } in
@@ -108,8 +108,8 @@ announcement_step sizes m views after states i process word li inv e false moved
     goes_same sizes m views after states i x li inv (within v x (rw e refl) refl refl refl) (heard_none sizes process) refl (rw e (heard_loads (record_words sizes) sizes process)) moved
 
 -- the slot of a taken batch is loaded
-pub popped_step : (sizes : Sizes) (m : Words) (views after : Views) (states : States) (i process word : ℕ) → i < sizes.processes → Invariant sizes m views states → (views i).next ≡ LoadPoppedSlot process
-    → Moved i (popped_loaded sizes process word (views i)) views after → Invariant sizes m after states
+pub popped_step : (sizes : Sizes) (m : Words) (views after : Views) (states : States) (i process word : ℕ) → i < sizes.processes → RecordsHold sizes m views states → (views i).next ≡ LoadPoppedSlot process
+    → Moved i (popped_loaded sizes process word (views i)) views after → RecordsHold sizes m after states
 popped_step sizes m views after states i process word li inv e moved =
     let v = views i in
     let x = popped_loaded sizes process word v in

@@ -16,7 +16,7 @@ use Rattle.transfer_machine.specs.declared.stage.NextStep.TheVariants.{LoadState
 use Rattle.transfer_invariant.specs.Memory.{Words, Views, States, Moved, state_tag, current_record, state_value}
 use Rattle.transfer_invariant.specs.Progress.{in_try, has_loaded, record_index, loaded_words, stored_words}
 use Rattle.transfer_invariant.specs.Records.{CurrentRecord, StatesFit, TagsBelow, OwnRecord, LoadedState, OwnerWentOn}
-use Rattle.transfer_invariant.specs.Invariant.{Invariant}
+use Rattle.transfer_invariant.specs.Invariant.{RecordsHold}
 use Rattle.transfer_invariant.proofs.Changes.{RecordsStay}
 use Rattle.transfer_invariant.proofs.Stable.{stay_current, stay_states, stay_tags, stay_own, stay_loaded}
 use Rattle.transfer_invariant.proofs.Own.{GoesOn, StoresNone, goes_own, goes_loaded, goes_from, goes_to, state_own, state_loaded, state_from}
@@ -35,7 +35,7 @@ pub record Owed (sizes : Sizes) (n : Words) (views : Views) (states : States) (i
   pub self : OwnerWentOn x x
   pub rest : (a o : ℕ) → a < sizes.processes → o < sizes.processes → a ≢ i → o ≢ i → OwnerWentOn (views a) (views o)
 
-pub assemble : (sizes : Sizes) (n : Words) (views after : Views) (states : States) (i : ℕ) (x : TransferView) → Moved i x views after → Owed sizes n views states i x → Invariant sizes n after states
+pub assemble : (sizes : Sizes) (n : Words) (views after : Views) (states : States) (i : ℕ) (x : TransferView) → Moved i x views after → Owed sizes n views states i x → RecordsHold sizes n after states
 assemble sizes n views after states i x moved owed = record {
   current = owed.current;
   states_fit = owed.states_fit;
@@ -55,7 +55,7 @@ assemble sizes n views after states i x moved owed = record {
 }
 
 -- words that stay as they were
-pub stay : (sizes : Sizes) (m n : Words) (views : Views) (states : States) → Invariant sizes m views states → RecordsStay sizes m n → Invariant sizes n views states
+pub stay : (sizes : Sizes) (m n : Words) (views : Views) (states : States) → RecordsHold sizes m views states → RecordsStay sizes m n → RecordsHold sizes n views states
 stay sizes m n views states inv s = record {
   current = stay_current sizes m n states inv.current s;
   states_fit = stay_states sizes m n states inv.states_fit s.state;
@@ -66,9 +66,9 @@ stay sizes m n views states inv s = record {
 }
 
 -- a view that goes on
-pub goes : (sizes : Sizes) (m : Words) (views after : Views) (states : States) (i : ℕ) (x : TransferView) → i < sizes.processes → Invariant sizes m views states → GoesOn (views i) x → StoresNone sizes x.next → length x.loaded.record_words ≡ 66
+pub goes : (sizes : Sizes) (m : Words) (views after : Views) (states : States) (i : ℕ) (x : TransferView) → i < sizes.processes → RecordsHold sizes m views states → GoesOn (views i) x → StoresNone sizes x.next → length x.loaded.record_words ≡ 66
     → ((k : ℕ) → k < loaded_words (record_words sizes) x.next → record_value x.loaded k ≡ state_value sizes.processes (states (loaded_tag (views i).loaded)) k)
-    → Moved i x views after → Invariant sizes m after states
+    → Moved i x views after → RecordsHold sizes m after states
 goes sizes m views after states i x li inv g none room loads moved = assemble sizes m views after states i x moved (record {
   current = inv.current;
   states_fit = inv.states_fit;
@@ -84,15 +84,15 @@ goes sizes m views after states i x li inv g none room loads moved = assemble si
 })
 
 -- and loads no word of the record
-pub goes_same : (sizes : Sizes) (m : Words) (views after : Views) (states : States) (i : ℕ) (x : TransferView) → i < sizes.processes → Invariant sizes m views states → GoesOn (views i) x → StoresNone sizes x.next → x.loaded.record_words ≡ (views i).loaded.record_words
-    → loaded_words (record_words sizes) x.next ≤ loaded_words (record_words sizes) (views i).next → Moved i x views after → Invariant sizes m after states
+pub goes_same : (sizes : Sizes) (m : Words) (views after : Views) (states : States) (i : ℕ) (x : TransferView) → i < sizes.processes → RecordsHold sizes m views states → GoesOn (views i) x → StoresNone sizes x.next → x.loaded.record_words ≡ (views i).loaded.record_words
+    → loaded_words (record_words sizes) x.next ≤ loaded_words (record_words sizes) (views i).next → Moved i x views after → RecordsHold sizes m after states
 goes_same sizes m views after states i x li inv g none same le moved =
     goes sizes m views after states i x li inv g none (rw same (inv.loaded i li).room) (λ k lt. rw same ((inv.loaded i li).loaded k (omega arith))) moved
 
 -- a view that loads the state
-pub loads_state : (sizes : Sizes) (m : Words) (views after : Views) (states : States) (i : ℕ) (x : TransferView) → i < sizes.processes → Invariant sizes m views states
+pub loads_state : (sizes : Sizes) (m : Words) (views after : Views) (states : States) (i : ℕ) (x : TransferView) → i < sizes.processes → RecordsHold sizes m views states
     → x.next_record ≡ (views i).next_record → x.installed ≡ (views i).installed → record_index x.next ≡ 0 → stored_words (record_words sizes) x.next ≡ 0 → loaded_words (record_words sizes) x.next ≡ 0
-    → x.loaded.record_words ≡ (views i).loaded.record_words → x.loaded.state ≡ m State → Moved i x views after → Invariant sizes m after states
+    → x.loaded.record_words ≡ (views i).loaded.record_words → x.loaded.state ≡ m State → Moved i x views after → RecordsHold sizes m after states
 unfolding state_tag current_record
 loads_state sizes m views after states i x li inv en ei ex es el er et moved =
     let own = state_own sizes m i (views i) x (inv.own i li) en ei ex es (ap tag_of et) in
@@ -123,7 +123,7 @@ ended_none sizes t = grind arith
 pub ended_loads : (words : ℕ) (t : Bool) → loaded_words words (if t then LoadState else LoadFinalState) ≡ 0
 ended_loads words t = grind arith
 
-pub try_ends : (sizes : Sizes) (m : Words) (views after : Views) (states : States) (i : ℕ) → i < sizes.processes → Invariant sizes m views states → in_try (views i).next ≡ true → Moved i (try_ended (views i)) views after → Invariant sizes m after states
+pub try_ends : (sizes : Sizes) (m : Words) (views after : Views) (states : States) (i : ℕ) → i < sizes.processes → RecordsHold sizes m views states → in_try (views i).next ≡ true → Moved i (try_ended (views i)) views after → RecordsHold sizes m after states
 try_ends sizes m views after states i li inv e moved =
     goes_same sizes m views after states i (try_ended (views i)) li inv (within (views i) (try_ended (views i)) e refl refl refl) (ended_none sizes ((views i).turn == 1)) refl (rw (ended_loads (record_words sizes) ((views i).turn == 1)) (omega arith)) moved
 

@@ -11,7 +11,7 @@ use Rattle.transfer_machine.specs.declared.stage.NextStep.TheVariants.{StoreReco
 use Rattle.transfer_invariant.specs.Memory.{Words, Views, States, Moved, state_tag, state_value}
 use Rattle.transfer_invariant.specs.Progress.{has_loaded, loaded_words}
 use Rattle.transfer_invariant.specs.Records.{StatesFit, LoadedState, OwnerWentOn}
-use Rattle.transfer_invariant.specs.Invariant.{Invariant}
+use Rattle.transfer_invariant.specs.Invariant.{RecordsHold}
 use Rattle.transfer_invariant.proofs.Stable.{stay_states}
 use Rattle.transfer_invariant.proofs.Own.{GoesOn, goes_loaded, goes_from, goes_to}
 use Rattle.word_layout.specs.Sizes.{blocks}
@@ -25,9 +25,9 @@ use Rattle.transfer_invariant.proofs.Own.{stores_loaded, store_own_view, install
 use Rattle.transfer_invariant.proofs.Steps.{assemble, within}
 
 -- a record word is stored
-pub store_step : (sizes : Sizes) (m n : Words) (views after : Views) (states : States) (i index : ℕ) → i < sizes.processes → Invariant sizes m views states → (views i).next ≡ StoreRecordWord index
+pub store_step : (sizes : Sizes) (m n : Words) (views after : Views) (states : States) (i index : ℕ) → i < sizes.processes → RecordsHold sizes m views states → (views i).next ≡ StoreRecordWord index
     → WordStored sizes m n (views i).next_record index (loaded_tag (views i).loaded + 1) (planned_value sizes.processes (views i).plan index)
-    → Moved i (record (views i) { next = after_stored sizes index }) views after → Invariant sizes n after states
+    → Moved i (record (views i) { next = after_stored sizes index }) views after → RecordsHold sizes n after states
 store_step sizes m n views after states i index li inv e s moved =
     let v = views i in
     let x = record v { next = after_stored sizes index } in
@@ -117,9 +117,9 @@ states_fit_more sizes m n states later new h et hit same tall within heads = rec
 }
 
 -- a state is installed, by a view that loaded the present one
-pub install_step : (sizes : Sizes) (m n : Words) (views after : Views) (states : States) (i : ℕ) → i < sizes.processes → Invariant sizes m views states → (views i).next ≡ ExchangeState → loaded_tag (views i).loaded ≡ state_tag m → PlanFits sizes (views i).plan
+pub install_step : (sizes : Sizes) (m n : Words) (views after : Views) (states : States) (i : ℕ) → i < sizes.processes → RecordsHold sizes m views states → (views i).next ≡ ExchangeState → loaded_tag (views i).loaded ≡ state_tag m → PlanFits sizes (views i).plan
     → StateInstalled sizes m n (loaded_tag (views i).loaded + 1) (views i).next_record → Moved i (installed (views i)) views after
-    → Invariant sizes n after (with_state (state_tag m + 1) (planned_state (states (state_tag m)) (views i)) states)
+    → RecordsHold sizes n after (with_state (state_tag m + 1) (planned_state (states (state_tag m)) (views i)) states)
 install_step sizes m n views after states i li inv e now fits s moved =
     let v = views i in
     let x = installed v in

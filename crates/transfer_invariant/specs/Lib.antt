@@ -1,5 +1,6 @@
 pub mod Memory
 pub mod Progress
 pub mod Records
+pub mod Tags
 pub mod Invariant
 pub mod Laws

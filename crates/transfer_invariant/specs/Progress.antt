@@ -1,5 +1,5 @@
 -- how far a view is in its transfer
-use Rattle.std.specs.Prelude.{ℕ, Bool, true, false}
+use Rattle.std.specs.Prelude.{ℕ, Bool, true, false, nat_lt}
 use Rattle.transfer_machine.specs.declared.stage.NextStep.{NextStep}
 use Rattle.transfer_machine.specs.declared.stage.NextStep.TheVariants.{Rest, Announce, LoadState, LoadRecordWord, LoadCoveredSlot, ExchangeSlot, LoadAnnouncement, LoadPoppedSlot, StoreRecordWord, ExchangeState, LoadFinalState, LoadReply}
 
@@ -92,3 +92,18 @@ stored_words words (StoreRecordWord index) = index
 stored_words words ExchangeState = words
 stored_words words LoadFinalState = 0
 stored_words words LoadReply = 0
+
+-- in an announced transfer whose first try has loaded the state; of the loads of the state only the second try's comes after that
+abbrev pub has_begun_try : ℕ → NextStep → Bool
+has_begun_try turn Rest = false
+has_begun_try turn Announce = false
+has_begun_try turn LoadState = nat_lt 1 turn
+has_begun_try turn (LoadRecordWord index) = true
+has_begun_try turn (LoadCoveredSlot offset) = true
+has_begun_try turn (ExchangeSlot offset) = true
+has_begun_try turn (LoadAnnouncement process) = true
+has_begun_try turn (LoadPoppedSlot process) = true
+has_begun_try turn (StoreRecordWord index) = true
+has_begun_try turn ExchangeState = true
+has_begun_try turn LoadFinalState = true
+has_begun_try turn LoadReply = true
