@@ -1,5 +1,5 @@
 -- how the number of states that a view may have installed goes on
-use Rattle.std.proofs.Common.{◌≡◌, ◌≢◌, ℕ, zero, suc, ◌+◌, ◌<◌, ◌≤◌, ◌==◌, true, false, refl, ap, inl, inr, arith}
+use Rattle.std.proofs.Common.{◌^◌, ◌*◌, ◌≡◌, ◌≢◌, ℕ, zero, suc, ◌+◌, ◌<◌, ◌≤◌, ◌==◌, true, false, refl, ap, inl, inr, arith}
 use Rattle.std.specs.Prelude.{if◌then◌else◌}
 use Rattle.std.proofs.lemmas.Bool.{cases_eq}
 use Rattle.std.proofs.lemmas.Bool.Decides.{nat_tests}
@@ -121,3 +121,18 @@ idle_order m x h = grind (arith, nat_tests)
 pub idle_installs : (v x : TransferView) → has_announced x.next ≡ false → x.age ≡ v.age → installs v ≤ installs x
 unfolding installs
 idle_installs v x h ea = grind (arith, nat_tests)
+
+-- at most 2 ^ 32 each
+installs_age : (v : TransferView) → installs v ≤ v.age
+unfolding installs
+installs_age v = omega arith
+
+total_le : (count : ℕ) (f : ℕ → ℕ) → ((o : ℕ) → o < count → f o ≤ 2 ^ 32) → total count f ≤ count * 2 ^ 32
+unfolding total
+total_le zero f h = omega arith
+total_le (suc count) f h = omega (arith, total_le count f (λ o lt. h o (omega arith)), h count (omega arith))
+
+pub few_tags : (sizes : Sizes) (words : Words) (views : Views) → sizes.processes ≤ 32 → TagsHold sizes words views → ((i : ℕ) → i < sizes.processes → (views i).age ≤ 2 ^ 32) → state_tag words ≤ 2 ^ 37 + 1
+few_tags sizes words views few h ages =
+    let most = total_le sizes.processes (λ i. installs (views i)) (λ o lo. let a = installs_age (views o) in let b = ages o lo in omega arith) in
+    let count = h.count in omega arith

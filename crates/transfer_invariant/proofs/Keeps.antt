@@ -15,6 +15,7 @@ use Rattle.transfer_machine.specs.declared.stage.NextStep.{NextStep}
 use Rattle.transfer_machine.specs.declared.stage.NextStep.TheVariants.{Rest, Announce, LoadState, LoadRecordWord, LoadCoveredSlot, ExchangeSlot, LoadAnnouncement, LoadPoppedSlot, StoreRecordWord, ExchangeState, LoadFinalState, LoadReply}
 use Rattle.transfer_invariant.specs.Memory.{Words, Views, States, Acted, Moved, SameUpTo, state_tag, word_tag, word_value}
 use Rattle.transfer_invariant.specs.Records.{OwnRecord}
+use Rattle.transfer_invariant.specs.Plans.{OverlayFits}
 use Rattle.transfer_invariant.specs.Invariant.{RecordsHold}
 use Rattle.transfer_invariant.specs.Laws.{PlanFits, WritesFit}
 use Rattle.transfer_invariant.proofs.Changes.{RecordsStay}
@@ -41,57 +42,57 @@ same_words : (a b : ℕ) → (a == b) ≡ true → a ≡ b
 same_words a b h = grind (arith, nat_tests)
 
 exchange_kept : (sizes : Sizes) (m n : Words) (views after : Views) (states : States) (i : ℕ) (t : Bool) → sizes.processes ≤ 32 → i < sizes.processes → RecordsHold sizes m views states → (views i).next ≡ ExchangeState
-    → (m State ≡ (views i).loaded.state → PlanFits sizes (views i).plan) → (m State == (views i).loaded.state) ≡ t → Acted sizes (Exchange State (views i).loaded.state (next_state (views i))) m n
+    → OverlayFits sizes.processes (views i) → (m State ≡ (views i).loaded.state → PlanFits sizes (views i).plan) → (m State == (views i).loaded.state) ≡ t → Acted sizes (Exchange State (views i).loaded.state (next_state (views i))) m n
     → Moved i (if t then installed (views i) else try_ended (views i)) views after → Kept sizes m n after states
 unfolding state_tag
-exchange_kept sizes m n views after states i true few li inv e fits test a moved =
+exchange_kept sizes m n views after states i true few li inv e plan fits test a moved =
     let v = views i in
     let same : m State ≡ v.loaded.state = same_words (m State) v.loaded.state test in
     let now : loaded_tag v.loaded ≡ state_tag m = sym (ap tag_of same) in
     let new = planned_state (states (state_tag m)) v in (
       with_state (state_tag m + 1) new states,
       with_state_below (state_tag m) new states,
-      install_step sizes m n views after states i li inv e now (fits same)
+      install_step sizes m n views after states i li inv e now (rw e at plan) (fits same)
           (exchanges_state sizes v.loaded.state (loaded_tag v.loaded + 1) v.next_record m n (row_fits sizes m i v few li (inv.own i li)) test a) moved,
     )
-exchange_kept sizes m n views after states i false few li inv e fits test a moved =
+exchange_kept sizes m n views after states i false few li inv e plan fits test a moved =
     kept sizes m n after states (try_ends sizes m views after states i li inv (rw e refl) moved) (keeps_state sizes (views i).loaded.state (next_state (views i)) m n test a)
 
 -- the step at each stage
-pub step_kept : (sizes : Sizes) (m n : Words) (views after : Views) (states : States) (i : ℕ) (s : NextStep) → sizes.processes ≤ 32 → i < sizes.processes → RecordsHold sizes m views states → WritesFit sizes m (views i) → (views i).next ≡ s
+pub step_kept : (sizes : Sizes) (m n : Words) (views after : Views) (states : States) (i : ℕ) (s : NextStep) → sizes.processes ≤ 32 → i < sizes.processes → RecordsHold sizes m views states → OverlayFits sizes.processes (views i) → WritesFit sizes m (views i) → (views i).next ≡ s
     → Acted sizes (action_at sizes (views i) s) m n → Moved i (met_at sizes (views i) (m (name_of (action_at sizes (views i) s))) s) views after → Kept sizes m n after states
 unfolding word_tag word_value
-step_kept sizes m n views after states i Rest few li inv w e a moved =
+step_kept sizes m n views after states i Rest few li inv plan w e a moved =
     kept sizes m n after states (leaves sizes m views after states i (views i) li inv (rw e refl) (rw e refl) (rw e (record { index = omega arith; stored = refl })) (rw e refl) refl refl refl moved) (leaves_records sizes (Load State) m n a refl)
-step_kept sizes m n views after states i Announce few li inv w e a moved =
+step_kept sizes m n views after states i Announce few li inv plan w e a moved =
     kept sizes m n after states (leaves sizes m views after states i (met_at sizes (views i) 0 Announce) li inv refl refl (record { index = omega arith; stored = refl }) refl refl refl refl moved) (announces sizes (views i).number (own_announcement (views i)) m n a)
-step_kept sizes m n views after states i LoadState few li inv w e a moved =
+step_kept sizes m n views after states i LoadState few li inv plan w e a moved =
     kept sizes m n after states (loads_state sizes m views after states i (met_at sizes (views i) (m State) LoadState) li inv refl refl refl refl refl refl refl moved) (leaves_records sizes (Load State) m n a refl)
-step_kept sizes m n views after states i (LoadRecordWord index) few li inv w e a moved =
+step_kept sizes m n views after states i (LoadRecordWord index) few li inv plan w e a moved =
     let word = m (RecordWord (loaded_record (views i).loaded) index) in
     kept sizes m n after states (record_step sizes m views after states i index word few li inv e refl refl (nat_lt (loaded_tag (views i).loaded) (tag_of word)) refl moved) (leaves_records sizes (Load (RecordWord (loaded_record (views i).loaded) index)) m n a refl)
-step_kept sizes m n views after states i (LoadCoveredSlot offset) few li inv w e a moved =
+step_kept sizes m n views after states i (LoadCoveredSlot offset) few li inv plan w e a moved =
     let name = Slot (loaded_base (views i).loaded + offset) in
     kept sizes m n after states (slot_step sizes m views after states i offset (m name) li inv e (nat_lt (tag_of (m name)) (loaded_tag (views i).loaded)) moved) (leaves_records sizes (Load name) m n a refl)
-step_kept sizes m n views after states i (ExchangeSlot offset) few li inv w e a moved =
+step_kept sizes m n views after states i (ExchangeSlot offset) few li inv plan w e a moved =
     kept sizes m n after states (exchange_step sizes m views after states i offset li inv e moved) (exchanges_slot sizes _ _ _ m n a)
-step_kept sizes m n views after states i (LoadAnnouncement process) few li inv w e a moved =
+step_kept sizes m n views after states i (LoadAnnouncement process) few li inv plan w e a moved =
     let word = m (Announcement process) in
     kept sizes m n after states (announcement_step sizes m views after states i process word li inv e (pops_slot sizes.processes (views i).loaded process word (views i).plan) moved) (leaves_records sizes (Load (Announcement process)) m n a refl)
-step_kept sizes m n views after states i (LoadPoppedSlot process) few li inv w e a moved =
+step_kept sizes m n views after states i (LoadPoppedSlot process) few li inv plan w e a moved =
     let name = Slot ((views i).plan.base - 1) in
     kept sizes m n after states (popped_step sizes m views after states i process (m name) li inv e moved) (leaves_records sizes (Load name) m n a refl)
-step_kept sizes m n views after states i (StoreRecordWord index) few li inv w e a moved =
+step_kept sizes m n views after states i (StoreRecordWord index) few li inv plan w e a moved =
     let v = views i in (
       states,
       λ t le. refl,
       store_step sizes m n views after states i index li inv e
           (stores_word sizes v.next_record index (loaded_tag v.loaded + 1) (planned_value sizes.processes v.plan index) m n (w.store index e) a) moved,
     )
-step_kept sizes m n views after states i ExchangeState few li inv w e a moved =
-    exchange_kept sizes m n views after states i (m State == (views i).loaded.state) few li inv e (w.install e) refl a moved
-step_kept sizes m n views after states i LoadFinalState few li inv w e a moved =
+step_kept sizes m n views after states i ExchangeState few li inv plan w e a moved =
+    exchange_kept sizes m n views after states i (m State == (views i).loaded.state) few li inv e plan (w.install e) refl a moved
+step_kept sizes m n views after states i LoadFinalState few li inv plan w e a moved =
     kept sizes m n after states (loads_state sizes m views after states i (met_at sizes (views i) (m State) LoadFinalState) li inv refl refl refl refl refl refl refl moved) (leaves_records sizes (Load State) m n a refl)
-step_kept sizes m n views after states i LoadReply few li inv w e a moved =
+step_kept sizes m n views after states i LoadReply few li inv plan w e a moved =
     let name = RecordWord (loaded_record (views i).loaded) (sizes.processes + 2 + (views i).number) in
     kept sizes m n after states (leaves sizes m views after states i (met_at sizes (views i) (m name) LoadReply) li inv refl refl (record { index = omega arith; stored = refl }) refl refl refl refl moved) (leaves_records sizes (Load name) m n a refl)

@@ -9,3 +9,4 @@ pub mod Keeps
 pub mod Opened
 pub mod Installs
 pub mod Counts
+pub mod Overlays

@@ -80,9 +80,9 @@ planned_heads sizes s v place fits ge lt =
     let above : nat_lt place v.plan.base ≡ false = grind (arith, nat_tests) in
     rw above (fits.heads (place - v.plan.base) (omega arith))
 
-planned_tall : (sizes : Sizes) (s : StackState) (v : TransferView) → PlanFits sizes v.plan → (planned_state s v).height ≤ (planned_state s v).base + sizes.processes
+planned_tall : (sizes : Sizes) (s : StackState) (v : TransferView) → v.plan.overlay ≤ sizes.processes → (planned_state s v).height ≤ (planned_state s v).base + sizes.processes
 unfolding planned_state
-planned_tall sizes s v fits = let o = fits.overlay in omega arith
+planned_tall sizes s v few = omega arith
 
 planned_within : (sizes : Sizes) (s : StackState) (v : TransferView) → PlanFits sizes v.plan → (planned_state s v).height ≤ sizes.batches
 unfolding planned_state
@@ -117,10 +117,10 @@ states_fit_more sizes m n states later new h et hit same tall within heads = rec
 }
 
 -- a state is installed, by a view that loaded the present one
-pub install_step : (sizes : Sizes) (m n : Words) (views after : Views) (states : States) (i : ℕ) → i < sizes.processes → RecordsHold sizes m views states → (views i).next ≡ ExchangeState → loaded_tag (views i).loaded ≡ state_tag m → PlanFits sizes (views i).plan
+pub install_step : (sizes : Sizes) (m n : Words) (views after : Views) (states : States) (i : ℕ) → i < sizes.processes → RecordsHold sizes m views states → (views i).next ≡ ExchangeState → loaded_tag (views i).loaded ≡ state_tag m → (views i).plan.overlay ≤ sizes.processes → PlanFits sizes (views i).plan
     → StateInstalled sizes m n (loaded_tag (views i).loaded + 1) (views i).next_record → Moved i (installed (views i)) views after
     → RecordsHold sizes n after (with_state (state_tag m + 1) (planned_state (states (state_tag m)) (views i)) states)
-install_step sizes m n views after states i li inv e now fits s moved =
+install_step sizes m n views after states i li inv e now few fits s moved =
     let v = views i in
     let x = installed v in
     let new = planned_state (states (state_tag m)) v in
@@ -131,7 +131,7 @@ install_step sizes m n views after states i li inv e now fits s moved =
     let there : StateInstalled sizes m n (state_tag m + 1) v.next_record = rw now at s in
     assemble sizes n views after later i x moved (record {
       current = install_current sizes m n states later i v li own e now s (λ k lt. rw (now, here) (planned_words sizes.processes (states (state_tag m)) v k));
-      states_fit = states_fit_more sizes m n states later new inv.states_fit there.state here same (planned_tall sizes (states (state_tag m)) v fits) (planned_within sizes (states (state_tag m)) v fits) (planned_heads_low sizes (states (state_tag m)) v fits);
+      states_fit = states_fit_more sizes m n states later new inv.states_fit there.state here same (planned_tall sizes (states (state_tag m)) v few) (planned_within sizes (states (state_tag m)) v fits) (planned_heads_low sizes (states (state_tag m)) v fits);
       tags_below = install_tags sizes m n v.next_record inv.tags_below there;
       own = install_own_view sizes m n i v own s;
       loaded = nothing_kept sizes n later x (inv.loaded i li).room refl refl;

@@ -1,14 +1,15 @@
 -- the opening meets the invariant, and steps keep it
-use Rattle.std.specs.Prelude.{◌≡◌, ℕ, ◌+◌, ◌<◌, ◌≤◌, ◌^◌, slice_index}
+use Rattle.std.specs.Prelude.{◌≡◌, ℕ, ◌+◌, ◌<◌, ◌≤◌, ◌^◌, slice_index, List, length}
 use Rattle.word_layout.specs.Sizes.{Sizes, IsShape, blocks}
-use Rattle.word_layout.specs.Names.{InRange}
+use Rattle.word_layout.specs.Names.{InRange, table_words, word_at}
 use Rattle.word_layout.specs.declared.announced.Wish.{Wish}
 use Rattle.word_layout.specs.declared.name.WordName.{WordName}
 use Rattle.word_layout.specs.declared.name.WordName.TheVariants.{State}
 use Rattle.transfer_machine.specs.Machine.{action_of, met_of, begun}
 use Rattle.transfer_machine.specs.Tries.{planned_value}
-use Rattle.transfer_machine.specs.Words.{name_of}
+use Rattle.transfer_machine.specs.Words.{name_of, acted}
 use Rattle.transfer_machine.specs.Opening.{opening_word, opening_transfer}
+use Rattle.transfer_machine.specs.declared.action.Action.{Action}
 use Rattle.transfer_machine.specs.declared.transfer.TransferView.{TransferView}
 use Rattle.transfer_machine.specs.declared.try_plan.TryPlan.{TryPlan}
 use Rattle.transfer_machine.specs.declared.stage.NextStep.TheVariants.{Rest, StoreRecordWord, ExchangeState}
@@ -22,9 +23,8 @@ OpeningMeetsInvariant = (sizes : Sizes) (words : Words) (views : Views) → IsSh
     → ((i : ℕ) → i < sizes.processes → views i ≡ opening_transfer i)
     → (states : States) × Invariant sizes words views states
 
--- a plan has room: at most a head a process, all places are slots, the heads are blocks
+-- a plan has room: all places are slots, the heads are blocks
 pub record PlanFits (sizes : Sizes) (plan : TryPlan) : Type 0 where
-  pub overlay : plan.overlay ≤ sizes.processes
   pub within : plan.base + plan.overlay ≤ sizes.batches
   pub heads : (k : ℕ) → k < plan.overlay → slice_index plan.heads k < blocks sizes
 
@@ -49,3 +49,11 @@ BeginningsKeepInvariant = (sizes : Sizes) (words : Words) (views after : Views) 
     → (views i).next ≡ Rest
     → Moved i (begun wish (views i)) views after
     → Invariant sizes words after states
+
+-- an action on the words of a table acts on the words by their names
+abbrev pub TableActsByNames : Type 0
+TableActsByNames = (sizes : Sizes) (table : List ℕ) (action : Action) → length table ≡ table_words sizes → InRange sizes (name_of action) → Acted sizes action (word_at sizes table) (word_at sizes (acted sizes table action))
+
+-- the number of the state is within its limit as long as all ages are within theirs
+abbrev pub TagsAreFew : Type 0
+TagsAreFew = (sizes : Sizes) (words : Words) (views : Views) (states : States) → sizes.processes ≤ 32 → Invariant sizes words views states → ((i : ℕ) → i < sizes.processes → (views i).age ≤ 2 ^ 32) → state_tag words ≤ 2 ^ 37 + 1

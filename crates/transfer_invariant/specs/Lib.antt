@@ -2,5 +2,6 @@ pub mod Memory
 pub mod Progress
 pub mod Records
 pub mod Tags
+pub mod Plans
 pub mod Invariant
 pub mod Laws

@@ -1,6 +1,6 @@
 //! The opening meets the invariant and each step keeps it. Each law is the contract of a call that does
 //! nothing.
-ghost use Rattle.transfer_invariant.specs.Laws.{OpeningMeetsInvariant, StepsKeepInvariant, BeginningsKeepInvariant};
+ghost use Rattle.transfer_invariant.specs.Laws.{OpeningMeetsInvariant, StepsKeepInvariant, BeginningsKeepInvariant, TableActsByNames, TagsAreFew};
 
 /// The words and views of the opening meet the invariant.
 pub fn opening()
@@ -15,4 +15,14 @@ pub fn steps()
 /// So does the beginning of a transfer by a process that is at rest.
 pub fn beginnings()
     ensures { BeginningsKeepInvariant }
+{}
+
+/// The words of a table, by their names, are words of the invariant, and a step on the table is one on them.
+pub fn tables()
+    ensures { TableActsByNames }
+{}
+
+/// The invariant bounds the number of the state by the ages of the processes.
+pub fn tags()
+    ensures { TagsAreFew }
 {}

@@ -8,6 +8,7 @@ returns c sizes words views shape opened seats = (
   λ m. opening_state sizes,
   record {
     records = opened_invariant sizes words shape opened views seats;
+    plans = λ i li. rw (seats i li) tt;
     tags = opened_tags_hold sizes words views (opened_tag sizes words shape opened) (λ i li. ap (λ v. v.next) (seats i li));
   },
 )
