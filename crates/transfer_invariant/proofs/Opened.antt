@@ -72,10 +72,11 @@ module _ (sizes : Sizes) (words : Words) (shape : IsShape sizes) (opened : (name
 
   opened_states : StatesFit sizes words (λ m. opening_state sizes)
   unfolding opening_state
-  opened_states = record {
-    overlay = λ m some le. omega arith;
-    within = λ m some le. omega arith;
-    heads = λ m place some le ge lt. absurd (omega arith);
+  opened_states m some le = record {
+    base = omega arith;
+    overlay = omega arith;
+    within = omega arith;
+    heads = λ place ge lt. absurd (omega arith);
   }
 
   opened_tags : TagsBelow sizes words

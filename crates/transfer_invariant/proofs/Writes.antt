@@ -10,11 +10,10 @@ use Rattle.transfer_machine.specs.declared.transfer.TransferView.{TransferView}
 use Rattle.transfer_machine.specs.declared.stage.NextStep.TheVariants.{StoreRecordWord, ExchangeState}
 use Rattle.transfer_invariant.specs.Memory.{Words, Views, States, Moved, state_tag, state_value}
 use Rattle.transfer_invariant.specs.Progress.{has_loaded, loaded_words}
-use Rattle.transfer_invariant.specs.Records.{StatesFit, LoadedState, OwnerWentOn}
+use Rattle.transfer_invariant.specs.Records.{StateFits, StatesFit, LoadedState, OwnerWentOn}
 use Rattle.transfer_invariant.specs.Invariant.{RecordsHold}
 use Rattle.transfer_invariant.proofs.Stable.{stay_states}
 use Rattle.transfer_invariant.proofs.Own.{GoesOn, goes_loaded, goes_from, goes_to}
-use Rattle.word_layout.specs.Sizes.{blocks}
 use Rattle.transfer_machine.specs.Tries.{planned_value, is_pending}
 use Rattle.transfer_machine.specs.Machine.{after_stored, installed}
 use Rattle.transfer_machine.specs.States.{StackState}
@@ -74,23 +73,15 @@ planned_words processes s v k =
     let above : nat_lt (v.plan.base + (k - 2)) v.plan.base ≡ false = grind (arith, nat_tests) in
     rw (over, above, place) refl
 
-planned_heads : (sizes : Sizes) (s : StackState) (v : TransferView) (place : ℕ) → PlanFits sizes v.plan → v.plan.base ≤ place → place < v.plan.base + v.plan.overlay → (planned_state s v).content place < blocks sizes
+-- and it fits where the plan does
+planned_fits : (sizes : Sizes) (s : StackState) (v : TransferView) → v.plan.overlay ≤ sizes.processes → PlanFits sizes v.plan → StateFits sizes (planned_state s v)
 unfolding planned_state
-planned_heads sizes s v place fits ge lt =
-    let above : nat_lt place v.plan.base ≡ false = grind (arith, nat_tests) in
-    rw above (fits.heads (place - v.plan.base) (omega arith))
-
-planned_tall : (sizes : Sizes) (s : StackState) (v : TransferView) → v.plan.overlay ≤ sizes.processes → (planned_state s v).height ≤ (planned_state s v).base + sizes.processes
-unfolding planned_state
-planned_tall sizes s v few = omega arith
-
-planned_within : (sizes : Sizes) (s : StackState) (v : TransferView) → PlanFits sizes v.plan → (planned_state s v).height ≤ sizes.batches
-unfolding planned_state
-planned_within sizes s v fits = fits.within
-
-planned_heads_low : (sizes : Sizes) (s : StackState) (v : TransferView) → PlanFits sizes v.plan → (place : ℕ) → (planned_state s v).base ≤ place → place < (planned_state s v).height → (planned_state s v).content place < blocks sizes
-unfolding planned_state
-planned_heads_low sizes s v fits place ge lt = planned_heads sizes s v place fits ge lt
+planned_fits sizes s v few fits = record {
+  base = omega arith;
+  overlay = omega arith;
+  within = fits.within;
+  heads = λ place ge lt. let above : nat_lt place v.plan.base ≡ false = grind (arith, nat_tests) in rw above (fits.heads (place - v.plan.base) (omega arith));
+}
 
 -- the states with one more
 pub with_state : ℕ → StackState → States → States
@@ -105,16 +96,8 @@ unfolding with_state
 with_state_below last new states m le = let test : (m == last + 1) ≡ false = grind (arith, nat_tests) in rw test refl
 
 -- every state fits, and so does the new one
-states_fit_more : (sizes : Sizes) (m n : Words) (states later : States) (new : StackState) → StatesFit sizes m states → state_tag n ≡ state_tag m + 1 → later (state_tag m + 1) ≡ new → ((t : ℕ) → t ≤ state_tag m → later t ≡ states t)
-    → new.height ≤ new.base + sizes.processes → new.height ≤ sizes.batches → ((place : ℕ) → new.base ≤ place → place < new.height → new.content place < blocks sizes) → StatesFit sizes n later
-states_fit_more sizes m n states later new h et hit same tall within heads = record {
-  overlay = λ t some le. elim (cases_eq t (state_tag m + 1)) [ inl e ↦ rw (e, hit) tall | inr ne ↦ rw (same t (omega (arith, et))) (h.overlay t some (omega (arith, et))) ];
-  within = λ t some le. elim (cases_eq t (state_tag m + 1)) [ inl e ↦ rw (e, hit) within | inr ne ↦ rw (same t (omega (arith, et))) (h.within t some (omega (arith, et))) ];
-  heads = λ t place some le ge lt. elim (cases_eq t (state_tag m + 1)) [
-    | inl e ↦ rw (e, hit) (heads place (rw (e, hit) at ge) (rw (e, hit) at lt))
-    | inr ne ↦ let eq = same t (omega (arith, et)) in rw eq (h.heads t place some (omega (arith, et)) (rw eq at ge) (rw eq at lt))
-  ];
-}
+states_fit_more : (sizes : Sizes) (m n : Words) (states later : States) (new : StackState) → StatesFit sizes m states → state_tag n ≡ state_tag m + 1 → later (state_tag m + 1) ≡ new → ((t : ℕ) → t ≤ state_tag m → later t ≡ states t) → StateFits sizes new → StatesFit sizes n later
+states_fit_more sizes m n states later new h et hit same fits t some le = elim (cases_eq t (state_tag m + 1)) [ inl e ↦ rw (e, hit) fits | inr ne ↦ rw (same t (omega (arith, et))) (h t some (omega (arith, et))) ]
 
 -- a state is installed, by a view that loaded the present one
 pub install_step : (sizes : Sizes) (m n : Words) (views after : Views) (states : States) (i : ℕ) → i < sizes.processes → RecordsHold sizes m views states → (views i).next ≡ ExchangeState → loaded_tag (views i).loaded ≡ state_tag m → (views i).plan.overlay ≤ sizes.processes → PlanFits sizes (views i).plan
@@ -131,7 +114,7 @@ install_step sizes m n views after states i li inv e now few fits s moved =
     let there : StateInstalled sizes m n (state_tag m + 1) v.next_record = rw now at s in
     assemble sizes n views after later i x moved (record {
       current = install_current sizes m n states later i v li own e now s (λ k lt. rw (now, here) (planned_words sizes.processes (states (state_tag m)) v k));
-      states_fit = states_fit_more sizes m n states later new inv.states_fit there.state here same (planned_tall sizes (states (state_tag m)) v few) (planned_within sizes (states (state_tag m)) v fits) (planned_heads_low sizes (states (state_tag m)) v fits);
+      states_fit = states_fit_more sizes m n states later new inv.states_fit there.state here same (planned_fits sizes (states (state_tag m)) v few fits);
       tags_below = install_tags sizes m n v.next_record inv.tags_below there;
       own = install_own_view sizes m n i v own s;
       loaded = nothing_kept sizes n later x (inv.loaded i li).room refl refl;

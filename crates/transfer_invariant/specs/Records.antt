@@ -4,6 +4,7 @@ use Rattle.word_layout.specs.Sizes.{Sizes, blocks}
 use Rattle.word_layout.specs.Names.{records, record_words}
 use Rattle.transfer_machine.specs.Loads.{loaded_tag, loaded_record, record_value}
 use Rattle.transfer_machine.specs.Tries.{planned_value}
+use Rattle.transfer_machine.specs.States.{StackState}
 use Rattle.transfer_machine.specs.declared.transfer.TransferView.{TransferView}
 use Rattle.transfer_invariant.specs.Memory.{Words, States, state_tag, current_record, word_tag, word_value, state_value}
 use Rattle.transfer_invariant.specs.Progress.{in_try, has_loaded, record_index, loaded_words, stored_words}
@@ -14,11 +15,16 @@ pub record CurrentRecord (sizes : Sizes) (words : Words) (states : States) : Typ
   pub tags : (index : ℕ) → index < record_words sizes → word_tag words (current_record words) index ≡ state_tag words
   pub values : (index : ℕ) → index < record_words sizes → word_value words (current_record words) index ≡ state_value sizes.processes (states (state_tag words)) index
 
--- of it, each state: the overlay has at most a place a process, all places are slots, the overlay's heads are blocks
-pub record StatesFit (sizes : Sizes) (words : Words) (states : States) : Type 0 where
-  pub overlay : (m : ℕ) → 1 ≤ m → m ≤ state_tag words → (states m).height ≤ (states m).base + sizes.processes
-  pub within : (m : ℕ) → 1 ≤ m → m ≤ state_tag words → (states m).height ≤ sizes.batches
-  pub heads : (m place : ℕ) → 1 ≤ m → m ≤ state_tag words → (states m).base ≤ place → place < (states m).height → (states m).content place < blocks sizes
+-- of it, one state: the overlay ends the content and has at most a head a process, all places are slots, the overlay's heads are blocks
+pub record StateFits (sizes : Sizes) (s : StackState) : Type 0 where
+  pub base : s.base ≤ s.height
+  pub overlay : s.height ≤ s.base + sizes.processes
+  pub within : s.height ≤ sizes.batches
+  pub heads : (place : ℕ) → s.base ≤ place → place < s.height → s.content place < blocks sizes
+
+-- and every state so far
+abbrev pub StatesFit : Sizes → Words → States → Type 0
+StatesFit sizes words states = (m : ℕ) → 1 ≤ m → m ≤ state_tag words → StateFits sizes (states m)
 
 -- Own record: no record word has a tag above that of the state to come
 abbrev pub TagsBelow : Sizes → Words → Type 0
