@@ -10,3 +10,4 @@ pub mod Opened
 pub mod Installs
 pub mod Counts
 pub mod Overlays
+pub mod Loaded

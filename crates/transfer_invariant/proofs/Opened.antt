@@ -72,7 +72,7 @@ module _ (sizes : Sizes) (words : Words) (shape : IsShape sizes) (opened : (name
 
   opened_states : StatesFit sizes words (λ m. opening_state sizes)
   unfolding opening_state
-  opened_states m some le = record {
+  opened_states m le = record {
     base = omega arith;
     overlay = omega arith;
     within = omega arith;

@@ -26,7 +26,7 @@ pub stay_current : (sizes : Sizes) (m n : Words) (states : States) → CurrentRe
 stay_current sizes m n states h s = grind arith
 
 pub stay_states : (sizes : Sizes) (m n : Words) (states : States) → StatesFit sizes m states → state_tag n ≡ state_tag m → StatesFit sizes n states
-stay_states sizes m n states h e t some le = h t some (omega (arith, e))
+stay_states sizes m n states h e t le = h t (omega (arith, e))
 
 pub stay_tags : (sizes : Sizes) (m n : Words) → TagsBelow sizes m → RecordsStay sizes m n → TagsBelow sizes n
 stay_tags sizes m n h s row index lr lk = grind (arith, h row index lr lk)

@@ -97,7 +97,7 @@ with_state_below last new states m le = let test : (m == last + 1) ≡ false = g
 
 -- every state fits, and so does the new one
 states_fit_more : (sizes : Sizes) (m n : Words) (states later : States) (new : StackState) → StatesFit sizes m states → state_tag n ≡ state_tag m + 1 → later (state_tag m + 1) ≡ new → ((t : ℕ) → t ≤ state_tag m → later t ≡ states t) → StateFits sizes new → StatesFit sizes n later
-states_fit_more sizes m n states later new h et hit same fits t some le = elim (cases_eq t (state_tag m + 1)) [ inl e ↦ rw (e, hit) fits | inr ne ↦ rw (same t (omega (arith, et))) (h t some (omega (arith, et))) ]
+states_fit_more sizes m n states later new h et hit same fits t le = elim (cases_eq t (state_tag m + 1)) [ inl e ↦ rw (e, hit) fits | inr ne ↦ rw (same t (omega (arith, et))) (h t (omega (arith, et))) ]
 
 -- a state is installed, by a view that loaded the present one
 pub install_step : (sizes : Sizes) (m n : Words) (views after : Views) (states : States) (i : ℕ) → i < sizes.processes → RecordsHold sizes m views states → (views i).next ≡ ExchangeState → loaded_tag (views i).loaded ≡ state_tag m → (views i).plan.overlay ≤ sizes.processes → PlanFits sizes (views i).plan

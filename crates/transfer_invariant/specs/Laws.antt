@@ -1,7 +1,7 @@
 -- the opening meets the invariant, and steps keep it
 use Rattle.std.specs.Prelude.{◌≡◌, ℕ, ◌+◌, ◌<◌, ◌≤◌, ◌^◌, slice_index, List, length}
 use Rattle.word_layout.specs.Sizes.{Sizes, IsShape, blocks}
-use Rattle.word_layout.specs.Names.{InRange, table_words, word_at}
+use Rattle.word_layout.specs.Names.{InRange, table_words, word_at, record_words}
 use Rattle.word_layout.specs.declared.announced.Wish.{Wish}
 use Rattle.word_layout.specs.declared.name.WordName.{WordName}
 use Rattle.word_layout.specs.declared.name.WordName.TheVariants.{State}
@@ -9,11 +9,14 @@ use Rattle.transfer_machine.specs.Machine.{action_of, met_of, begun}
 use Rattle.transfer_machine.specs.Tries.{planned_value}
 use Rattle.transfer_machine.specs.Words.{name_of, acted}
 use Rattle.transfer_machine.specs.Opening.{opening_word, opening_transfer}
+use Rattle.transfer_machine.specs.Loads.{loaded_tag}
+use Rattle.transfer_machine.specs.NextStates.{IsLoaded}
 use Rattle.transfer_machine.specs.declared.action.Action.{Action}
 use Rattle.transfer_machine.specs.declared.transfer.TransferView.{TransferView}
 use Rattle.transfer_machine.specs.declared.try_plan.TryPlan.{TryPlan}
 use Rattle.transfer_machine.specs.declared.stage.NextStep.TheVariants.{Rest, StoreRecordWord, ExchangeState}
 use Rattle.transfer_invariant.specs.Memory.{Words, Views, States, Acted, Moved, SameUpTo, state_tag}
+use Rattle.transfer_invariant.specs.Progress.{loaded_words}
 use Rattle.transfer_invariant.specs.Invariant.{Invariant}
 
 -- the words and views of the opening meet the invariant with some states
@@ -57,3 +60,8 @@ TableActsByNames = (sizes : Sizes) (table : List ℕ) (action : Action) → leng
 -- the number of the state is within its limit as long as all ages are within theirs
 abbrev pub TagsAreFew : Type 0
 TagsAreFew = (sizes : Sizes) (words : Words) (views : Views) (states : States) → sizes.processes ≤ 32 → Invariant sizes words views states → ((i : ℕ) → i < sizes.processes → (views i).age ≤ 2 ^ 32) → state_tag words ≤ 2 ^ 37 + 1
+
+-- a view that has loaded a whole record has loaded the state of its number
+abbrev pub WholeRecordsAreStates : Type 0
+WholeRecordsAreStates = (sizes : Sizes) (words : Words) (views : Views) (states : States) (i : ℕ) → i < sizes.processes → Invariant sizes words views states → loaded_words (record_words sizes) (views i).next ≡ record_words sizes
+    → IsLoaded sizes.processes (views i).loaded (states (loaded_tag (views i).loaded))

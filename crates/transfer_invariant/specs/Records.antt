@@ -24,7 +24,7 @@ pub record StateFits (sizes : Sizes) (s : StackState) : Type 0 where
 
 -- and every state so far
 abbrev pub StatesFit : Sizes → Words → States → Type 0
-StatesFit sizes words states = (m : ℕ) → 1 ≤ m → m ≤ state_tag words → StateFits sizes (states m)
+StatesFit sizes words states = (m : ℕ) → m ≤ state_tag words → StateFits sizes (states m)
 
 -- Own record: no record word has a tag above that of the state to come
 abbrev pub TagsBelow : Sizes → Words → Type 0

@@ -1,6 +1,6 @@
 //! The opening meets the invariant and each step keeps it. Each law is the contract of a call that does
 //! nothing.
-ghost use Rattle.transfer_invariant.specs.Laws.{OpeningMeetsInvariant, StepsKeepInvariant, BeginningsKeepInvariant, TableActsByNames, TagsAreFew};
+ghost use Rattle.transfer_invariant.specs.Laws.{OpeningMeetsInvariant, StepsKeepInvariant, BeginningsKeepInvariant, TableActsByNames, TagsAreFew, WholeRecordsAreStates};
 
 /// The words and views of the opening meet the invariant.
 pub fn opening()
@@ -26,4 +26,9 @@ pub fn tables()
 /// The invariant bounds the number of the state by the ages of the processes.
 pub fn tags()
     ensures { TagsAreFew }
+{}
+
+/// Whoever has loaded a whole record has loaded the state with the number that it loaded before.
+pub fn loads()
+    ensures { WholeRecordsAreStates }
 {}
