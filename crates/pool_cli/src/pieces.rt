@@ -9,8 +9,10 @@ use pool_io::{Failed, Sink, write_whole};
 /// Writes all the pieces, in their order. Fails where the sink does; some of their bytes, not all, may then
 /// have been taken.
 pub(crate) fn write_each<K: Sink>(out: &mut K, pieces: &[&[u8]]) -> Result<(), Failed>
-    ensures whole { OnOk result (GrowsBy (K.written out.old) (K.written out.new) (joined pieces.now)) }
-    ensures part { OnErr result (GrowsByPart (K.written out.old) (K.written out.new) (joined pieces.now)) }
+    ensures whole { OnOk result
+        (GrowsBy (K.written out.old) (K.written out.new) (joined pieces.now)) }
+    ensures part { OnErr result
+        (GrowsByPart (K.written out.old) (K.written out.new) (joined pieces.now)) }
 
     ensures never_falls { K.faults out.old ≤ K.faults out.new }
     ensures failed { OnErr result (HasRisen (K.faults out.old) (K.faults out.new)) }

@@ -70,9 +70,11 @@ pub(crate) fn read_files<F: Files>(
     size: u64,
 ) -> Result<Vec<Script>, Ending>
     requires { F.opens files.old + length names.now < 2 ^ 64 }
-    ensures scripts { IfOk result (λ scripts. ReadsAll size (F.told files.old) (map string_bytes names.now) scripts.items) }
+    ensures scripts { IfOk result
+        (λ scripts. ReadsAll size (F.told files.old) (map string_bytes names.now) scripts.items) }
     ensures well_formed { IfOk result (λ scripts. All IsWellFormed scripts.items) }
-    ensures stopped { IfErr result (StopsReading (F.told files.old) (map string_bytes names.now) (F.opens files.old) (F.opens files.new) (F.faults files.old) (F.faults files.new)) }
+    ensures stopped { IfErr result
+        (StopsReading (F.told files.old) (map string_bytes names.now) (F.opens files.old) (F.opens files.new) (F.faults files.old) (F.faults files.new)) }
 {
     let mut scripts = Vec::new(alloc);
     let mut taken = 0;

@@ -106,8 +106,10 @@ impl Totals {
 
 /// Writes one column: its name and its number.
 fn write_column<K: Sink>(out: &mut K, name: &str, number: u128) -> Result<(), Failed>
-    ensures whole { OnOk result (GrowsBy (K.written out.old) (K.written out.new) (column_text (name.now, number))) }
-    ensures part { OnErr result (GrowsByPart (K.written out.old) (K.written out.new) (column_text (name.now, number))) }
+    ensures whole { OnOk result
+        (GrowsBy (K.written out.old) (K.written out.new) (column_text (name.now, number))) }
+    ensures part { OnErr result
+        (GrowsByPart (K.written out.old) (K.written out.new) (column_text (name.now, number))) }
 
     ensures never_falls { K.faults out.old ≤ K.faults out.new }
     ensures failed { OnErr result (HasRisen (K.faults out.old) (K.faults out.new)) }
@@ -120,8 +122,10 @@ fn write_column<K: Sink>(out: &mut K, name: &str, number: u128) -> Result<(), Fa
 
 /// Writes columns.
 fn write_columns<K: Sink>(out: &mut K, columns: &[(&str, u128)]) -> Result<(), Failed>
-    ensures whole { OnOk result (GrowsBy (K.written out.old) (K.written out.new) (flat_map (λ column. column_text (column.0.now, column.1)) columns.now)) }
-    ensures part { OnErr result (GrowsByPart (K.written out.old) (K.written out.new) (flat_map (λ column. column_text (column.0.now, column.1)) columns.now)) }
+    ensures whole { OnOk result
+        (GrowsBy (K.written out.old) (K.written out.new) (flat_map (λ column. column_text (column.0.now, column.1)) columns.now)) }
+    ensures part { OnErr result
+        (GrowsByPart (K.written out.old) (K.written out.new) (flat_map (λ column. column_text (column.0.now, column.1)) columns.now)) }
 
     ensures never_falls { K.faults out.old ≤ K.faults out.new }
     ensures failed { OnErr result (HasRisen (K.faults out.old) (K.faults out.new)) }
@@ -135,8 +139,10 @@ fn write_columns<K: Sink>(out: &mut K, columns: &[(&str, u128)]) -> Result<(), F
 
 /// Writes a line: what it is about, and the columns.
 fn write_line<K: Sink>(out: &mut K, label: &[u8], totals: &Totals) -> Result<(), Failed>
-    ensures whole { OnOk result (GrowsBy (K.written out.old) (K.written out.new) (line_text label.now (tally_of totals.now))) }
-    ensures part { OnErr result (GrowsByPart (K.written out.old) (K.written out.new) (line_text label.now (tally_of totals.now))) }
+    ensures whole { OnOk result
+        (GrowsBy (K.written out.old) (K.written out.new) (line_text label.now (tally_of totals.now))) }
+    ensures part { OnErr result
+        (GrowsByPart (K.written out.old) (K.written out.new) (line_text label.now (tally_of totals.now))) }
 
     ensures never_falls { K.faults out.old ≤ K.faults out.new }
     ensures failed { OnErr result (HasRisen (K.faults out.old) (K.faults out.new)) }
@@ -149,8 +155,10 @@ fn write_line<K: Sink>(out: &mut K, label: &[u8], totals: &Totals) -> Result<(),
 
 /// Writes the line of a file.
 fn write_file<K: Sink>(out: &mut K, number: usize, tally: &Tally) -> Result<(), Failed>
-    ensures whole { OnOk result (GrowsBy (K.written out.old) (K.written out.new) (line_text (decimal number) tally.now)) }
-    ensures part { OnErr result (GrowsByPart (K.written out.old) (K.written out.new) (line_text (decimal number) tally.now)) }
+    ensures whole { OnOk result
+        (GrowsBy (K.written out.old) (K.written out.new) (line_text (decimal number) tally.now)) }
+    ensures part { OnErr result
+        (GrowsByPart (K.written out.old) (K.written out.new) (line_text (decimal number) tally.now)) }
 
     ensures never_falls { K.faults out.old ≤ K.faults out.new }
     ensures failed { OnErr result (HasRisen (K.faults out.old) (K.faults out.new)) }
@@ -163,8 +171,10 @@ fn write_file<K: Sink>(out: &mut K, number: usize, tally: &Tally) -> Result<(), 
 /// Writes the lines of the files.
 fn write_files<K: Sink>(out: &mut K, tallies: &[Tally]) -> Result<(), Failed>
     requires { length tallies.now < 2 ^ 32 }
-    ensures whole { OnOk result (GrowsBy (K.written out.old) (K.written out.new) (lines_from 1 tallies.now)) }
-    ensures part { OnErr result (GrowsByPart (K.written out.old) (K.written out.new) (lines_from 1 tallies.now)) }
+    ensures whole { OnOk result
+        (GrowsBy (K.written out.old) (K.written out.new) (lines_from 1 tallies.now)) }
+    ensures part { OnErr result
+        (GrowsByPart (K.written out.old) (K.written out.new) (lines_from 1 tallies.now)) }
 
     ensures never_falls { K.faults out.old ≤ K.faults out.new }
     ensures failed { OnErr result (HasRisen (K.faults out.old) (K.faults out.new)) }
@@ -192,8 +202,10 @@ fn sum(tallies: &[Tally]) -> Totals
 /// been taken. Takes no memory.
 pub(crate) fn write_report<K: Sink>(out: &mut K, tallies: &[Tally]) -> Result<(), Failed>
     requires { length tallies.now < 2 ^ 32 }
-    ensures whole { OnOk result (GrowsBy (K.written out.old) (K.written out.new) (report tallies.now)) }
-    ensures part { OnErr result (GrowsByPart (K.written out.old) (K.written out.new) (report tallies.now)) }
+    ensures whole { OnOk result
+        (GrowsBy (K.written out.old) (K.written out.new) (report tallies.now)) }
+    ensures part { OnErr result
+        (GrowsByPart (K.written out.old) (K.written out.new) (report tallies.now)) }
 
     ensures never_falls { K.faults out.old ≤ K.faults out.new }
     ensures failed { OnErr result (HasRisen (K.faults out.old) (K.faults out.new)) }

@@ -12,8 +12,10 @@ use pool_io::{Failed, Sink, write_whole};
 
 /// Writes a number between two texts.
 fn tell_number<K: Sink>(err: &mut K, before: &[u8], number: u64, after: &[u8]) -> Result<(), Failed>
-    ensures whole { OnOk result (GrowsBy (K.written err.old) (K.written err.new) (texts (before.now ∷ decimal number ∷ after.now ∷ []))) }
-    ensures part { OnErr result (GrowsByPart (K.written err.old) (K.written err.new) (texts (before.now ∷ decimal number ∷ after.now ∷ []))) }
+    ensures whole { OnOk result
+        (GrowsBy (K.written err.old) (K.written err.new) (texts (before.now ∷ decimal number ∷ after.now ∷ []))) }
+    ensures part { OnErr result
+        (GrowsByPart (K.written err.old) (K.written err.new) (texts (before.now ∷ decimal number ∷ after.now ∷ []))) }
 
     ensures never_falls { K.faults err.old ≤ K.faults err.new }
     ensures failed { OnErr result (HasRisen (K.faults err.old) (K.faults err.new)) }
@@ -25,8 +27,10 @@ fn tell_number<K: Sink>(err: &mut K, before: &[u8], number: u64, after: &[u8]) -
 
 /// Writes the line of a bad line.
 fn tell_line<K: Sink>(err: &mut K, file: u64, line: u64) -> Result<(), Failed>
-    ensures whole { OnOk result (GrowsBy (K.written err.old) (K.written err.new) (line_of (Ending.Line file line))) }
-    ensures part { OnErr result (GrowsByPart (K.written err.old) (K.written err.new) (line_of (Ending.Line file line))) }
+    ensures whole { OnOk result
+        (GrowsBy (K.written err.old) (K.written err.new) (line_of (Ending.Line file line))) }
+    ensures part { OnErr result
+        (GrowsByPart (K.written err.old) (K.written err.new) (line_of (Ending.Line file line))) }
 
     ensures never_falls { K.faults err.old ≤ K.faults err.new }
     ensures failed { OnErr result (HasRisen (K.faults err.old) (K.faults err.new)) }
@@ -42,7 +46,8 @@ fn tell_line<K: Sink>(err: &mut K, file: u64, line: u64) -> Result<(), Failed>
 /// Writes the line of an ending.
 pub(crate) fn tell<K: Sink>(err: &mut K, ending: Ending) -> Result<(), Failed>
     ensures whole { OnOk result (GrowsBy (K.written err.old) (K.written err.new) (line_of ending)) }
-    ensures part { OnErr result (GrowsByPart (K.written err.old) (K.written err.new) (line_of ending)) }
+    ensures part { OnErr result
+        (GrowsByPart (K.written err.old) (K.written err.new) (line_of ending)) }
 
     ensures never_falls { K.faults err.old ≤ K.faults err.new }
     ensures failed { OnErr result (HasRisen (K.faults err.old) (K.faults err.new)) }
