@@ -13,25 +13,22 @@ use Rattle.transfer_machine.specs.declared.transfer.TransferView.{TransferView}
 use Rattle.transfer_machine.specs.declared.action.Action.TheVariants.{Load, Exchange}
 use Rattle.transfer_machine.specs.declared.stage.NextStep.{NextStep}
 use Rattle.transfer_machine.specs.declared.stage.NextStep.TheVariants.{Rest, Announce, LoadState, LoadRecordWord, LoadCoveredSlot, ExchangeSlot, LoadAnnouncement, LoadPoppedSlot, StoreRecordWord, ExchangeState, LoadFinalState, LoadReply}
-use Rattle.transfer_invariant.specs.Memory.{Words, Views, States, Acted, Moved, SameUpTo, state_tag, word_tag, word_value}
+use Rattle.transfer_invariant.specs.Memory.{Words, Views, States, Acted, Moved, state_tag, word_tag, word_value}
 use Rattle.transfer_invariant.specs.Records.{OwnRecord}
 use Rattle.transfer_invariant.specs.Plans.{OverlayFits}
+use Rattle.transfer_invariant.specs.Installing.{states_with_planned, states_after_at}
 use Rattle.transfer_invariant.specs.Invariant.{RecordsHold}
 use Rattle.transfer_invariant.specs.Laws.{PlanFits, WritesFit}
 use Rattle.transfer_invariant.proofs.Changes.{RecordsStay}
 use Rattle.transfer_invariant.proofs.Stable.{next_low}
 use Rattle.transfer_invariant.proofs.Steps.{stay, loads_state, try_ends}
 use Rattle.transfer_invariant.proofs.Stages.{leaves, record_step, slot_step, exchange_step, announcement_step, popped_step}
-use Rattle.transfer_invariant.proofs.Writes.{store_step, install_step, planned_state, with_state, with_state_below}
+use Rattle.transfer_invariant.proofs.Writes.{store_step, install_step}
 use Rattle.transfer_invariant.proofs.Acts.{leaves_records, announces, exchanges_slot, stores_word, exchanges_state, keeps_state}
 
--- what a step leads to: the states so far stay, and the invariant holds
-abbrev pub Kept : Sizes → Words → Words → Views → States → Type 0
-Kept sizes m n after states = (later : States) × SameUpTo (state_tag m) states later × RecordsHold sizes n after later
-
 -- a step that changes neither the state nor a record
-kept : (sizes : Sizes) (m n : Words) (after : Views) (states : States) → RecordsHold sizes m after states → RecordsStay sizes m n → Kept sizes m n after states
-kept sizes m n after states inv s = (states, λ t le. refl, stay sizes m n after states inv s)
+kept : (sizes : Sizes) (m n : Words) (after : Views) (states : States) → RecordsHold sizes m after states → RecordsStay sizes m n → RecordsHold sizes n after states
+kept sizes m n after states inv s = stay sizes m n after states inv s
 
 -- the next record fits the value of a word
 pub row_fits : (sizes : Sizes) (m : Words) (i : ℕ) (v : TransferView) → sizes.processes ≤ 32 → i < sizes.processes → OwnRecord sizes m i v → v.next_record < 2 ^ 24
@@ -43,24 +40,20 @@ same_words a b h = grind (arith, nat_tests)
 
 exchange_kept : (sizes : Sizes) (m n : Words) (views after : Views) (states : States) (i : ℕ) (t : Bool) → sizes.processes ≤ 32 → i < sizes.processes → RecordsHold sizes m views states → (views i).next ≡ ExchangeState
     → OverlayFits sizes.processes (views i) → (m State ≡ (views i).loaded.state → PlanFits sizes (views i).plan) → (m State == (views i).loaded.state) ≡ t → Acted sizes (Exchange State (views i).loaded.state (next_state (views i))) m n
-    → Moved i (if t then installed (views i) else try_ended (views i)) views after → Kept sizes m n after states
+    → Moved i (if t then installed (views i) else try_ended (views i)) views after → RecordsHold sizes n after (if t then states_with_planned m (views i) states else states)
 unfolding state_tag
 exchange_kept sizes m n views after states i true few li inv e plan fits test a moved =
     let v = views i in
     let same : m State ≡ v.loaded.state = same_words (m State) v.loaded.state test in
     let now : loaded_tag v.loaded ≡ state_tag m = sym (ap tag_of same) in
-    let new = planned_state (states (state_tag m)) v in (
-      with_state (state_tag m + 1) new states,
-      with_state_below (state_tag m) new states,
-      install_step sizes m n views after states i li inv e now (rw e at plan) (fits same)
-          (exchanges_state sizes v.loaded.state (loaded_tag v.loaded + 1) v.next_record m n (row_fits sizes m i v few li (inv.own i li)) test a) moved,
-    )
+    install_step sizes m n views after states i li inv e now (rw e at plan) (fits same)
+          (exchanges_state sizes v.loaded.state (loaded_tag v.loaded + 1) v.next_record m n (row_fits sizes m i v few li (inv.own i li)) test a) moved
 exchange_kept sizes m n views after states i false few li inv e plan fits test a moved =
     kept sizes m n after states (try_ends sizes m views after states i li inv (rw e refl) moved) (keeps_state sizes (views i).loaded.state (next_state (views i)) m n test a)
 
 -- the step at each stage
 pub step_kept : (sizes : Sizes) (m n : Words) (views after : Views) (states : States) (i : ℕ) (s : NextStep) → sizes.processes ≤ 32 → i < sizes.processes → RecordsHold sizes m views states → OverlayFits sizes.processes (views i) → WritesFit sizes m (views i) → (views i).next ≡ s
-    → Acted sizes (action_at sizes (views i) s) m n → Moved i (met_at sizes (views i) (m (name_of (action_at sizes (views i) s))) s) views after → Kept sizes m n after states
+    → Acted sizes (action_at sizes (views i) s) m n → Moved i (met_at sizes (views i) (m (name_of (action_at sizes (views i) s))) s) views after → RecordsHold sizes n after (states_after_at m (views i) states s)
 unfolding word_tag word_value
 step_kept sizes m n views after states i Rest few li inv plan w e a moved =
     kept sizes m n after states (leaves sizes m views after states i (views i) li inv (rw e refl) (rw e refl) (rw e (record { index = omega arith; stored = refl })) (rw e refl) refl refl refl moved) (leaves_records sizes (Load State) m n a refl)
@@ -83,12 +76,9 @@ step_kept sizes m n views after states i (LoadPoppedSlot process) few li inv pla
     let name = Slot ((views i).plan.base - 1) in
     kept sizes m n after states (popped_step sizes m views after states i process (m name) li inv e moved) (leaves_records sizes (Load name) m n a refl)
 step_kept sizes m n views after states i (StoreRecordWord index) few li inv plan w e a moved =
-    let v = views i in (
-      states,
-      λ t le. refl,
-      store_step sizes m n views after states i index li inv e
-          (stores_word sizes v.next_record index (loaded_tag v.loaded + 1) (planned_value sizes.processes v.plan index) m n (w.store index e) a) moved,
-    )
+    let v = views i in
+    store_step sizes m n views after states i index li inv e
+          (stores_word sizes v.next_record index (loaded_tag v.loaded + 1) (planned_value sizes.processes v.plan index) m n (w.store index e) a) moved
 step_kept sizes m n views after states i ExchangeState few li inv plan w e a moved =
     exchange_kept sizes m n views after states i (m State == (views i).loaded.state) few li inv e plan (w.install e) refl a moved
 step_kept sizes m n views after states i LoadFinalState few li inv plan w e a moved =

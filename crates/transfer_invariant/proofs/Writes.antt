@@ -11,6 +11,7 @@ use Rattle.transfer_machine.specs.declared.stage.NextStep.TheVariants.{StoreReco
 use Rattle.transfer_invariant.specs.Memory.{Words, Views, States, Moved, state_tag, state_value}
 use Rattle.transfer_invariant.specs.Progress.{has_loaded, loaded_words}
 use Rattle.transfer_invariant.specs.Records.{StateFits, StatesFit, LoadedState, OwnerWentOn}
+use Rattle.transfer_invariant.specs.Installing.{planned_state, with_state, states_with_planned}
 use Rattle.transfer_invariant.specs.Invariant.{RecordsHold}
 use Rattle.transfer_invariant.proofs.Stable.{stay_states}
 use Rattle.transfer_invariant.proofs.Own.{GoesOn, goes_loaded, goes_from, goes_to}
@@ -54,16 +55,6 @@ store_step sizes m n views after states i index li inv e s moved =
       rest = λ a o la lo na no. inv.owners a o la lo;
     })
 
--- the state that a view planned
-pub planned_state : StackState → TransferView → StackState
-planned_state s v = record {
-  base = v.plan.base;
-  height = v.plan.base + v.plan.overlay;
-  content = λ place. if nat_lt place v.plan.base then s.content place else get_or v.plan.heads (place - v.plan.base) 0;
-  reply = λ o. get_or v.plan.replies o 0;
-  applied = λ o. if is_pending (get_or v.loaded.announcements o 0) (s.reply o) then s.applied o + 1 else s.applied o;
-}
-
 -- its words are the planned ones
 planned_words : (processes : ℕ) (s : StackState) (v : TransferView) (k : ℕ) → state_value processes (planned_state s v) k ≡ planned_value processes v.plan k
 unfolding planned_state state_value
@@ -84,9 +75,6 @@ planned_fits sizes s v few fits = record {
 }
 
 -- the states with one more
-pub with_state : ℕ → StackState → States → States
-with_state number new states m = if m == number then new else states m
-
 pub with_state_here : (number : ℕ) (new : StackState) (states : States) → with_state number new states number ≡ new
 unfolding with_state
 with_state_here number new states = let test : (number == number) ≡ true = grind (arith, nat_tests) in rw test refl
@@ -102,12 +90,12 @@ states_fit_more sizes m n states later new h et hit same fits t le = elim (cases
 -- a state is installed, by a view that loaded the present one
 pub install_step : (sizes : Sizes) (m n : Words) (views after : Views) (states : States) (i : ℕ) → i < sizes.processes → RecordsHold sizes m views states → (views i).next ≡ ExchangeState → loaded_tag (views i).loaded ≡ state_tag m → (views i).plan.overlay ≤ sizes.processes → PlanFits sizes (views i).plan
     → StateInstalled sizes m n (loaded_tag (views i).loaded + 1) (views i).next_record → Moved i (installed (views i)) views after
-    → RecordsHold sizes n after (with_state (state_tag m + 1) (planned_state (states (state_tag m)) (views i)) states)
+    → RecordsHold sizes n after (states_with_planned m (views i) states)
 install_step sizes m n views after states i li inv e now few fits s moved =
     let v = views i in
     let x = installed v in
     let new = planned_state (states (state_tag m)) v in
-    let later : States = with_state (state_tag m + 1) new states in
+    let later : States = states_with_planned m v states in
     let own = inv.own i li in
     let here : later (state_tag m + 1) ≡ new = with_state_here (state_tag m + 1) new states in
     let same : (t : ℕ) → t ≤ state_tag m → later t ≡ states t = with_state_below (state_tag m) new states in

@@ -15,7 +15,8 @@ use Rattle.transfer_machine.specs.declared.action.Action.{Action}
 use Rattle.transfer_machine.specs.declared.transfer.TransferView.{TransferView}
 use Rattle.transfer_machine.specs.declared.try_plan.TryPlan.{TryPlan}
 use Rattle.transfer_machine.specs.declared.stage.NextStep.TheVariants.{Rest, StoreRecordWord, ExchangeState}
-use Rattle.transfer_invariant.specs.Memory.{Words, Views, States, Acted, Moved, SameUpTo, state_tag}
+use Rattle.transfer_invariant.specs.Memory.{Words, Views, States, Acted, Moved, state_tag}
+use Rattle.transfer_invariant.specs.Installing.{states_after}
 use Rattle.transfer_invariant.specs.Progress.{loaded_words}
 use Rattle.transfer_invariant.specs.Invariant.{Invariant}
 
@@ -36,14 +37,14 @@ pub record WritesFit (sizes : Sizes) (words : Words) (v : TransferView) : Type 0
   pub store : (index : ℕ) → v.next ≡ StoreRecordWord index → planned_value sizes.processes v.plan index < 2 ^ 24
   pub install : v.next ≡ ExchangeState → words State ≡ v.loaded.state → PlanFits sizes v.plan
 
--- the step of a process from words and views that meet the invariant leads to such words and views; the states so far stay
+-- the step of a process from words and views that meet the invariant leads to such words and views; where it installs a state there is one more
 abbrev pub StepsKeepInvariant : Type 0
 StepsKeepInvariant = (sizes : Sizes) (words new : Words) (views after : Views) (states : States) (i : ℕ) → IsShape sizes → i < sizes.processes
     → Invariant sizes words views states
     → WritesFit sizes words (views i)
     → Acted sizes (action_of sizes (views i)) words new
     → Moved i (met_of sizes (views i) (words (name_of (action_of sizes (views i))))) views after
-    → (later : States) × SameUpTo (state_tag words) states later × Invariant sizes new after later
+    → Invariant sizes new after (states_after words (views i) states)
 
 -- a process at rest that begins a transfer keeps it
 abbrev pub BeginningsKeepInvariant : Type 0

@@ -1,4 +1,5 @@
 pub mod Memory
+pub mod Installing
 pub mod Progress
 pub mod Records
 pub mod Tags

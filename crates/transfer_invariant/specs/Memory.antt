@@ -4,7 +4,7 @@ use Rattle.word_layout.specs.Sizes.{Sizes}
 use Rattle.word_layout.specs.Names.{InRange}
 use Rattle.word_layout.specs.Packing.{tag_of, value_of}
 use Rattle.word_layout.specs.declared.name.WordName.{WordName}
-use Rattle.word_layout.specs.declared.name.WordName.TheVariants.{State, RecordWord}
+use Rattle.word_layout.specs.declared.name.WordName.TheVariants.{State, RecordWord, Slot}
 use Rattle.transfer_machine.specs.Words.{name_of, left_by}
 use Rattle.transfer_machine.specs.States.{StackState}
 use Rattle.transfer_machine.specs.declared.action.Action.{Action}
@@ -38,6 +38,14 @@ word_tag words row index = tag_of (words (RecordWord row index))
 unfoldable pub word_value : Words → ℕ → ℕ → ℕ
 word_value words row index = value_of (words (RecordWord row index))
 
+-- the tag of a slot
+unfoldable pub slot_tag : Words → ℕ → ℕ
+slot_tag words slot = tag_of (words (Slot slot))
+
+-- the value of a slot
+unfoldable pub slot_value : Words → ℕ → ℕ
+slot_value words slot = value_of (words (Slot slot))
+
 -- the value that a word of the record of a state has: the base, the overlay's length, the overlay and zeros, the replies
 unfoldable pub state_value : ℕ → StackState → ℕ → ℕ
 state_value processes s index =
@@ -55,7 +63,3 @@ pub record Acted (sizes : Sizes) (action : Action) (old new : Words) : Type 0 wh
 pub record Moved (process : ℕ) (v : TransferView) (old new : Views) : Type 0 where
   pub here : new process ≡ v
   pub elsewhere : (other : ℕ) → other ≢ process → new other ≡ old other
-
--- the states up to a number stay, and there may be more
-abbrev pub SameUpTo : ℕ → States → States → Type 0
-SameUpTo last old new = (m : ℕ) → m ≤ last → new m ≡ old m

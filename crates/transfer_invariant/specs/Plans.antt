@@ -1,9 +1,13 @@
 -- of the part plan of a try: how much the plan has grown
-use Rattle.std.specs.Prelude.{ℕ, ◌≤◌}
+use Rattle.std.specs.Prelude.{◌≡◌, ℕ, ◌<◌, ◌≤◌, false, slice_index}
+use Rattle.word_layout.specs.Packing.{is_odd_reply}
+use Rattle.transfer_machine.specs.Loads.{loaded_reply}
+use Rattle.transfer_machine.specs.Tries.{is_pending, is_odd_transfer}
 use Rattle.transfer_machine.specs.declared.try_plan.TryPlan.{TryPlan}
 use Rattle.transfer_machine.specs.declared.transfer.TransferView.{TransferView}
 use Rattle.transfer_machine.specs.declared.stage.NextStep.{NextStep}
 use Rattle.transfer_machine.specs.declared.stage.NextStep.TheVariants.{Rest, Announce, LoadState, LoadRecordWord, LoadCoveredSlot, ExchangeSlot, LoadAnnouncement, LoadPoppedSlot, StoreRecordWord, ExchangeState, LoadFinalState, LoadReply}
+use Rattle.transfer_invariant.specs.Progress.{planned_announcements}
 
 -- before that step, once the record is loaded, a plan adds at most one head for each announcement that was met
 abbrev pub OverlayFitsAt : ℕ → TryPlan → NextStep → Type 0
@@ -23,3 +27,8 @@ OverlayFitsAt processes plan LoadReply = Unit {0}
 -- Plan of a try, of one view: its overlay has at most one head for each announcement that was met
 abbrev pub OverlayFits : ℕ → TransferView → Type 0
 OverlayFits processes v = OverlayFitsAt processes v.plan v.next
+
+-- Plan of a try, of one view: of the announcements that the plan has met, a pending one got a reply of its parity, any other one kept the loaded reply
+pub record RepliesPlanned (processes : ℕ) (v : TransferView) : Type 0 where
+  pub kept : (o : ℕ) → o < planned_announcements processes v.next → is_pending (slice_index v.loaded.announcements o) (loaded_reply processes v.loaded o) ≡ false → slice_index v.plan.replies o ≡ loaded_reply processes v.loaded o
+  pub parity : (o : ℕ) → o < planned_announcements processes v.next → is_odd_reply (slice_index v.plan.replies o) ≡ is_odd_transfer (slice_index v.loaded.announcements o)

@@ -1,5 +1,5 @@
 -- how far a view is in its transfer
-use Rattle.std.specs.Prelude.{ℕ, Bool, true, false, nat_lt}
+use Rattle.std.specs.Prelude.{ℕ, ◌+◌, Bool, true, false, nat_lt}
 use Rattle.transfer_machine.specs.declared.stage.NextStep.{NextStep}
 use Rattle.transfer_machine.specs.declared.stage.NextStep.TheVariants.{Rest, Announce, LoadState, LoadRecordWord, LoadCoveredSlot, ExchangeSlot, LoadAnnouncement, LoadPoppedSlot, StoreRecordWord, ExchangeState, LoadFinalState, LoadReply}
 
@@ -107,3 +107,48 @@ has_begun_try turn (StoreRecordWord index) = true
 has_begun_try turn ExchangeState = true
 has_begun_try turn LoadFinalState = true
 has_begun_try turn LoadReply = true
+
+-- how many announcements are loaded, of so many processes
+abbrev pub heard_announcements : ℕ → NextStep → ℕ
+heard_announcements processes Rest = 0
+heard_announcements processes Announce = 0
+heard_announcements processes LoadState = 0
+heard_announcements processes (LoadRecordWord index) = 0
+heard_announcements processes (LoadCoveredSlot offset) = 0
+heard_announcements processes (ExchangeSlot offset) = 0
+heard_announcements processes (LoadAnnouncement process) = process
+heard_announcements processes (LoadPoppedSlot process) = process + 1
+heard_announcements processes (StoreRecordWord index) = processes
+heard_announcements processes ExchangeState = processes
+heard_announcements processes LoadFinalState = 0
+heard_announcements processes LoadReply = 0
+
+-- how many of them the plan has met
+abbrev pub planned_announcements : ℕ → NextStep → ℕ
+planned_announcements processes Rest = 0
+planned_announcements processes Announce = 0
+planned_announcements processes LoadState = 0
+planned_announcements processes (LoadRecordWord index) = 0
+planned_announcements processes (LoadCoveredSlot offset) = 0
+planned_announcements processes (ExchangeSlot offset) = 0
+planned_announcements processes (LoadAnnouncement process) = process
+planned_announcements processes (LoadPoppedSlot process) = process
+planned_announcements processes (StoreRecordWord index) = processes
+planned_announcements processes ExchangeState = processes
+planned_announcements processes LoadFinalState = 0
+planned_announcements processes LoadReply = 0
+
+-- in a try that has loaded the whole record
+abbrev pub has_record : NextStep → Bool
+has_record Rest = false
+has_record Announce = false
+has_record LoadState = false
+has_record (LoadRecordWord index) = false
+has_record (LoadCoveredSlot offset) = true
+has_record (ExchangeSlot offset) = true
+has_record (LoadAnnouncement process) = true
+has_record (LoadPoppedSlot process) = true
+has_record (StoreRecordWord index) = true
+has_record ExchangeState = true
+has_record LoadFinalState = false
+has_record LoadReply = false
