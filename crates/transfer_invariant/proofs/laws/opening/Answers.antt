@@ -1,5 +1,6 @@
 use Rattle.std.proofs.Common.{ap}
-use Rattle.transfer_invariant.proofs.Opened.{opening_state, opened_tag, opened_invariant}
+use Rattle.transfer_invariant.specs.OpeningState.{opening_state}
+use Rattle.transfer_invariant.proofs.Opened.{opened_tag, opened_invariant}
 use Rattle.transfer_invariant.proofs.Counts.{opened_tags_hold}
 use Rattle.transfer_invariant.proofs.laws.opening.Goals as goal
 
