@@ -9,8 +9,8 @@ use Rattle.word_layout.specs.declared.name.WordName.TheVariants.{State, Announce
 use Rattle.word_layout.proofs.Packed.{tag_of-tagged, value_of-tagged}
 use Rattle.transfer_machine.specs.Words.{name_of, left_by}
 use Rattle.transfer_machine.specs.declared.action.Action.{Action}
-use Rattle.transfer_machine.specs.declared.action.Action.TheVariants.{Store, Exchange}
-use Rattle.transfer_invariant.specs.Memory.{Words, Acted, state_tag, slot_tag, slot_value}
+use Rattle.transfer_machine.specs.declared.action.Action.TheVariants.{Exchange}
+use Rattle.transfer_invariant.specs.Memory.{Words, Acted, slot_tag, slot_value}
 use Rattle.transfer_invariant.proofs.Acts.{exchanges_slot}
 use Rattle.slot_invariant.proofs.Changes.{SlotsStay, SlotExchanged}
 

@@ -1,5 +1,5 @@
 -- which slots the overlay covers that a view loaded
-use Rattle.std.proofs.Common.{◌≡◌, ℕ, ◌+◌, ◌-◌, ◌<◌, ◌≤◌, true, sym, arith}
+use Rattle.std.proofs.Common.{◌≡◌, ℕ, ◌+◌, ◌<◌, ◌≤◌, true, sym, arith}
 use Rattle.word_layout.specs.Sizes.{Sizes}
 use Rattle.word_layout.specs.Names.{record_words}
 use Rattle.transfer_machine.specs.Loads.{loaded_tag, loaded_base, overlay_length, overlay_head}
@@ -8,7 +8,7 @@ use Rattle.transfer_machine.specs.declared.transfer.TransferView.{TransferView}
 use Rattle.transfer_machine.specs.declared.stage.NextStep.{NextStep}
 use Rattle.transfer_invariant.specs.Memory.{Words, States, state_tag}
 use Rattle.transfer_invariant.specs.Progress.{has_record, has_loaded, loaded_words}
-use Rattle.transfer_invariant.specs.Records.{StateFits, StatesFit, LoadedState}
+use Rattle.transfer_invariant.specs.Records.{StatesFit, LoadedState}
 use Rattle.transfer_invariant.proofs.Loaded.{whole_record}
 
 -- those of the loaded state, which are slots, and at most one a process

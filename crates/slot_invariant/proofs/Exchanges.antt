@@ -1,10 +1,10 @@
 -- the exchanges of a slot and of the state
-use Rattle.std.proofs.Common.{◌≡◌, ◌≢◌, ℕ, ◌+◌, ◌-◌, ◌<◌, ◌≤◌, ◌^◌, ◌==◌, Bool, true, false, refl, sym, ◌∙◌, ap, inl, inr, arith, get_or}
+use Rattle.std.proofs.Common.{◌≡◌, ℕ, ◌+◌, ◌<◌, ◌≤◌, ◌^◌, ◌==◌, Bool, true, false, refl, sym, ◌∙◌, ap, inl, inr, arith, get_or}
 use Rattle.std.specs.Prelude.{if◌then◌else◌, nat_lt}
 use Rattle.std.proofs.lemmas.Bool.{cases_eq, cases_lt}
 use Rattle.std.proofs.lemmas.Bool.Decides.{nat_tests}
 use Rattle.word_layout.specs.Sizes.{Sizes}
-use Rattle.word_layout.specs.Packing.{tag_of, value_of, tagged}
+use Rattle.word_layout.specs.Packing.{tag_of, value_of}
 use Rattle.word_layout.specs.declared.name.WordName.TheVariants.{State, Slot}
 use Rattle.word_layout.proofs.Packed.{tagged-parts}
 use Rattle.transfer_machine.specs.Loads.{loaded_tag, loaded_base, overlay_length, overlay_head}
@@ -22,7 +22,7 @@ use Rattle.transfer_invariant.proofs.Keeps.{row_fits}
 use Rattle.transfer_invariant.proofs.Writes.{with_state_here, with_state_below}
 use Rattle.slot_invariant.specs.Slots.{at_slot_exchange, passed_slots, slot_to_pass, word_to_pass, SlotsHold, SlotsKnown, SlotsInvariant}
 use Rattle.slot_invariant.specs.Laws.{PlanBelow}
-use Rattle.slot_invariant.proofs.Changes.{SlotsStay, SlotExchanged}
+use Rattle.slot_invariant.proofs.Changes.{SlotExchanged}
 use Rattle.slot_invariant.proofs.Acts.{misses_slots, slot_exchanged, slot_not_exchanged}
 use Rattle.slot_invariant.proofs.Covers.{Covers}
 use Rattle.slot_invariant.proofs.Stable.{covered_has_record, exchange_is_covered, exchange_hold, exchange_known, install_hold, install_known}
@@ -134,9 +134,9 @@ state_exchange sizes m n views after states i true few li inv h e lies test a mo
     let new_base : (later (state_tag m + 1)).base ≡ v.plan.base = ap (λ (s : StackState). s.base) here ∙ planned_base (states (state_tag m)) v in
     slots_move sizes n views after later i (installed v)
     (install_hold sizes m n states later inv.states_fit h.hold stays raised same
-      (rw (new_base, height) (lies e))
-      (λ s lt. rw here (planned_content (states (state_tag m)) v s (rw new_base at lt)))
-      (λ s ge lt. known.passed has now s (rw base at ge) (rw all (rw height at lt))))
+    (rw (new_base, height) (lies e))
+    (λ s lt. rw here (planned_content (states (state_tag m)) v s (rw new_base at lt)))
+    (λ s ge lt. known.passed has now s (rw base at ge) (rw all (rw height at lt))))
     (nothing_known n (installed v) known.room refl)
     (λ o lo. install_known sizes m n states (views o) (view_covers sizes m views states o inv lo) (h.known o lo) raised) moved
 state_exchange sizes m n views after states i false few li inv h e lies test a moved =

@@ -8,7 +8,7 @@ use Rattle.transfer_machine.specs.Loads.{loaded_tag, loaded_record, loaded_base}
 use Rattle.transfer_machine.specs.Tries.{planned_value, pops_slot}
 use Rattle.transfer_machine.specs.Machine.{action_at, met_at, own_announcement, stored_word}
 use Rattle.transfer_machine.specs.Words.{name_of}
-use Rattle.transfer_machine.specs.declared.action.Action.TheVariants.{Load, Store, Exchange}
+use Rattle.transfer_machine.specs.declared.action.Action.TheVariants.{Load, Store}
 use Rattle.transfer_machine.specs.declared.stage.NextStep.{NextStep}
 use Rattle.transfer_machine.specs.declared.stage.NextStep.TheVariants.{Rest, Announce, LoadState, LoadRecordWord, LoadCoveredSlot, ExchangeSlot, LoadAnnouncement, LoadPoppedSlot, StoreRecordWord, ExchangeState, LoadFinalState, LoadReply}
 use Rattle.transfer_invariant.specs.Memory.{Words, Views, States, Acted, Moved}

@@ -7,3 +7,4 @@ pub mod Steps
 pub mod Exchanges
 pub mod Keeps
 pub mod Popped
+pub mod Opened

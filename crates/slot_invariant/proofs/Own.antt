@@ -1,20 +1,16 @@
 -- what the moving view knows of the slots after its step
-use Rattle.std.proofs.Common.{◌≡◌, ◌≢◌, ℕ, ◌+◌, ◌-◌, ◌<◌, ◌≤◌, ◌^◌, ◌==◌, Bool, true, false, refl, sym, ◌∙◌, ap, inl, inr, arith, length, get_or, set, get_or-set_same, length-set}
-use Rattle.std.specs.Prelude.{if◌then◌else◌, nat_lt}
-use Rattle.std.proofs.lemmas.Bool.{cases_eq, cases_lt}
+use Rattle.std.proofs.Common.{◌≡◌, ℕ, ◌+◌, ◌<◌, ◌≤◌, Bool, true, false, refl, sym, ◌∙◌, inl, inr, arith, length, get_or, set, get_or-set_same, length-set}
+use Rattle.std.proofs.lemmas.Bool.{cases_eq}
 use Rattle.std.proofs.lemmas.Bool.Decides.{nat_tests}
-use Rattle.word_layout.specs.Sizes.{Sizes}
 use Rattle.word_layout.specs.Packing.{tag_of, value_of}
-use Rattle.transfer_machine.specs.Loads.{loaded_tag, loaded_base, overlay_length, overlay_head}
-use Rattle.transfer_machine.specs.Machine.{after_slot, after_record, after_heard, after_stored}
+use Rattle.transfer_machine.specs.Loads.{loaded_tag, loaded_base, overlay_length}
+use Rattle.transfer_machine.specs.Machine.{after_slot, after_record}
 use Rattle.transfer_machine.specs.declared.loaded.Loaded.{Loaded}
 use Rattle.transfer_machine.specs.declared.transfer.TransferView.{TransferView}
-use Rattle.transfer_machine.specs.declared.stage.NextStep.{NextStep}
-use Rattle.transfer_machine.specs.declared.stage.NextStep.TheVariants.{LoadState, LoadCoveredSlot, ExchangeSlot, LoadAnnouncement, LoadFinalState}
-use Rattle.transfer_invariant.specs.Memory.{Words, States, state_tag, slot_tag, slot_value}
+use Rattle.transfer_machine.specs.declared.stage.NextStep.TheVariants.{ExchangeSlot}
+use Rattle.transfer_invariant.specs.Memory.{Words, state_tag, slot_tag, slot_value}
 use Rattle.transfer_invariant.specs.Progress.{has_record}
-use Rattle.slot_invariant.specs.Slots.{at_covered_slot, at_slot_exchange, passed_before, passed_slots, slot_to_pass, word_to_pass, SlotsHold, SlotsKnown}
-use Rattle.slot_invariant.proofs.Covers.{Covers}
+use Rattle.slot_invariant.specs.Slots.{at_covered_slot, at_slot_exchange, passed_before, passed_slots, SlotsKnown}
 use Rattle.slot_invariant.proofs.Stable.{covered_has_record, exchange_is_covered}
 
 false_true : false ≡ true → ⊥

@@ -2,15 +2,14 @@
 use Rattle.std.proofs.Common.{◌≡◌, ◌≢◌, ℕ, ◌+◌, ◌<◌, ◌≤◌, true, refl, ◌∙◌, inl, inr, arith}
 use Rattle.std.specs.Prelude.{◌⊎◌}
 use Rattle.std.proofs.lemmas.Bool.{cases_eq, cases_lt}
-use Rattle.word_layout.specs.Sizes.{Sizes, blocks}
-use Rattle.transfer_machine.specs.Loads.{loaded_tag, loaded_base, overlay_length}
-use Rattle.transfer_machine.specs.States.{StackState}
+use Rattle.word_layout.specs.Sizes.{Sizes}
+use Rattle.transfer_machine.specs.Loads.{loaded_tag, overlay_length}
 use Rattle.transfer_machine.specs.declared.transfer.TransferView.{TransferView}
 use Rattle.transfer_machine.specs.declared.stage.NextStep.{NextStep}
 use Rattle.transfer_invariant.specs.Memory.{Words, States, state_tag, slot_tag, slot_value}
 use Rattle.transfer_invariant.specs.Progress.{has_record}
-use Rattle.transfer_invariant.specs.Records.{StateFits, StatesFit}
-use Rattle.slot_invariant.specs.Slots.{at_covered_slot, at_slot_exchange, passed_before, passed_slots, slot_to_pass, word_to_pass, SlotsHold, SlotsKnown}
+use Rattle.transfer_invariant.specs.Records.{StatesFit}
+use Rattle.slot_invariant.specs.Slots.{at_covered_slot, at_slot_exchange, passed_before, slot_to_pass, SlotsHold, SlotsKnown}
 use Rattle.slot_invariant.proofs.Changes.{SlotsStay, SlotExchanged}
 use Rattle.slot_invariant.proofs.Covers.{Covers}
 

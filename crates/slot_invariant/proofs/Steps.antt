@@ -1,16 +1,15 @@
 -- the steps that change no slot and no state
-use Rattle.std.proofs.Common.{◌≡◌, ◌≢◌, ℕ, ◌+◌, ◌<◌, ◌≤◌, ◌==◌, Bool, true, false, refl, ◌∙◌, inl, inr, arith, set, length-set}
+use Rattle.std.proofs.Common.{◌≡◌, ℕ, ◌+◌, ◌<◌, ◌≤◌, ◌==◌, Bool, true, false, refl, ◌∙◌, inl, inr, arith, set, length-set}
 use Rattle.std.specs.Prelude.{if◌then◌else◌, nat_lt}
 use Rattle.std.proofs.lemmas.Bool.{cases_eq}
 use Rattle.std.proofs.lemmas.Bool.Decides.{nat_tests}
 use Rattle.word_layout.specs.Sizes.{Sizes}
 use Rattle.word_layout.specs.Names.{record_words}
-use Rattle.word_layout.specs.Packing.{tag_of, value_of}
+use Rattle.word_layout.specs.Packing.{tag_of}
 use Rattle.word_layout.specs.declared.name.WordName.TheVariants.{Slot}
 use Rattle.transfer_machine.specs.Loads.{loaded_tag, loaded_base, overlay_length}
 use Rattle.transfer_machine.specs.Tries.{begun_plan, after_announcement}
-use Rattle.transfer_machine.specs.Machine.{try_ended, after_slot, after_record, after_heard, after_stored, record_word_loaded, announcement_loaded, popped_loaded}
-use Rattle.transfer_machine.specs.declared.loaded.Loaded.{Loaded}
+use Rattle.transfer_machine.specs.Machine.{try_ended, after_slot, after_record, after_heard, after_stored, record_word_loaded, popped_loaded}
 use Rattle.transfer_machine.specs.declared.transfer.TransferView.{TransferView}
 use Rattle.transfer_machine.specs.declared.stage.NextStep.TheVariants.{LoadState, LoadRecordWord, LoadCoveredSlot, ExchangeSlot, LoadAnnouncement, LoadPoppedSlot, StoreRecordWord, LoadFinalState}
 use Rattle.transfer_invariant.specs.Memory.{Words, Views, States, Moved, state_tag, slot_tag, slot_value}
@@ -20,7 +19,7 @@ use Rattle.slot_invariant.specs.Slots.{at_covered_slot, passed_before, SlotsHold
 use Rattle.slot_invariant.proofs.Changes.{SlotsStay}
 use Rattle.slot_invariant.proofs.Covers.{Covers, covers}
 use Rattle.slot_invariant.proofs.Stable.{stay_hold, stay_known}
-use Rattle.slot_invariant.proofs.Own.{GoesPast, nothing_known, record_known, past_known, slot_known, lower_known}
+use Rattle.slot_invariant.proofs.Own.{nothing_known, record_known, past_known, slot_known, lower_known}
 
 -- the part after a step, of the words, of the moving view and of the others
 pub slots_move : (sizes : Sizes) (n : Words) (views after : Views) (states : States) (i : ℕ) (x : TransferView) → SlotsHold sizes n states → SlotsKnown n x → ((o : ℕ) → o < sizes.processes → SlotsKnown n (views o)) → Moved i x views after → SlotsInvariant sizes n after states
@@ -58,8 +57,8 @@ record_word_known sizes n v index word t h =
     let loaded = record v.loaded { record_words = set v.loaded.record_words index word } in
     either_known n t (try_ended v) _ (ended_known n v h)
     (either_known n (index + 1 == record_words sizes) _ _
-      (record_known n (record v { loaded = loaded; next = after_record loaded; plan = begun_plan loaded v.plan }) h.room refl)
-      (nothing_known n (record v { loaded = loaded; next = LoadRecordWord (index + 1) }) h.room refl))
+    (record_known n (record v { loaded = loaded; next = after_record loaded; plan = begun_plan loaded v.plan }) h.room refl)
+    (nothing_known n (record v { loaded = loaded; next = LoadRecordWord (index + 1) }) h.room refl))
 
 -- an announcement is loaded
 heard_past : (sizes : Sizes) (process : ℕ) → at_covered_slot (after_heard sizes process) ≡ false
@@ -76,9 +75,9 @@ announcement_known sizes n v process word t h e =
     let loaded = record v.loaded { announcements = set v.loaded.announcements process word } in
     either_known n t _ _
     (past_known n v (record v { loaded = loaded; next = LoadPoppedSlot process }) h
-      (record { was = rw e refl; state = refl; record_words = refl; slots = refl; all = rw e refl; past = refl; none = omega arith }))
+    (record { was = rw e refl; state = refl; record_words = refl; slots = refl; all = rw e refl; past = refl; none = omega arith }))
     (past_known n v (record v { loaded = loaded; next = after_heard sizes process; plan = after_announcement sizes.processes v.loaded process word 0 v.plan }) h
-      (record { was = rw e refl; state = refl; record_words = refl; slots = refl; all = rw e refl; past = heard_past sizes process; none = heard_passed sizes process (overlay_length v.loaded) }))
+    (record { was = rw e refl; state = refl; record_words = refl; slots = refl; all = rw e refl; past = heard_past sizes process; none = heard_passed sizes process (overlay_length v.loaded) }))
 
 -- the slot of a taken batch is loaded
 pub popped_known : (sizes : Sizes) (n : Words) (v : TransferView) (process word : ℕ) → SlotsKnown n v → v.next ≡ LoadPoppedSlot process → SlotsKnown n (popped_loaded sizes process word v)

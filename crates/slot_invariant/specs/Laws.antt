@@ -11,10 +11,18 @@ use Rattle.transfer_machine.specs.Opening.{opening_word, opening_transfer}
 use Rattle.transfer_machine.specs.declared.transfer.TransferView.{TransferView}
 use Rattle.transfer_machine.specs.declared.stage.NextStep.TheVariants.{Rest, LoadCoveredSlot, ExchangeSlot, LoadPoppedSlot, ExchangeState}
 use Rattle.transfer_invariant.specs.Memory.{Words, Views, States, Acted, Moved, state_tag, slot_value}
+use Rattle.transfer_invariant.specs.OpeningState.{opening_state}
 use Rattle.transfer_invariant.specs.Installing.{states_after}
 use Rattle.transfer_invariant.specs.Invariant.{Invariant}
 use Rattle.transfer_invariant.specs.Laws.{WritesFit}
 use Rattle.slot_invariant.specs.Slots.{SlotsInvariant}
+
+-- the words and views of the opening meet the part on slots, with the state of the opening
+abbrev pub OpeningMeetsSlots : Type 0
+OpeningMeetsSlots = (sizes : Sizes) (words : Words) (views : Views) → IsShape sizes
+    → ((name : WordName) → InRange sizes name → words name ≡ opening_word sizes name)
+    → ((i : ℕ) → i < sizes.processes → views i ≡ opening_transfer i)
+    → SlotsInvariant sizes words views (λ m. opening_state sizes)
 
 -- a plan that is to be installed lies on the loaded content
 abbrev pub PlanBelow : TransferView → Type 0
