@@ -66,7 +66,7 @@ slot_to_pass v = loaded_base v.loaded + passed_slots v
 abbrev pub word_to_pass : TransferView → ℕ
 word_to_pass v = slice_index v.loaded.slots (passed_slots v)
 
--- Slots: those below the base hold the content; no tag is above the state's, and a slot with the state's tag is covered and holds the content; a slot that an earlier state covered has at least that one's tag; all values are blocks
+-- Slots: below the base they hold the content; a slot with the state's tag, the highest one, is covered and holds the content; a slot that an earlier state covered has at least that one's tag
 pub record SlotsHold (sizes : Sizes) (words : Words) (states : States) : Type 0 where
   pub below : (s : ℕ) → s < (states (state_tag words)).base → slot_value words s ≡ (states (state_tag words)).content s
   pub tags : (s : ℕ) → s < sizes.batches → slot_tag words s ≤ state_tag words
@@ -76,7 +76,7 @@ pub record SlotsHold (sizes : Sizes) (words : Words) (states : States) : Type 0 
   pub before : (m s : ℕ) → m < state_tag words → (states m).base ≤ s → s < (states m).height → m ≤ slot_tag words s
   pub values : (s : ℕ) → s < sizes.batches → slot_value words s < blocks sizes
 
--- Slots, of one view: it is at covered slots only; while the loaded state is the present one, the slots that it passed have that state's tag; before an exchange, the loaded word had a lower tag than the loaded state, and while that is the present one, the slot has its tag or still that word
+-- Slots, of one view: while the loaded state is the present one, the covered slots that it passed have that state's tag, and the slot that it is to exchange has it too or is still the word that was loaded
 pub record SlotsKnown (words : Words) (v : TransferView) : Type 0 where
   pub room : length v.loaded.slots ≡ 32
   pub within : at_covered_slot v.next ≡ true → passed_slots v < overlay_length v.loaded
