@@ -8,7 +8,7 @@ use Rattle.word_layout.specs.declared.name.WordName.{WordName}
 use Rattle.word_layout.specs.declared.name.WordName.TheVariants.{Announcement}
 use Rattle.transfer_machine.specs.Opening.{opening_word, opening_transfer}
 use Rattle.transfer_invariant.specs.Memory.{Words, Views}
-use Rattle.transfer_invariant.proofs.Opened.{opening_state}
+use Rattle.transfer_invariant.specs.OpeningState.{opening_state}
 use Rattle.helping_invariant.specs.Parts.{AppliedRises, AnnouncementHolds}
 use Rattle.helping_invariant.specs.Holds.{HelpingHolds}
 use Rattle.helping_invariant.proofs.Own.{tries_idle, settled_idle}

@@ -14,6 +14,7 @@ use Rattle.transfer_machine.specs.Opening.{opening_word, opening_transfer}
 use Rattle.transfer_machine.specs.declared.transfer.TransferView.{TransferView}
 use Rattle.transfer_machine.specs.declared.stage.NextStep.TheVariants.{Rest, Announce, ExchangeState, LoadReply}
 use Rattle.transfer_invariant.specs.Memory.{Words, Views, States, Acted, Moved, state_tag}
+use Rattle.transfer_invariant.specs.OpeningState.{opening_state}
 use Rattle.transfer_invariant.specs.Installing.{states_after}
 use Rattle.transfer_invariant.specs.Plans.{RepliesPlanned}
 use Rattle.transfer_invariant.specs.Progress.{has_announced}
@@ -22,12 +23,12 @@ use Rattle.transfer_invariant.specs.Laws.{WritesFit}
 use Rattle.helping_invariant.specs.Parts.{has_tried, heard}
 use Rattle.helping_invariant.specs.Holds.{HelpingHolds}
 
--- with some states the words and views of the opening meet the invariant and the parts of helping
-abbrev pub OpeningHelps : Type 0
-OpeningHelps = (sizes : Sizes) (words : Words) (views : Views) → IsShape sizes
+-- the words and views of the opening meet the parts of helping, with the state of the opening
+abbrev pub OpeningMeetsHelping : Type 0
+OpeningMeetsHelping = (sizes : Sizes) (words : Words) (views : Views) → IsShape sizes
     → ((name : WordName) → InRange sizes name → words name ≡ opening_word sizes name)
     → ((i : ℕ) → i < sizes.processes → views i ≡ opening_transfer i)
-    → (states : States) × Invariant sizes words views states × HelpingHolds sizes words views states
+    → HelpingHolds sizes words views (λ m. opening_state sizes)
 
 -- the step of a process keeps the parts of helping, where what it writes fits, its plan has its replies, and the wish that it announces fits
 abbrev pub StepsKeepHelping : Type 0

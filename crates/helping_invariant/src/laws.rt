@@ -1,10 +1,10 @@
 //! The opening meets the parts of helping and each step keeps them. Each law is the contract of a call that
 //! does nothing.
-ghost use Rattle.helping_invariant.specs.Laws.{OpeningHelps, StepsKeepHelping, BeginningsKeepHelping, InstallsPresent, TransfersAreAnswered, TwoTriesApply, AllButOneApplied};
+ghost use Rattle.helping_invariant.specs.Laws.{OpeningMeetsHelping, StepsKeepHelping, BeginningsKeepHelping, InstallsPresent, TransfersAreAnswered, TwoTriesApply, AllButOneApplied};
 
-/// The words and views of the opening meet the invariant and the parts of helping.
+/// The words and views of the opening meet the parts of helping.
 pub fn opening()
-    ensures { OpeningHelps }
+    ensures { OpeningMeetsHelping }
 {}
 
 /// Every step of every process keeps the parts of helping, where what it writes fits, its plan replies to
