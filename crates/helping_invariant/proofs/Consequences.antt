@@ -64,10 +64,10 @@ reply_settled sizes words states i row m li c low applied le lr ge same higher =
       higher (omega arith) (omega arith)
 ]
 
-pub answered : (sizes : Sizes) (words : Words) (views : Views) (states : States) (i : ℕ) → i < sizes.processes → Invariant sizes words views states → HelpingHolds sizes words views states → (views i).next ≡ LoadReply
+pub loaded_reply_present : (sizes : Sizes) (words : Words) (views : Views) (states : States) (i : ℕ) → i < sizes.processes → Invariant sizes words views states → HelpingHolds sizes words views states → (views i).next ≡ LoadReply
     → value_of (words (RecordWord (loaded_record (views i).loaded) (sizes.processes + 2 + (views i).number))) ≡ (states (state_tag words)).reply i
 unfolding word_value
-answered sizes words views states i li inv h e =
+loaded_reply_present sizes words views states i li inv h e =
     let v = views i in
     let m = loaded_tag v.loaded in
     let row = loaded_record v.loaded in
@@ -82,3 +82,7 @@ answered sizes words views states i li inv h e =
     (reply_settled sizes words states i row m li h.counts inv.records.tags_below (final ∙ sym ended) past (l.row has) (l.tags has index (omega arith))
     (λ t. l.values has index (omega arith) t ∙ value_reply sizes.processes i (states m) ∙ (h.settled i li).in_states pends m past final)
     (λ some applied. (h.settled i li).in_records pends row (l.row has) some (applied ∙ ended)))
+
+pub answered : (sizes : Sizes) (words : Words) (views : Views) (states : States) (i : ℕ) → i < sizes.processes → Invariant sizes words views states → HelpingHolds sizes words views states → (views i).next ≡ LoadReply
+    → (value_of (words (RecordWord (loaded_record (views i).loaded) (sizes.processes + 2 + (views i).number))) ≡ (states (state_tag words)).reply i) × ((states (state_tag words)).applied i ≡ (views i).age)
+answered sizes words views states i li inv h e = (loaded_reply_present sizes words views states i li inv h e, (h.tries i li).ended (rw e refl))

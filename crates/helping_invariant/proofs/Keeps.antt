@@ -99,7 +99,7 @@ pub step_helps : (sizes : Sizes) (m n : Words) (views after : Views) (states : S
     → Acted sizes (action_at sizes (views i) s) m n → Moved i (met_at sizes (views i) (m (name_of (action_at sizes (views i) s))) s) views after → HelpingHolds sizes n after (states_after_at m (views i) states s)
 unfolding word_tag
 step_helps sizes m n views after states i Rest few li inv h w plans wish e a moved =
-    loads sizes State m n after states a (view_idle sizes m views after states i (views i) li h moved ((h.announced i li).idle (rw e refl)) (rw e refl) (rw e refl) (rw e refl) refl refl refl)
+    loads sizes State m n after states a (view_idle sizes m views after states i (views i) li h moved ((h.announced i li).idle (rw e refl)) (rw e refl) (rw e refl) refl refl refl)
 step_helps sizes m n views after states i Announce few li inv h w plans wish e a moved =
     let s = announces sizes (views i).number (own_announcement (views i)) m n a in
     let stored : AnnouncementStored sizes m n i (own_announcement (views i)) = rw (h.announced i li).number at (stores_announcement sizes (views i).number (own_announcement (views i)) m n a) in
@@ -136,4 +136,4 @@ step_helps sizes m n views after states i LoadFinalState few li inv h w plans wi
     loads sizes State m n after states a (view_loads_final sizes m views after states i li h (past sizes m views states inv.records) e moved)
 step_helps sizes m n views after states i LoadReply few li inv h w plans wish e a moved =
     let name = RecordWord (loaded_record (views i).loaded) (sizes.processes + 2 + (views i).number) in
-    loads sizes name m n after states a (view_idle sizes m views after states i (met_at sizes (views i) (m name) LoadReply) li h moved ((h.tries i li).ended (rw e refl)) refl refl refl refl refl refl)
+    loads sizes name m n after states a (view_idle sizes m views after states i (met_at sizes (views i) (m name) LoadReply) li h moved ((h.tries i li).ended (rw e refl)) refl refl refl refl refl)

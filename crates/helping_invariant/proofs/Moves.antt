@@ -98,8 +98,8 @@ view_moves sizes m views after states i x li h past moved owes = assemble sizes 
 
 -- a process at rest stays so, and one begins or ends a transfer
 pub view_idle : (sizes : Sizes) (m : Words) (views after : Views) (states : States) (i : ℕ) (x : TransferView) → i < sizes.processes → HelpingHolds sizes m views states → Moved i x views after → (states (state_tag m)).applied i ≡ (views i).age
-    → has_announced x.next ≡ false → in_try x.next ≡ false → heard_announcements sizes.processes x.next ≡ 0 → x.number ≡ (views i).number → x.age ≡ (views i).age → x.loaded ≡ (views i).loaded → HelpingHolds sizes m after states
-view_idle sizes m views after states i x li h moved applied none out deaf en ea el = assemble sizes m views after states i x moved (record {
+    → has_announced x.next ≡ false → heard_announcements sizes.processes x.next ≡ 0 → x.number ≡ (views i).number → x.age ≡ (views i).age → x.loaded ≡ (views i).loaded → HelpingHolds sizes m after states
+view_idle sizes m views after states i x li h moved applied none deaf en ea el = assemble sizes m views after states i x moved (record {
   counts = h.counts;
   announced = announced_idle m states i (views i) x (h.announced i li) none applied en ea (ap (λ l. length l.announcements) el);
   tries = tries_idle m states i x none;

@@ -81,5 +81,6 @@ pub record AppliedCount (words : Words) (states : States) (o : ℕ) (v : Transfe
   pub most : (states (state_tag words)).applied o ≤ v.age
   pub least : v.age ≤ (states (state_tag words)).applied o + 1
 
+-- at any time
 abbrev pub AllButOneApplied : Type 0
 AllButOneApplied = (sizes : Sizes) (words : Words) (views : Views) (states : States) (o : ℕ) → o < sizes.processes → HelpingHolds sizes words views states → AppliedCount words states o (views o)

@@ -5,4 +5,4 @@ use Rattle.helping_invariant.proofs.laws.beginnings.Goals as goal
 
 pub returns : goal.returns
 returns c sizes words views after states i wish li h rest moved =
-    view_idle sizes words views after states i (begun wish (views i)) li h moved ((h.announced i li).idle (rw rest refl)) refl refl refl refl refl refl
+    view_idle sizes words views after states i (begun wish (views i)) li h moved ((h.announced i li).idle (rw rest refl)) refl refl refl refl refl

@@ -1,6 +1,5 @@
-use Rattle.std.proofs.Common.{refl}
 use Rattle.helping_invariant.proofs.Consequences.{answered}
 use Rattle.helping_invariant.proofs.laws.replies.Goals as goal
 
 pub returns : goal.returns
-returns c sizes words views states i li inv h e = (answered sizes words views states i li inv h e, (h.tries i li).ended (rw e refl))
+returns c sizes words views states i li inv h e = answered sizes words views states i li inv h e
