@@ -10,6 +10,7 @@
 #![tactic(auto)]
 
 mod action;
+mod call;
 mod heads;
 mod kind;
 pub mod laws;
@@ -24,6 +25,7 @@ mod try_plan;
 mod view;
 
 pub use action::Action;
+pub use call::{Call, CallStage, CallView, Way};
 pub use heads::Heads;
 pub use kind::Kind;
 pub use loaded::Loaded;
