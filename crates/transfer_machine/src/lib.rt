@@ -31,7 +31,7 @@ pub use kind::Kind;
 pub use loaded::Loaded;
 pub use opening::opening_words;
 pub use stage::{NextStep, Phase, Stage};
-pub use step::{can_step, step_transfer, step_words};
+pub use step::{act, can_step, step_transfer, step_words};
 pub use transfer::TransferView;
 pub use try_plan::TryPlan;
 pub use view::{PoolView, ProcessView, begin_transfer};

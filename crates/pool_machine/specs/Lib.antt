@@ -1,0 +1,5 @@
+pub mod Beginning
+pub mod Conditions
+pub mod OwnSteps
+pub mod Steps
+pub mod Ready
