@@ -3,3 +3,4 @@ pub mod Conditions
 pub mod OwnSteps
 pub mod Steps
 pub mod Ready
+pub mod Laws

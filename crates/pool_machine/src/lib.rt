@@ -10,6 +10,7 @@ mod answer;
 mod begin;
 mod conditions;
 mod event;
+pub mod laws;
 mod own;
 mod ready;
 mod step;
