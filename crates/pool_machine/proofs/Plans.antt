@@ -11,7 +11,7 @@ use Rattle.transfer_schedule.specs.declared.own_step.Source.{Source}
 use Rattle.transfer_schedule.specs.declared.own_step.Target.{Target}
 use Rattle.transfer_schedule.specs.declared.own_step.Source.TheVariants as source
 use Rattle.transfer_schedule.specs.declared.own_step.Target.TheVariants as target
-use Rattle.transfer_machine.specs.Pools.{pool_met_at, pool_ended, step_counted}
+use Rattle.transfer_machine.specs.Pools.{pool_met_at, pool_ended, step_counted, opening_view}
 use Rattle.transfer_machine.specs.declared.call.Call.{Call}
 use Rattle.transfer_machine.specs.declared.call.Call.TheVariants.{Allocate, Free, Read, Write}
 use Rattle.transfer_machine.specs.declared.call.CallStage.{CallStage}
@@ -106,3 +106,7 @@ met_fits_at sizes v word Own h = rw (own_plan word v.pool v.calls.call) (after_f
 
 pub met_fits : (sizes : Sizes) (v : ProcessView) (word : ℕ) → PlanFits sizes v.pool.plan → PlanFits sizes (call_met sizes v word).pool.plan
 met_fits sizes v word h = met_fits_at sizes v word v.calls.stage h
+
+-- the plan of the opening has the shape's sizes
+pub opening_fits : (sizes : Sizes) (process : ℕ) → PlanFits sizes (opening_view sizes process).pool.plan
+opening_fits sizes process = record { length = refl; bound = refl; quantum = refl }

@@ -14,9 +14,11 @@ pub mod laws;
 mod own;
 mod ready;
 mod step;
+#[cfg(test)]
+mod tests;
 
 pub use answer::OwnAnswer;
-pub use begin::{before_call, begin_call};
+pub use begin::{before_call, begin_alone, begin_call};
 pub use conditions::{may_call, may_move};
 pub use event::{Event, Happened};
 pub use own::{own_action, own_answer, own_kind, own_meet};
