@@ -1,6 +1,5 @@
 -- what calls make of the plan
-use Rattle.std.proofs.Common.{◌≡◌, ℕ, ◌<◌, ◌==◌, Bool, true, false, Option, None, Some, refl, arith}
-use Rattle.std.specs.Prelude.{if◌then◌else◌, nat_lt}
+use Rattle.std.proofs.Common.{◌≡◌, ℕ, Bool, true, false, Option, None, Some, refl, arith}
 use Rattle.std.proofs.lemmas.Bool.Decides.{nat_tests}
 use Rattle.word_layout.specs.Sizes.{Sizes}
 use Rattle.word_layout.specs.Packing.{value_of, reply_of}
@@ -21,7 +20,7 @@ use Rattle.transfer_machine.specs.declared.stage.NextStep.TheVariants.{Rest, Ann
 use Rattle.transfer_machine.specs.declared.view.PoolView.{PoolView}
 use Rattle.transfer_machine.specs.declared.view.ProcessView.{ProcessView}
 use Rattle.pool_machine.specs.Beginning.{before_call, call_begun}
-use Rattle.pool_machine.specs.OwnSteps.{allocated, freed, pool_own_met, own_met}
+use Rattle.pool_machine.specs.OwnSteps.{allocated, freed, pool_own_met}
 use Rattle.pool_machine.specs.Steps.{call_met, call_met_at}
 use Rattle.pool_machine.specs.Ready.{PlanFits}
 use Rattle.pool_machine.specs.Laws.{plan_after}
