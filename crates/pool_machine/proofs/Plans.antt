@@ -5,6 +5,8 @@ use Rattle.word_layout.specs.Sizes.{Sizes}
 use Rattle.word_layout.specs.Packing.{value_of, reply_of}
 use Rattle.word_layout.specs.declared.reply.Reply.{Reply}
 use Rattle.word_layout.specs.declared.reply.Reply.TheVariants as reply
+use Rattle.word_layout.specs.declared.announced.Wish.{Wish}
+use Rattle.word_layout.specs.declared.announced.Wish.TheVariants.{Take, Give}
 use Rattle.transfer_schedule.specs.Numbers as schedule
 use Rattle.transfer_schedule.specs.declared.own_step.Source.{Source}
 use Rattle.transfer_schedule.specs.declared.own_step.Target.{Target}
@@ -19,15 +21,20 @@ use Rattle.transfer_machine.specs.declared.stage.NextStep.{NextStep}
 use Rattle.transfer_machine.specs.declared.stage.NextStep.TheVariants.{Rest, Announce, LoadState, LoadRecordWord, LoadCoveredSlot, ExchangeSlot, LoadAnnouncement, LoadPoppedSlot, StoreRecordWord, ExchangeState, LoadFinalState, LoadReply}
 use Rattle.transfer_machine.specs.declared.view.PoolView.{PoolView}
 use Rattle.transfer_machine.specs.declared.view.ProcessView.{ProcessView}
-use Rattle.pool_machine.specs.Beginning.{before_call, call_begun}
+use Rattle.pool_machine.specs.Beginning.{due, before_call, call_begun}
 use Rattle.pool_machine.specs.OwnSteps.{allocated, freed, pool_own_met}
 use Rattle.pool_machine.specs.Steps.{call_met, call_met_at}
-use Rattle.pool_machine.specs.Ready.{PlanFits}
-use Rattle.pool_machine.specs.Laws.{plan_after}
+use Rattle.pool_machine.specs.Ready.{PlanFits, CanBegin}
+use Rattle.pool_machine.specs.Laws.{plan_after, CanBeginWish}
 
 -- the transfer that is due is the plan's choice
 pub choice_is_the_plans : (v : ProcessView) → (before_call v).pool.plan ≡ schedule.after_choice v.pool.plan
 choice_is_the_plans v = grind (arith, nat_tests)
+
+-- a transfer that is due can begin
+pub due_begins : (v : ProcessView) (wish : Wish) → CanBegin v → due v.pool ≡ Some wish → CanBeginWish v wish
+due_begins v Take h e = grind (arith, nat_tests)
+due_begins v (Give head) h e = grind (arith, nat_tests)
 
 -- the own steps are the schedule's
 allocated_plan : (word : ℕ) (pool : PoolView) (s : Source) → (allocated word pool s).plan ≡ schedule.after_took_one pool.plan
