@@ -1,0 +1,4 @@
+pub mod Lists
+pub mod Wishes
+pub mod Announcements
+pub mod Views
