@@ -2,3 +2,5 @@ pub mod Lists
 pub mod Wishes
 pub mod Announcements
 pub mod Views
+pub mod Plans
+pub mod Numbers

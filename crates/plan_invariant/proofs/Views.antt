@@ -101,7 +101,7 @@ goes_on sizes v x h e r a p has le among =
     }
 
 -- a view that waits for a slot
-below_apart : (j n : ℕ) → j < n → j ≢ n
+pub below_apart : (j n : ℕ) → j < n → j ≢ n
 below_apart j n lt e = absurd (omega arith)
 
 pub waits : (sizes : Sizes) (v : TransferView) (process word : ℕ) → sizes.processes ≤ 32 → ViewPlans sizes v → v.next ≡ LoadAnnouncement process → value_of word ≤ blocks sizes
