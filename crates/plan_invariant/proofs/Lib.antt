@@ -4,3 +4,5 @@ pub mod Announcements
 pub mod Views
 pub mod Plans
 pub mod Numbers
+pub mod KeptPlans
+pub mod Slots

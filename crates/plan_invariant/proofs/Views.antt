@@ -123,7 +123,7 @@ waits sizes v process word few h e block =
     }
 
 -- what follows an announcement
-after_planned : (sizes : Sizes) (process : ℕ) → planned_announcements sizes.processes (after_heard sizes process) ≡ process + 1
+pub after_planned : (sizes : Sizes) (process : ℕ) → planned_announcements sizes.processes (after_heard sizes process) ≡ process + 1
 after_planned sizes process = elim (cases_eq (process + 1) sizes.processes) [
   | inl last ↦ (let test : (process + 1 == sizes.processes) ≡ true = grind (arith, nat_tests) in rw test (sym last))
   | inr more ↦ (let test : (process + 1 == sizes.processes) ≡ false = grind (arith, nat_tests) in rw test refl)
