@@ -6,3 +6,5 @@ pub mod Plans
 pub mod Numbers
 pub mod KeptPlans
 pub mod Slots
+pub mod Steps
+pub mod Acts
