@@ -8,3 +8,5 @@ pub mod KeptPlans
 pub mod Slots
 pub mod Steps
 pub mod Acts
+pub mod Keeps
+pub mod NextState

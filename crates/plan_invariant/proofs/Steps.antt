@@ -31,11 +31,11 @@ module _ (sizes : Sizes) (words : Words) (views : Views) (states : States) (i : 
   pub view_fits : has_record (views i).next ≡ true → LoadedFits sizes (views i).loaded
   view_fits has = loaded_fits sizes words states (views i) inv.records.states_fit (inv.records.loaded i li) has
 
-  base_within : has_record (views i).next ≡ true → (views i).plan.base ≤ sizes.batches
+  pub base_within : has_record (views i).next ≡ true → (views i).plan.base ≤ sizes.batches
   base_within has = let fits = view_fits has in let low = (plans.each i li).fits has in omega (arith, fits.within)
 
   -- the slot of a taken batch
-  taken_slot : (process : ℕ) → (views i).next ≡ LoadPoppedSlot process → IsSlotBelow (views i).loaded (views i).plan
+  pub taken_slot : (process : ℕ) → (views i).next ≡ LoadPoppedSlot process → IsSlotBelow (views i).loaded (views i).plan
   taken_slot process e = popped_below sizes.processes (views i).loaded process (get_or (views i).loaded.announcements process 0) (views i).plan (rw e at ((plans.pops i li).popping (rw e refl)))
 
   -- what is stored
