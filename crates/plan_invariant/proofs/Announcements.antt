@@ -24,7 +24,8 @@ pub record PlanIsFine (sizes : Sizes) (plan : TryPlan) : Type 0 where
   pub replies : (k : ℕ) → get_or plan.replies k 0 < 2 ^ 24
 
 -- a wish that is granted
-taken_fine : (sizes : Sizes) (plan : TryPlan) (b : Bool) → PlanIsFine sizes plan → PlanIsFine sizes (if b then record plan { overlay = plan.overlay - 1 } else record plan { base = plan.base - 1 })
+taken_fine : (sizes : Sizes) (plan : TryPlan) (b : Bool) → PlanIsFine sizes plan
+    → PlanIsFine sizes (if b then record plan { overlay = plan.overlay - 1 } else record plan { base = plan.base - 1 })
 taken_fine sizes plan true h = record { room_heads = h.room_heads; room_replies = h.room_replies; heads = h.heads; replies = h.replies }
 taken_fine sizes plan false h = record { room_heads = h.room_heads; room_replies = h.room_replies; heads = h.heads; replies = h.replies }
 
@@ -51,7 +52,8 @@ replied_fine sizes process reply plan h lt fits = record {
 }
 
 -- the announcement of one more process
-pub announced_fine : (sizes : Sizes) (processes : ℕ) (loaded : Loaded) (process word popped : ℕ) (plan : TryPlan) → PlanIsFine sizes plan → plan.overlay < 32 → process < 32 → WishIsBlock sizes (announced_wish word) → FitsReply (wish_reply loaded popped plan (announced_wish word))
+pub announced_fine : (sizes : Sizes) (processes : ℕ) (loaded : Loaded) (process word popped : ℕ) (plan : TryPlan) → PlanIsFine sizes plan → plan.overlay < 32 → process < 32
+    → WishIsBlock sizes (announced_wish word) → FitsReply (wish_reply loaded popped plan (announced_wish word))
     → PlanIsFine sizes (after_announcement processes loaded process word popped plan)
 announced_fine sizes processes loaded process word popped plan h few lt block answer =
     either TryPlan (PlanIsFine sizes) (is_pending word (loaded_reply processes loaded process)) _ _
@@ -63,19 +65,23 @@ announced_base processes loaded process word popped plan =
     either TryPlan (λ x. x.base ≤ plan.base) (is_pending word (loaded_reply processes loaded process)) _ _ (granted_base (announced_wish word) plan) (omega arith)
 
 -- what it replies to that process, and that it leaves the replies to the others
-other_reply : (b : Bool) (process o x y : ℕ) (one other : TryPlan) → o ≢ process → one.replies ≡ other.replies → get_or (if b then replied process x one else replied process y other).replies o 0 ≡ get_or other.replies o 0
+other_reply : (b : Bool) (process o x y : ℕ) (one other : TryPlan) → o ≢ process → one.replies ≡ other.replies
+    → get_or (if b then replied process x one else replied process y other).replies o 0 ≡ get_or other.replies o 0
 other_reply true process o x y one other ne e = get_or-set_other one.replies process o x 0 ne ∙ ap (λ xs. get_or xs o 0) e
 other_reply false process o x y one other ne e = get_or-set_other other.replies process o y 0 ne
 
-pub announced_others : (processes : ℕ) (loaded : Loaded) (process word popped o : ℕ) (plan : TryPlan) → o ≢ process → get_or (after_announcement processes loaded process word popped plan).replies o 0 ≡ get_or plan.replies o 0
+pub announced_others : (processes : ℕ) (loaded : Loaded) (process word popped o : ℕ) (plan : TryPlan) → o ≢ process
+    → get_or (after_announcement processes loaded process word popped plan).replies o 0 ≡ get_or plan.replies o 0
 announced_others processes loaded process word popped o plan ne =
     other_reply (is_pending word (loaded_reply processes loaded process)) process o _ _ (granted (announced_wish word) plan) plan ne (granted_replies (announced_wish word) plan)
 
-kept_reply : (b : Bool) (process x y : ℕ) (one other : TryPlan) → b ≡ false → process < length other.replies → get_or (if b then replied process x one else replied process y other).replies process 0 ≡ y
+kept_reply : (b : Bool) (process x y : ℕ) (one other : TryPlan) → b ≡ false → process < length other.replies
+    → get_or (if b then replied process x one else replied process y other).replies process 0 ≡ y
 kept_reply true process x y one other e lt = grind arith
 kept_reply false process x y one other e lt = get_or-set_same other.replies process y 0 lt
 
-pub announced_kept : (processes : ℕ) (loaded : Loaded) (process word popped : ℕ) (plan : TryPlan) → process < length plan.replies → is_pending word (loaded_reply processes loaded process) ≡ false
+pub announced_kept : (processes : ℕ) (loaded : Loaded) (process word popped : ℕ) (plan : TryPlan) → process < length plan.replies
+    → is_pending word (loaded_reply processes loaded process) ≡ false
     → get_or (after_announcement processes loaded process word popped plan).replies process 0 ≡ loaded_reply processes loaded process
 announced_kept processes loaded process word popped plan lt e = kept_reply (is_pending word (loaded_reply processes loaded process)) process _ _ _ plan e lt
 
@@ -85,14 +91,16 @@ kept_parity true true e = refl
 kept_parity true false e = grind arith
 kept_parity false old e = e
 
-either_parity : (odd old : Bool) (process x y : ℕ) (one other : TryPlan) → process < length one.replies → process < length other.replies → is_odd_reply x ≡ odd → is_odd_reply y ≡ old
+either_parity : (odd old : Bool) (process x y : ℕ) (one other : TryPlan) → process < length one.replies → process < length other.replies → is_odd_reply x ≡ odd
+    → is_odd_reply y ≡ old
     → is_odd_reply (get_or (if (if odd then not old else old) then replied process x one else replied process y other).replies process 0) ≡ odd
 either_parity true true process x y one other low lt ex ey = ap is_odd_reply (get_or-set_same other.replies process y 0 lt) ∙ ey
 either_parity true false process x y one other low lt ex ey = ap is_odd_reply (get_or-set_same one.replies process x 0 low) ∙ ex
 either_parity false true process x y one other low lt ex ey = ap is_odd_reply (get_or-set_same one.replies process x 0 low) ∙ ex
 either_parity false false process x y one other low lt ex ey = ap is_odd_reply (get_or-set_same other.replies process y 0 lt) ∙ ey
 
-pub announced_parity : (processes : ℕ) (loaded : Loaded) (process word popped : ℕ) (plan : TryPlan) → process < length plan.replies → FitsReply (wish_reply loaded popped plan (announced_wish word))
+pub announced_parity : (processes : ℕ) (loaded : Loaded) (process word popped : ℕ) (plan : TryPlan) → process < length plan.replies
+    → FitsReply (wish_reply loaded popped plan (announced_wish word))
     → is_odd_reply (get_or (after_announcement processes loaded process word popped plan).replies process 0) ≡ is_odd_transfer word
 announced_parity processes loaded process word popped plan lt answer =
     let room : length (granted (announced_wish word) plan).replies ≡ length plan.replies = ap length (granted_replies (announced_wish word) plan) in

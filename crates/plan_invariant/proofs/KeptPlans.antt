@@ -15,30 +15,38 @@ use Rattle.transfer_machine.proofs.Plans.{steps_keep_plan}
 use Rattle.plan_invariant.proofs.Lists.{either}
 
 -- the plan reads the loaded record, and no more announcements and popped slots than it applies
-pub planned_reads : (processes : ℕ) (loaded other : Loaded) (k : ℕ) → loaded.record_words ≡ other.record_words → ((j : ℕ) → j < k → get_or loaded.announcements j 0 ≡ get_or other.announcements j 0) → ((j : ℕ) → j < k → get_or loaded.popped j 0 ≡ get_or other.popped j 0)
+pub planned_reads : (processes : ℕ) (loaded other : Loaded) (k : ℕ) → loaded.record_words ≡ other.record_words
+    → ((j : ℕ) → j < k → get_or loaded.announcements j 0 ≡ get_or other.announcements j 0) → ((j : ℕ) → j < k → get_or loaded.popped j 0 ≡ get_or other.popped j 0)
     → planned processes loaded k ≡ planned processes other k
 unfolding planned
 planned_reads processes loaded other zero e a b = rw e refl
-planned_reads processes loaded other (suc k) e a b = rw (e, a k (omega arith), b k (omega arith), planned_reads processes loaded other k e (λ j lt. a j (omega arith)) (λ j lt. b j (omega arith))) refl
+planned_reads processes loaded other (suc k) e a b = rw
+    (e, a k (omega arith), b k (omega arith), planned_reads processes loaded other k e (λ j lt. a j (omega arith)) (λ j lt. b j (omega arith))) refl
 
-pub planned_stays : (processes : ℕ) (loaded other : Loaded) (k : ℕ) → loaded.record_words ≡ other.record_words → loaded.announcements ≡ other.announcements → loaded.popped ≡ other.popped → planned processes loaded k ≡ planned processes other k
+pub planned_stays : (processes : ℕ) (loaded other : Loaded) (k : ℕ) → loaded.record_words ≡ other.record_words → loaded.announcements ≡ other.announcements
+    → loaded.popped ≡ other.popped → planned processes loaded k ≡ planned processes other k
 planned_stays processes loaded other k e a b = planned_reads processes loaded other k e (λ j lt. rw a refl) (λ j lt. rw b refl)
 
 -- what a step that may be made keeps
-kept_here : (sizes : Sizes) (v : TransferView) (word : ℕ) (s : NextStep) → v.next ≡ s → HasRoom v → CanActAt sizes v s → CanMeetAt sizes v word s → PlansLoadedAt sizes v s → PlansLoaded sizes (met_at sizes v word s)
+kept_here : (sizes : Sizes) (v : TransferView) (word : ℕ) (s : NextStep) → v.next ≡ s → HasRoom v → CanActAt sizes v s → CanMeetAt sizes v word s → PlansLoadedAt sizes v s
+    → PlansLoaded sizes (met_at sizes v word s)
 kept_here sizes v word s e room =
-    subst (λ (t : NextStep). CanActAt sizes v t → CanMeetAt sizes v word t → PlansLoadedAt sizes v t → PlansLoaded sizes (met_at sizes v word t)) e (λ act can h. steps_keep_plan sizes v word room act can h)
+    subst (λ (t : NextStep). CanActAt sizes v t → CanMeetAt sizes v word t → PlansLoadedAt sizes v t → PlansLoaded sizes (met_at sizes v word t)) e
+    (λ act can h. steps_keep_plan sizes v word room act can h)
 
 -- where the plan stays
-slot_after : (sizes : Sizes) (x : TransferView) (t : Bool) (offset : ℕ) → SamePlan 0 x.plan (planned sizes.processes x.loaded 0) → PlansLoadedAt sizes x (if t then LoadAnnouncement 0 else LoadCoveredSlot offset)
+slot_after : (sizes : Sizes) (x : TransferView) (t : Bool) (offset : ℕ) → SamePlan 0 x.plan (planned sizes.processes x.loaded 0)
+    → PlansLoadedAt sizes x (if t then LoadAnnouncement 0 else LoadCoveredSlot offset)
 slot_after sizes x true offset h = h
 slot_after sizes x false offset h = h
 
-exchange_after : (sizes : Sizes) (x : TransferView) (loaded : Loaded) (t : Bool) (offset : ℕ) → SamePlan 0 x.plan (planned sizes.processes x.loaded 0) → PlansLoadedAt sizes x (if t then ExchangeSlot offset else after_slot loaded offset)
+exchange_after : (sizes : Sizes) (x : TransferView) (loaded : Loaded) (t : Bool) (offset : ℕ) → SamePlan 0 x.plan (planned sizes.processes x.loaded 0)
+    → PlansLoadedAt sizes x (if t then ExchangeSlot offset else after_slot loaded offset)
 exchange_after sizes x loaded true offset h = h
 exchange_after sizes x loaded false offset h = slot_after sizes x (offset + 1 == overlay_length loaded) (offset + 1) h
 
-stored_after : (sizes : Sizes) (x : TransferView) (t : Bool) (index : ℕ) → SamePlan sizes.processes x.plan (planned sizes.processes x.loaded sizes.processes) → PlansLoadedAt sizes x (if t then ExchangeState else StoreRecordWord index)
+stored_after : (sizes : Sizes) (x : TransferView) (t : Bool) (index : ℕ) → SamePlan sizes.processes x.plan (planned sizes.processes x.loaded sizes.processes)
+    → PlansLoadedAt sizes x (if t then ExchangeState else StoreRecordWord index)
 stored_after sizes x true index h = h
 stored_after sizes x false index h = h
 
@@ -46,7 +54,8 @@ ended_after : (sizes : Sizes) (x : TransferView) (t : Bool) → PlansLoadedAt si
 ended_after sizes x true = tt
 ended_after sizes x false = tt
 
-same_none : (processes : ℕ) (v : TransferView) (loaded : Loaded) → v.loaded.record_words ≡ loaded.record_words → v.loaded.announcements ≡ loaded.announcements → v.loaded.popped ≡ loaded.popped → SamePlan 0 v.plan (planned processes v.loaded 0) → SamePlan 0 v.plan (planned processes loaded 0)
+same_none : (processes : ℕ) (v : TransferView) (loaded : Loaded) → v.loaded.record_words ≡ loaded.record_words → v.loaded.announcements ≡ loaded.announcements
+    → v.loaded.popped ≡ loaded.popped → SamePlan 0 v.plan (planned processes v.loaded 0) → SamePlan 0 v.plan (planned processes loaded 0)
 same_none processes v loaded e a b h = subst (SamePlan 0 v.plan) (planned_stays processes v.loaded loaded 0 e a b) h
 
 -- the numbers of the steps that change the plan are in range
@@ -58,7 +67,8 @@ pub record PlanChanges (sizes : Sizes) (v : TransferView) (word : ℕ) : Type 0 
   pub popped_act : (process : ℕ) → v.next ≡ LoadPoppedSlot process → CanActAt sizes v (LoadPoppedSlot process)
   pub popped : (process : ℕ) → v.next ≡ LoadPoppedSlot process → CanMeetAt sizes v word (LoadPoppedSlot process)
 
-pub loaded_met : (sizes : Sizes) (v : TransferView) (word : ℕ) (s : NextStep) → v.next ≡ s → HasRoom v → PlanChanges sizes v word → PlansLoadedAt sizes v s → PlansLoaded sizes (met_at sizes v word s)
+pub loaded_met : (sizes : Sizes) (v : TransferView) (word : ℕ) (s : NextStep) → v.next ≡ s → HasRoom v → PlanChanges sizes v word → PlansLoadedAt sizes v s
+    → PlansLoaded sizes (met_at sizes v word s)
 loaded_met sizes v word Rest e room c h = rw e tt
 loaded_met sizes v word Announce e room c h = tt
 loaded_met sizes v word LoadState e room c h = tt
@@ -70,6 +80,7 @@ loaded_met sizes v word (ExchangeSlot offset) e room c h = slot_after sizes (met
 loaded_met sizes v word (LoadAnnouncement process) e room c h = kept_here sizes v word (LoadAnnouncement process) e room (c.heard process e).among (c.heard process e) h
 loaded_met sizes v word (LoadPoppedSlot process) e room c h = kept_here sizes v word (LoadPoppedSlot process) e room (c.popped_act process e) (c.popped process e) h
 loaded_met sizes v word (StoreRecordWord index) e room c h = stored_after sizes (met_at sizes v word (StoreRecordWord index)) (index + 1 == record_words sizes) (index + 1) h
-loaded_met sizes v word ExchangeState e room c h = either TransferView (PlansLoaded sizes) (word == v.loaded.state) (installed v) (try_ended v) tt (ended_after sizes (try_ended v) (v.turn == 1))
+loaded_met sizes v word ExchangeState e room c h = either TransferView (PlansLoaded sizes) (word == v.loaded.state) (installed v) (try_ended v) tt
+    (ended_after sizes (try_ended v) (v.turn == 1))
 loaded_met sizes v word LoadFinalState e room c h = tt
 loaded_met sizes v word LoadReply e room c h = tt

@@ -10,3 +10,4 @@ pub mod Steps
 pub mod Acts
 pub mod Keeps
 pub mod NextState
+pub mod Gives

@@ -1,5 +1,5 @@
 -- the state that an exchange installs is the next one
-use Rattle.std.proofs.Common.{◌≡◌, ◌≢◌, ℕ, zero, suc, ◌+◌, ◌-◌, ◌<◌, ◌≤◌, ◌==◌, Bool, true, false, refl, sym, ◌∙◌, ap, inl, inr, arith, get_or}
+use Rattle.std.proofs.Common.{◌≡◌, ◌≢◌, ℕ, zero, suc, ◌+◌, ◌-◌, ◌<◌, ◌≤◌, Bool, true, false, refl, sym, ◌∙◌, ap, inl, inr, arith, get_or}
 use Rattle.std.specs.Prelude.{if◌then◌else◌, nat_lt}
 use Rattle.std.proofs.lemmas.Bool.{cases_eq, cases_lt}
 use Rattle.std.proofs.lemmas.Bool.Decides.{nat_tests}
@@ -9,9 +9,9 @@ use Rattle.word_layout.specs.declared.name.WordName.TheVariants.{State}
 use Rattle.word_layout.specs.declared.announced.Wish.{Wish}
 use Rattle.word_layout.specs.declared.announced.Wish.TheVariants.{Take, Give}
 use Rattle.transfer_machine.specs.Loads.{loaded_tag}
-use Rattle.transfer_machine.specs.NextStates.{IsLoaded, PopsContent, HasContent, HasReplies, state_after}
+use Rattle.transfer_machine.specs.NextStates.{IsLoaded, PopsContent, HasContent}
 use Rattle.transfer_machine.specs.Planned.{planned, SamePlan}
-use Rattle.transfer_machine.specs.States.{StackState, put, next_of, with_wish, with_announcement, with_transfer}
+use Rattle.transfer_machine.specs.States.{StackState, put, next_of, with_wish, with_transfer}
 use Rattle.transfer_machine.specs.Tries.{is_pending}
 use Rattle.transfer_machine.specs.declared.transfer.TransferView.{TransferView}
 use Rattle.transfer_machine.specs.declared.stage.NextStep.TheVariants.{ExchangeState}
@@ -47,7 +47,8 @@ either_applied : (b : Bool) (process x o : ℕ) (s t : StackState) → t.applied
 either_applied true process x o s t e ne = ap (λ f. f o) e ∙ put_away process x o s.applied ne
 either_applied false process x o s t e ne = refl
 
-own_applied : (b : Bool) (process : ℕ) (s t : StackState) → t.applied ≡ put process (s.applied process + 1) s.applied → (if b then t else s).applied process ≡ (if b then s.applied process + 1 else s.applied process)
+own_applied : (b : Bool) (process : ℕ) (s t : StackState) → t.applied ≡ put process (s.applied process + 1) s.applied
+    → (if b then t else s).applied process ≡ (if b then s.applied process + 1 else s.applied process)
 own_applied true process s t e = ap (λ f. f process) e ∙ put_here process (s.applied process + 1) s.applied
 own_applied false process s t e = refl
 
@@ -67,7 +68,8 @@ later_applied (suc k) announcements s o le =
     either_applied (is_pending (announcements k) (t.reply k)) k _ o t (with_transfer k (announcements k) t) refl (λ e. absurd (omega arith)) ∙ later_applied k announcements s o (omega arith)
 
 -- of the others, one more transfer is applied where the announcement is pending
-pub next_applied : (heard : ℕ) (announcements : ℕ → ℕ) (s : StackState) (o : ℕ) → o < heard → (next_of heard announcements s).applied o ≡ (if is_pending (announcements o) (s.reply o) then s.applied o + 1 else s.applied o)
+pub next_applied : (heard : ℕ) (announcements : ℕ → ℕ) (s : StackState) (o : ℕ) → o < heard
+    → (next_of heard announcements s).applied o ≡ (if is_pending (announcements o) (s.reply o) then s.applied o + 1 else s.applied o)
 unfolding next_of
 next_applied zero announcements s o lt = absurd (omega arith)
 next_applied (suc k) announcements s o lt =
@@ -78,7 +80,8 @@ next_applied (suc k) announcements s o lt =
     ]
 
 -- the plan's state
-planned_content : (s t : StackState) (v : TransferView) (processes heard : ℕ) → SamePlan heard v.plan (planned processes v.loaded heard) → HasContent (planned processes v.loaded heard) s t → (place : ℕ) → place < t.height → (planned_state s v).content place ≡ t.content place
+planned_content : (s t : StackState) (v : TransferView) (processes heard : ℕ) → SamePlan heard v.plan (planned processes v.loaded heard)
+    → HasContent (planned processes v.loaded heard) s t → (place : ℕ) → place < t.height → (planned_state s v).content place ≡ t.content place
 unfolding planned_state
 planned_content s t v processes heard same h place lt = elim (cases_lt place v.plan.base) [
   | inl low ↦ (let test : nat_lt place v.plan.base ≡ true = grind (arith, nat_tests) in rw test (sym (h.below place (omega (arith, same.base)))))
@@ -88,7 +91,8 @@ planned_content s t v processes heard same h place lt = elim (cases_lt place v.p
       rw test (same.heads (place - v.plan.base) over ∙ sym (h.above (place - v.plan.base) over) ∙ ap t.content at))
 ]
 
-planned_same : (s : StackState) (v : TransferView) (processes : ℕ) → processes ≤ 32 → SamePlan processes v.plan (planned processes v.loaded processes) → IsLoaded processes v.loaded s → PopsContent processes v.loaded s
+planned_same : (s : StackState) (v : TransferView) (processes : ℕ) → processes ≤ 32 → SamePlan processes v.plan (planned processes v.loaded processes)
+    → IsLoaded processes v.loaded s → PopsContent processes v.loaded s
     → SameState processes (planned_state s v) (next_of processes (λ o. get_or v.loaded.announcements o 0) s)
 unfolding planned_state
 planned_same s v processes few same is pops =
@@ -103,7 +107,8 @@ planned_same s v processes few same is pops =
     }
 
 -- at the exchange
-pub installed_is_next : (sizes : Sizes) (words : Words) (views : Views) (states : States) (i : ℕ) → IsShape sizes → i < sizes.processes → Invariant sizes words views states → PlansHold sizes words views states → (views i).next ≡ ExchangeState → words State ≡ (views i).loaded.state
+pub installed_is_next : (sizes : Sizes) (words : Words) (views : Views) (states : States) (i : ℕ) → IsShape sizes → i < sizes.processes → Invariant sizes words views states
+    → PlansHold sizes words views states → (views i).next ≡ ExchangeState → words State ≡ (views i).loaded.state
     → SameState sizes.processes (planned_state (states (state_tag words)) (views i)) (next_of sizes.processes (λ o. get_or (views i).loaded.announcements o 0) (states (state_tag words)))
 unfolding state_tag
 installed_is_next sizes words views states i shape li inv plans e same =

@@ -32,10 +32,12 @@ state_loaded_fits sizes loaded s l f = record {
   heads = λ x lt. rw (l.overlay x lt) (f.heads (s.base + x) (omega arith) (omega (arith, l.base, l.height)));
 }
 
-pub loaded_is : (sizes : Sizes) (words : Words) (states : States) (v : TransferView) → StatesFit sizes words states → LoadedState sizes words states v → has_record v.next ≡ true → IsLoaded sizes.processes v.loaded (states (loaded_tag v.loaded))
+pub loaded_is : (sizes : Sizes) (words : Words) (states : States) (v : TransferView) → StatesFit sizes words states → LoadedState sizes words states v → has_record v.next ≡ true
+    → IsLoaded sizes.processes v.loaded (states (loaded_tag v.loaded))
 loaded_is sizes words states v fits h has = whole_record sizes words states v fits h (record_whole (record_words sizes) v.next has)
 
-pub loaded_fits : (sizes : Sizes) (words : Words) (states : States) (v : TransferView) → StatesFit sizes words states → LoadedState sizes words states v → has_record v.next ≡ true → LoadedFits sizes v.loaded
+pub loaded_fits : (sizes : Sizes) (words : Words) (states : States) (v : TransferView) → StatesFit sizes words states → LoadedState sizes words states v → has_record v.next ≡ true
+    → LoadedFits sizes v.loaded
 loaded_fits sizes words states v fits h has =
     state_loaded_fits sizes v.loaded (states (loaded_tag v.loaded)) (loaded_is sizes words states v fits h has) (fits (loaded_tag v.loaded) (h.past (record_has v.next has)))
 
@@ -44,14 +46,16 @@ pub record IsSlotBelow (loaded : Loaded) (plan : TryPlan) : Type 0 where
   pub some : 0 < plan.base
   pub below : plan.base - 1 < loaded_base loaded
 
-slot_below : (b t z : Bool) (loaded : Loaded) (plan : TryPlan) → (b && (t && (z && (nat_lt 0 plan.base && nat_lt (plan.base - 1) (loaded_base loaded))))) ≡ true → IsSlotBelow loaded plan
+slot_below : (b t z : Bool) (loaded : Loaded) (plan : TryPlan) → (b && (t && (z && (nat_lt 0 plan.base && nat_lt (plan.base - 1) (loaded_base loaded))))) ≡ true
+    → IsSlotBelow loaded plan
 slot_below b t z loaded plan e = grind (arith, nat_tests)
 
 pub popped_below : (processes : ℕ) (loaded : Loaded) (process word : ℕ) (plan : TryPlan) → pops_slot processes loaded process word plan ≡ true → IsSlotBelow loaded plan
 popped_below processes loaded process word plan e = slot_below (is_pending word (loaded_reply processes loaded process)) (is_take (announced_wish word)) (plan.overlay == 0) loaded plan e
 
 -- an announcement can be applied
-pub can_apply : (sizes : Sizes) (loaded : Loaded) (process word popped : ℕ) (plan : TryPlan) → sizes.processes ≤ 32 → blocks sizes ≤ 2 ^ 22 → process < sizes.processes → plan.overlay ≤ process → LoadedFits sizes loaded → popped < blocks sizes
+pub can_apply : (sizes : Sizes) (loaded : Loaded) (process word popped : ℕ) (plan : TryPlan) → sizes.processes ≤ 32 → blocks sizes ≤ 2 ^ 22 → process < sizes.processes
+    → plan.overlay ≤ process → LoadedFits sizes loaded → popped < blocks sizes
     → ((k : ℕ) → get_or plan.heads k 0 < blocks sizes) → plan.base ≤ loaded_base loaded + overlay_length loaded → CanApply sizes.processes loaded process word popped plan
 can_apply sizes loaded process word popped plan few small among over fits block heads low = record {
   few = few;
@@ -62,7 +66,8 @@ can_apply sizes loaded process word popped plan few small among over fits block 
 }
 
 -- what a plan makes a record of has values
-pub planned_value_lt : (sizes : Sizes) (plan : TryPlan) (index : ℕ) → sizes.batches < 2 ^ 22 + 1 → blocks sizes ≤ 2 ^ 22 → plan.base ≤ sizes.batches → plan.overlay ≤ 32 → ((k : ℕ) → get_or plan.heads k 0 < blocks sizes) → ((k : ℕ) → get_or plan.replies k 0 < 2 ^ 24)
+pub planned_value_lt : (sizes : Sizes) (plan : TryPlan) (index : ℕ) → sizes.batches < 2 ^ 22 + 1 → blocks sizes ≤ 2 ^ 22 → plan.base ≤ sizes.batches → plan.overlay ≤ 32
+    → ((k : ℕ) → get_or plan.heads k 0 < blocks sizes) → ((k : ℕ) → get_or plan.replies k 0 < 2 ^ 24)
     → planned_value sizes.processes plan index < 2 ^ 24
 planned_value_lt sizes plan index few small base over heads replies =
     let head = heads (index - 2) in

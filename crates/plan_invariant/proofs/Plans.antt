@@ -60,12 +60,14 @@ pub stored_process : (sizes : Sizes) (index : ℕ) → heard_process (after_stor
 stored_process sizes index = grind (arith, nat_tests)
 
 -- a view that leaves the try
-leaves_try : (sizes : Sizes) (v x : TransferView) → 0 < sizes.processes → ViewPlans sizes v → x.plan ≡ v.plan → x.loaded.record_words ≡ v.loaded.record_words → x.loaded.announcements ≡ v.loaded.announcements → x.loaded.popped ≡ v.loaded.popped → has_record x.next ≡ false → ViewPlans sizes x
+leaves_try : (sizes : Sizes) (v x : TransferView) → 0 < sizes.processes → ViewPlans sizes v → x.plan ≡ v.plan → x.loaded.record_words ≡ v.loaded.record_words
+    → x.loaded.announcements ≡ v.loaded.announcements → x.loaded.popped ≡ v.loaded.popped → has_record x.next ≡ false → ViewPlans sizes x
 leaves_try sizes v x some h e r a p none =
     leaves sizes v x some h (record { record_words = rw r h.room.record_words; announcements = a; popped = p; heads = ap (λ plan. plan.heads) e; replies = ap (λ plan. plan.replies) e }) none
 
 -- a record word is loaded
-record_word_plans : (sizes : Sizes) (v : TransferView) (index word : ℕ) → 0 < sizes.processes → ViewPlans sizes v → ViewPlans sizes (record_word_loaded sizes index (record v.loaded { record_words = set v.loaded.record_words index word }) v)
+record_word_plans : (sizes : Sizes) (v : TransferView) (index word : ℕ) → 0 < sizes.processes → ViewPlans sizes v
+    → ViewPlans sizes (record_word_loaded sizes index (record v.loaded { record_words = set v.loaded.record_words index word }) v)
 record_word_plans sizes v index word some h =
     let loaded : Loaded = record v.loaded { record_words = set v.loaded.record_words index word } in
     let last : TransferView = record v { loaded = loaded; next = after_record loaded; plan = begun_plan loaded v.plan } in
@@ -80,12 +82,15 @@ plans_met sizes v word Rest e m h = h
 plans_met sizes v word Announce e m h = leaves_try sizes v _ m.some h refl refl refl refl refl
 plans_met sizes v word LoadState e m h = leaves_try sizes v _ m.some h refl refl refl refl refl
 plans_met sizes v word (LoadRecordWord index) e m h =
-    either TransferView (ViewPlans sizes) (nat_lt (loaded_tag v.loaded) (tag_of word)) (try_ended v) _ (leaves_try sizes v (try_ended v) m.some h refl refl refl refl (ended_none (v.turn == 1))) (record_word_plans sizes v index word m.some h)
+    either TransferView (ViewPlans sizes) (nat_lt (loaded_tag v.loaded) (tag_of word)) (try_ended v) _
+    (leaves_try sizes v (try_ended v) m.some h refl refl refl refl (ended_none (v.turn == 1))) (record_word_plans sizes v index word m.some h)
 plans_met sizes v word (LoadCoveredSlot offset) e m h =
     let t = nat_lt (tag_of word) (loaded_tag v.loaded) in
-    goes_on sizes v (met_at sizes v word (LoadCoveredSlot offset)) h refl refl refl refl (rw e refl) (rw (exchange_planned sizes.processes t v.loaded offset) (omega arith)) (rw (exchange_process t v.loaded offset) m.some)
+    goes_on sizes v (met_at sizes v word (LoadCoveredSlot offset)) h refl refl refl refl (rw e refl)
+    (rw (exchange_planned sizes.processes t v.loaded offset) (omega arith)) (rw (exchange_process t v.loaded offset) m.some)
 plans_met sizes v word (ExchangeSlot offset) e m h =
-    goes_on sizes v (met_at sizes v word (ExchangeSlot offset)) h refl refl refl refl (rw e refl) (rw (slot_planned sizes.processes v.loaded offset) (omega arith)) (rw (slot_process v.loaded offset) m.some)
+    goes_on sizes v (met_at sizes v word (ExchangeSlot offset)) h refl refl refl refl (rw e refl) (rw (slot_planned sizes.processes v.loaded offset) (omega arith))
+    (rw (slot_process v.loaded offset) m.some)
 plans_met sizes v word (LoadAnnouncement process) e m h =
     let among : process < sizes.processes = rw e at h.among in
     let few = m.few in
@@ -95,19 +100,23 @@ plans_met sizes v word (LoadAnnouncement process) e m h =
     either TransferView (ViewPlans sizes) (pops_slot sizes.processes v.loaded process word v.plan) _ _ (waits sizes v process word few h e value)
     (applies sizes v loaded process word 0 few m.few_blocks h (rw e refl) (rw e refl) among over (m.fits (rw e refl)) m.block value refl (length-set v.loaded.announcements process word ∙ h.room.announcements) h.room.popped
     (set_each (λ y. value_of y ≤ blocks sizes) v.loaded.announcements process word (omega (arith, h.room.announcements)) value h.heads.announcements) h.heads.popped
-    (λ o lt. get_or-set_other v.loaded.announcements process o word 0 (below_apart o process lt)) (get_or-set_same v.loaded.announcements process word 0 (omega (arith, h.room.announcements))))
+    (λ o lt. get_or-set_other v.loaded.announcements process o word 0 (below_apart o process lt))
+    (get_or-set_same v.loaded.announcements process word 0 (omega (arith, h.room.announcements))))
 plans_met sizes v word (LoadPoppedSlot process) e m h =
     let among : process < sizes.processes = rw e at h.among in
     let few = m.few in
     let over : v.plan.overlay ≤ process = rw e at m.overlay in
     let loaded : Loaded = record v.loaded { popped = set v.loaded.popped process word } in
     let value = m.popped process e in
-    applies sizes v loaded process (get_or v.loaded.announcements process 0) (value_of word) few m.few_blocks h (rw e refl) (rw e refl) among over (m.fits (rw e refl)) value (h.heads.announcements process) refl h.room.announcements (length-set v.loaded.popped process word ∙ h.room.popped)
+    applies sizes v loaded process (get_or v.loaded.announcements process 0) (value_of word) few m.few_blocks h (rw e refl) (rw e refl) among over
+    (m.fits (rw e refl)) value (h.heads.announcements process) refl h.room.announcements (length-set v.loaded.popped process word ∙ h.room.popped)
     h.heads.announcements (set_each (λ y. value_of y < blocks sizes) v.loaded.popped process word (omega (arith, h.room.popped)) value h.heads.popped)
     (λ o lt. refl) refl
 plans_met sizes v word (StoreRecordWord index) e m h =
-    goes_on sizes v (met_at sizes v word (StoreRecordWord index)) h refl refl refl refl (rw e refl) (rw (stored_planned sizes index, e) (omega arith)) (rw (stored_process sizes index) m.some)
+    goes_on sizes v (met_at sizes v word (StoreRecordWord index)) h refl refl refl refl (rw e refl) (rw (stored_planned sizes index, e) (omega arith))
+    (rw (stored_process sizes index) m.some)
 plans_met sizes v word ExchangeState e m h =
-    either TransferView (ViewPlans sizes) (word == v.loaded.state) (installed v) (try_ended v) (leaves_try sizes v (installed v) m.some h refl refl refl refl refl) (leaves_try sizes v (try_ended v) m.some h refl refl refl refl (ended_none (v.turn == 1)))
+    either TransferView (ViewPlans sizes) (word == v.loaded.state) (installed v) (try_ended v) (leaves_try sizes v (installed v) m.some h refl refl refl refl refl)
+    (leaves_try sizes v (try_ended v) m.some h refl refl refl refl (ended_none (v.turn == 1)))
 plans_met sizes v word LoadFinalState e m h = leaves_try sizes v _ m.some h refl refl refl refl refl
 plans_met sizes v word LoadReply e m h = leaves_try sizes v _ m.some h refl refl refl refl refl

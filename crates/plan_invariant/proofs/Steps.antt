@@ -1,15 +1,14 @@
 -- what the invariant gives for the next step of a view
-use Rattle.std.proofs.Common.{◌≡◌, ℕ, ◌+◌, ◌-◌, ◌^◌, ◌<◌, ◌≤◌, true, refl, sym, ◌∙◌, ap, arith, get_or}
+use Rattle.std.proofs.Common.{◌≡◌, ℕ, ◌+◌, ◌-◌, ◌^◌, ◌<◌, ◌≤◌, true, refl, arith, get_or}
 use Rattle.word_layout.specs.Sizes.{Sizes, IsShape, blocks}
-use Rattle.word_layout.specs.Names.{records, record_words}
-use Rattle.word_layout.specs.Packing.{value_of, FitsWish}
+use Rattle.word_layout.specs.Names.{records}
+use Rattle.word_layout.specs.Packing.{value_of}
 use Rattle.word_layout.specs.declared.name.WordName.TheVariants.{Slot}
-use Rattle.transfer_machine.specs.Loads.{loaded_tag, loaded_base, overlay_length, loaded_record}
+use Rattle.transfer_machine.specs.Loads.{loaded_tag, loaded_base}
 use Rattle.transfer_machine.specs.NextStates.{IsLoaded}
-use Rattle.transfer_machine.specs.Tries.{planned_value, pops_slot}
+use Rattle.transfer_machine.specs.Tries.{planned_value}
 use Rattle.transfer_machine.specs.Machine.{action_of, CanActAt, CanMeetAt}
 use Rattle.transfer_machine.specs.Words.{name_of}
-use Rattle.transfer_machine.specs.declared.transfer.TransferView.{TransferView}
 use Rattle.transfer_machine.specs.declared.stage.NextStep.{NextStep}
 use Rattle.transfer_machine.specs.declared.stage.NextStep.TheVariants.{Rest, Announce, LoadState, LoadRecordWord, LoadCoveredSlot, ExchangeSlot, LoadAnnouncement, LoadPoppedSlot, StoreRecordWord, ExchangeState, LoadFinalState, LoadReply}
 use Rattle.transfer_invariant.specs.Memory.{Words, Views, States, state_tag, slot_value}
@@ -19,7 +18,7 @@ use Rattle.transfer_invariant.proofs.Stable.{next_low}
 use Rattle.plan_invariant.specs.Holding.{PlansHold, PlanPremises}
 use Rattle.plan_invariant.specs.Laws.{CoversWithin}
 use Rattle.plan_invariant.proofs.Wishes.{LoadedFits, some_block, few_batches, wish_fits}
-use Rattle.plan_invariant.proofs.Numbers.{IsSlotBelow, loaded_is, loaded_fits, record_has, popped_below, can_apply, planned_value_lt}
+use Rattle.plan_invariant.proofs.Numbers.{IsSlotBelow, loaded_is, loaded_fits, popped_below, can_apply, planned_value_lt}
 use Rattle.plan_invariant.proofs.Plans.{Meets}
 use Rattle.plan_invariant.proofs.KeptPlans.{PlanChanges}
 
@@ -36,14 +35,16 @@ module _ (sizes : Sizes) (words : Words) (views : Views) (states : States) (i : 
 
   -- the slot of a taken batch
   pub taken_slot : (process : ℕ) → (views i).next ≡ LoadPoppedSlot process → IsSlotBelow (views i).loaded (views i).plan
-  taken_slot process e = popped_below sizes.processes (views i).loaded process (get_or (views i).loaded.announcements process 0) (views i).plan (rw e at ((plans.pops i li).popping (rw e refl)))
+  taken_slot process e = popped_below sizes.processes (views i).loaded process (get_or (views i).loaded.announcements process 0) (views i).plan
+      (rw e at ((plans.pops i li).popping (rw e refl)))
 
   -- what is stored
   pub stored_fits : (index : ℕ) → (views i).next ≡ StoreRecordWord index → planned_value sizes.processes (views i).plan index < 2 ^ 24
   stored_fits index e =
       let view = plans.each i li in
       let over : (views i).plan.overlay ≤ sizes.processes = rw e at (inv.plans i li) in
-      planned_value_lt sizes (views i).plan index (few_batches sizes shape) shape.few_blocks (base_within (rw e refl)) (omega (arith, shape.few_processes)) view.heads.heads view.heads.replies
+      planned_value_lt sizes (views i).plan index (few_batches sizes shape) shape.few_blocks (base_within (rw e refl))
+      (omega (arith, shape.few_processes)) view.heads.heads view.heads.replies
 
   module _ (given : PlanPremises sizes words states (views i)) where
     -- the word that is met
@@ -54,7 +55,8 @@ module _ (sizes : Sizes) (words : Words) (views : Views) (states : States) (i : 
         let low = base_within (rw e refl) in
         given.slots ((views i).plan.base - 1) (omega (arith, slot.some))
 
-    popped_content : (process : ℕ) → (views i).next ≡ LoadPoppedSlot process → loaded_tag (views i).loaded ≡ state_tag words → value_of (words (Slot ((views i).plan.base - 1))) ≡ (states (state_tag words)).content ((views i).plan.base - 1)
+    popped_content : (process : ℕ) → (views i).next ≡ LoadPoppedSlot process → loaded_tag (views i).loaded ≡ state_tag words
+        → value_of (words (Slot ((views i).plan.base - 1))) ≡ (states (state_tag words)).content ((views i).plan.base - 1)
     unfolding slot_value
     popped_content process e now =
         let slot = taken_slot process e in
@@ -82,7 +84,8 @@ module _ (sizes : Sizes) (words : Words) (views : Views) (states : States) (i : 
     heard_can : (process : ℕ) → (views i).next ≡ LoadAnnouncement process → CanMeetAt sizes (views i) (words (name_of (action_of sizes (views i)))) (LoadAnnouncement process)
     heard_can process e =
         let over : (views i).plan.overlay ≤ process = rw e at (inv.plans i li) in
-        can_apply sizes (views i).loaded process _ 0 (views i).plan shape.few_processes shape.few_blocks (rw e at (plans.each i li).among) over (view_fits (rw e refl)) (some_block sizes shape) (plans.each i li).heads.heads ((plans.each i li).fits (rw e refl))
+        can_apply sizes (views i).loaded process _ 0 (views i).plan shape.few_processes shape.few_blocks (rw e at (plans.each i li).among) over
+        (view_fits (rw e refl)) (some_block sizes shape) (plans.each i li).heads.heads ((plans.each i li).fits (rw e refl))
 
     popped_act : (process : ℕ) → (views i).next ≡ LoadPoppedSlot process → CanActAt sizes (views i) (LoadPoppedSlot process)
     popped_act process e = (rw e at (plans.each i li).among, (taken_slot process e).some, base_within (rw e refl))
@@ -90,7 +93,8 @@ module _ (sizes : Sizes) (words : Words) (views : Views) (states : States) (i : 
     popped_can : (process : ℕ) → (views i).next ≡ LoadPoppedSlot process → CanMeetAt sizes (views i) (words (name_of (action_of sizes (views i)))) (LoadPoppedSlot process)
     popped_can process e =
         let over : (views i).plan.overlay ≤ process = rw e at (inv.plans i li) in
-        can_apply sizes (views i).loaded process _ _ (views i).plan shape.few_processes shape.few_blocks (rw e at (plans.each i li).among) over (view_fits (rw e refl)) (view_meets.popped process e) (plans.each i li).heads.heads ((plans.each i li).fits (rw e refl))
+        can_apply sizes (views i).loaded process _ _ (views i).plan shape.few_processes shape.few_blocks (rw e at (plans.each i li).among) over
+        (view_fits (rw e refl)) (view_meets.popped process e) (plans.each i li).heads.heads ((plans.each i li).fits (rw e refl))
 
     pub view_changes : PlanChanges sizes (views i) (words (name_of (action_of sizes (views i))))
     view_changes = record {

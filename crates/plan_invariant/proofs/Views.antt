@@ -71,7 +71,8 @@ leaves sizes v x some h k e = record {
 }
 
 -- a view whose plan begins
-pub begins : (sizes : Sizes) (v x : TransferView) → 0 < sizes.processes → ViewPlans sizes v → KeepsArrays v x → planned_announcements sizes.processes x.next ≡ 0 → heard_process x.next ≡ 0 → x.plan.base ≡ loaded_base x.loaded + overlay_length x.loaded → ViewPlans sizes x
+pub begins : (sizes : Sizes) (v x : TransferView) → 0 < sizes.processes → ViewPlans sizes v → KeepsArrays v x → planned_announcements sizes.processes x.next ≡ 0
+    → heard_process x.next ≡ 0 → x.plan.base ≡ loaded_base x.loaded + overlay_length x.loaded → ViewPlans sizes x
 begins sizes v x some h k e f g = record {
   room = keeps_room v x h.room k;
   fits = λ has. omega arith;
@@ -81,15 +82,18 @@ begins sizes v x some h k e f g = record {
 }
 
 -- a view that keeps its plan
-replies_stay : (processes : ℕ) (v x : TransferView) → RepliesPlanned processes v → x.plan ≡ v.plan → x.loaded.record_words ≡ v.loaded.record_words → planned_announcements processes x.next ≤ planned_announcements processes v.next
+replies_stay : (processes : ℕ) (v x : TransferView) → RepliesPlanned processes v → x.plan ≡ v.plan → x.loaded.record_words ≡ v.loaded.record_words
+    → planned_announcements processes x.next ≤ planned_announcements processes v.next
     → ((o : ℕ) → o < planned_announcements processes x.next → get_or x.loaded.announcements o 0 ≡ get_or v.loaded.announcements o 0) → RepliesPlanned processes x
 replies_stay processes v x h e r le same = record {
   kept = λ o lt none. rw (e, r) (h.kept o (omega arith) (rw (r, same o lt) at none));
   parity = λ o lt. rw (e, same o lt) (h.parity o (omega arith));
 }
 
-pub goes_on : (sizes : Sizes) (v x : TransferView) → ViewPlans sizes v → x.plan ≡ v.plan → x.loaded.record_words ≡ v.loaded.record_words → x.loaded.announcements ≡ v.loaded.announcements → x.loaded.popped ≡ v.loaded.popped
-    → has_record v.next ≡ true → planned_announcements sizes.processes x.next ≤ planned_announcements sizes.processes v.next → heard_process x.next < sizes.processes → ViewPlans sizes x
+pub goes_on : (sizes : Sizes) (v x : TransferView) → ViewPlans sizes v → x.plan ≡ v.plan → x.loaded.record_words ≡ v.loaded.record_words
+    → x.loaded.announcements ≡ v.loaded.announcements → x.loaded.popped ≡ v.loaded.popped
+    → has_record v.next ≡ true → planned_announcements sizes.processes x.next ≤ planned_announcements sizes.processes v.next → heard_process x.next < sizes.processes
+    → ViewPlans sizes x
 goes_on sizes v x h e r a p has le among =
     let k : KeepsArrays v x = record { record_words = rw r h.room.record_words; announcements = a; popped = p; heads = ap (λ plan. plan.heads) e; replies = ap (λ plan. plan.replies) e } in
     record {
@@ -136,9 +140,11 @@ after_among sizes process lt = elim (cases_eq (process + 1) sizes.processes) [
 ]
 
 -- the replies once an announcement is applied
-applied_replies : (processes : ℕ) (loaded : Loaded) (process word popped n : ℕ) (plan : TryPlan) (x : TransferView) → length plan.replies ≡ 32 → process < 32 → n ≡ process + 1 → planned_announcements processes x.next ≡ n
+applied_replies : (processes : ℕ) (loaded : Loaded) (process word popped n : ℕ) (plan : TryPlan) (x : TransferView) → length plan.replies ≡ 32 → process < 32 → n ≡ process + 1
+    → planned_announcements processes x.next ≡ n
     → x.plan ≡ after_announcement processes loaded process word popped plan → x.loaded.record_words ≡ loaded.record_words
-    → ((o : ℕ) → o < process → get_or x.loaded.announcements o 0 ≡ get_or loaded.announcements o 0) → get_or x.loaded.announcements process 0 ≡ word → FitsReply (wish_reply loaded popped plan (announced_wish word))
+    → ((o : ℕ) → o < process → get_or x.loaded.announcements o 0 ≡ get_or loaded.announcements o 0) → get_or x.loaded.announcements process 0 ≡ word
+    → FitsReply (wish_reply loaded popped plan (announced_wish word))
     → ((o : ℕ) → o < process → is_pending (get_or loaded.announcements o 0) (loaded_reply processes loaded o) ≡ false → get_or plan.replies o 0 ≡ loaded_reply processes loaded o)
     → ((o : ℕ) → o < process → is_odd_reply (get_or plan.replies o 0) ≡ is_odd_transfer (get_or loaded.announcements o 0))
     → RepliesPlanned processes x
@@ -154,8 +160,10 @@ applied_replies processes loaded process word popped n plan x room low en ep e r
 }
 
 -- a view that applies an announcement
-pub applies : (sizes : Sizes) (v : TransferView) (loaded : Loaded) (process word popped : ℕ) → sizes.processes ≤ 32 → blocks sizes ≤ 2 ^ 22 → ViewPlans sizes v → has_record v.next ≡ true → planned_announcements sizes.processes v.next ≡ process → process < sizes.processes → v.plan.overlay ≤ process
-    → LoadedFits sizes v.loaded → popped < blocks sizes → value_of word ≤ blocks sizes → loaded.record_words ≡ v.loaded.record_words → length loaded.announcements ≡ 32 → length loaded.popped ≡ 32
+pub applies : (sizes : Sizes) (v : TransferView) (loaded : Loaded) (process word popped : ℕ) → sizes.processes ≤ 32 → blocks sizes ≤ 2 ^ 22 → ViewPlans sizes v
+    → has_record v.next ≡ true → planned_announcements sizes.processes v.next ≡ process → process < sizes.processes → v.plan.overlay ≤ process
+    → LoadedFits sizes v.loaded → popped < blocks sizes → value_of word ≤ blocks sizes → loaded.record_words ≡ v.loaded.record_words → length loaded.announcements ≡ 32
+    → length loaded.popped ≡ 32
     → ((k : ℕ) → value_of (get_or loaded.announcements k 0) ≤ blocks sizes) → ((k : ℕ) → value_of (get_or loaded.popped k 0) < blocks sizes)
     → ((o : ℕ) → o < process → get_or loaded.announcements o 0 ≡ get_or v.loaded.announcements o 0) → get_or loaded.announcements process 0 ≡ word
     → ViewPlans sizes (record v { loaded = loaded; next = after_heard sizes process; plan = after_announcement sizes.processes v.loaded process word popped v.plan })
@@ -163,13 +171,15 @@ applies sizes v loaded process word popped few small h has met among over fits b
     let x : TransferView = record v { loaded = loaded; next = after_heard sizes process; plan = after_announcement sizes.processes v.loaded process word popped v.plan } in
     let low = h.fits has in
     let answer = answer_fits sizes v.loaded popped v.plan (announced_wish word) small fits block h.heads.heads low in
-    let fine : PlanIsFine sizes x.plan = announced_fine sizes sizes.processes v.loaded process word popped v.plan (record { room_heads = h.room.heads; room_replies = h.room.replies; heads = h.heads.heads; replies = h.heads.replies }) (omega arith) (omega arith) (wish_of_block sizes (value_of word) value) answer in
+    let fine : PlanIsFine sizes x.plan = announced_fine sizes sizes.processes v.loaded process word popped v.plan
+    (record { room_heads = h.room.heads; room_replies = h.room.replies; heads = h.heads.heads; replies = h.heads.replies }) (omega arith) (omega arith)
+    (wish_of_block sizes (value_of word) value) answer in
     let base = announced_base sizes.processes v.loaded process word popped v.plan in
     record {
       room = record { record_words = rw r h.room.record_words; announcements = ra; popped = rp; heads = fine.room_heads; replies = fine.room_replies };
       fits = λ now. rw r (omega arith);
       replies = applied_replies sizes.processes v.loaded process word popped (process + 1) v.plan x h.room.replies (omega arith) refl (after_planned sizes process) refl r same here answer
-        (λ o lt. h.replies.kept o (rw met lt)) (λ o lt. h.replies.parity o (rw met lt));
+          (λ o lt. h.replies.kept o (rw met lt)) (λ o lt. h.replies.parity o (rw met lt));
       heads = record { announcements = ha; popped = hp; heads = fine.heads; replies = fine.replies };
       among = after_among sizes process among;
     }

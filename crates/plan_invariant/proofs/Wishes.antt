@@ -54,13 +54,15 @@ pub record LoadedFits (sizes : Sizes) (loaded : Loaded) : Type 0 where
   pub heads : (x : ℕ) → x < overlay_length loaded → overlay_head loaded x < blocks sizes
 
 -- a plan's answer names a block
-below_is_block : (sizes : Sizes) (loaded : Loaded) (popped : ℕ) (plan : TryPlan) → LoadedFits sizes loaded → popped < blocks sizes → 0 < plan.base → plan.base ≤ loaded_base loaded + overlay_length loaded → batch_below loaded popped plan < blocks sizes
+below_is_block : (sizes : Sizes) (loaded : Loaded) (popped : ℕ) (plan : TryPlan) → LoadedFits sizes loaded → popped < blocks sizes → 0 < plan.base
+    → plan.base ≤ loaded_base loaded + overlay_length loaded → batch_below loaded popped plan < blocks sizes
 below_is_block sizes loaded popped plan fits pops some low = elim (cases_lt (plan.base - 1) (loaded_base loaded)) [
   | inl slot ↦ (let test : nat_lt (plan.base - 1) (loaded_base loaded) ≡ true = grind (arith, nat_tests) in rw test pops)
   | inr over ↦ (let test : nat_lt (plan.base - 1) (loaded_base loaded) ≡ false = grind (arith, nat_tests) in rw test (fits.heads (plan.base - 1 - loaded_base loaded) (omega arith)))
 ]
 
-take_fits : (sizes : Sizes) (loaded : Loaded) (popped : ℕ) (plan : TryPlan) → blocks sizes ≤ 2 ^ 22 → LoadedFits sizes loaded → popped < blocks sizes → ((k : ℕ) → get_or plan.heads k 0 < blocks sizes) → plan.base ≤ loaded_base loaded + overlay_length loaded
+take_fits : (sizes : Sizes) (loaded : Loaded) (popped : ℕ) (plan : TryPlan) → blocks sizes ≤ 2 ^ 22 → LoadedFits sizes loaded → popped < blocks sizes
+    → ((k : ℕ) → get_or plan.heads k 0 < blocks sizes) → plan.base ≤ loaded_base loaded + overlay_length loaded
     → FitsReply (take_reply loaded popped plan)
 take_fits sizes loaded popped plan few fits pops heads low = elim (cases_lt 0 plan.overlay) [
   | inl some ↦ (let test : nat_lt 0 plan.overlay ≡ true = grind (arith, nat_tests) in let head = heads (plan.overlay - 1) in rw test (omega arith))
@@ -70,7 +72,8 @@ take_fits sizes loaded popped plan few fits pops heads low = elim (cases_lt 0 pl
   ])
 ]
 
-pub answer_fits : (sizes : Sizes) (loaded : Loaded) (popped : ℕ) (plan : TryPlan) (wish : Wish) → blocks sizes ≤ 2 ^ 22 → LoadedFits sizes loaded → popped < blocks sizes → ((k : ℕ) → get_or plan.heads k 0 < blocks sizes) → plan.base ≤ loaded_base loaded + overlay_length loaded
+pub answer_fits : (sizes : Sizes) (loaded : Loaded) (popped : ℕ) (plan : TryPlan) (wish : Wish) → blocks sizes ≤ 2 ^ 22 → LoadedFits sizes loaded → popped < blocks sizes
+    → ((k : ℕ) → get_or plan.heads k 0 < blocks sizes) → plan.base ≤ loaded_base loaded + overlay_length loaded
     → FitsReply (wish_reply loaded popped plan wish)
 answer_fits sizes loaded popped plan Take few fits pops heads low = take_fits sizes loaded popped plan few fits pops heads low
 answer_fits sizes loaded popped plan (Give head) few fits pops heads low = tt

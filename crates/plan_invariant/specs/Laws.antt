@@ -16,6 +16,7 @@ use Rattle.transfer_machine.specs.declared.stage.NextStep.TheVariants.{Rest, Loa
 use Rattle.transfer_invariant.specs.Memory.{Words, Views, States, Acted, Moved, state_tag}
 use Rattle.transfer_invariant.specs.Installing.{planned_state, states_after}
 use Rattle.transfer_invariant.specs.Invariant.{Invariant}
+use Rattle.transfer_invariant.specs.Laws.{WritesFit}
 use Rattle.plan_invariant.specs.Holding.{PlansHold, PlanPremises}
 use Rattle.plan_invariant.specs.NextState.{SameState}
 
@@ -67,9 +68,9 @@ StoredWordsFit = (sizes : Sizes) (words : Words) (views : Views) (states : State
     → (views i).next ≡ StoreRecordWord index
     → planned_value sizes.processes (views i).plan index < 2 ^ 24
 
--- the state that an exchange installs is what the loaded announcements make of the present one
-abbrev pub InstalledIsNext : Type 0
-InstalledIsNext = (sizes : Sizes) (words : Words) (views : Views) (states : States) (i : ℕ) → IsShape sizes → i < sizes.processes
+-- the state that a view plans is, where its exchange installs it, what the loaded announcements make of the present one
+abbrev pub PlannedIsNext : Type 0
+PlannedIsNext = (sizes : Sizes) (words : Words) (views : Views) (states : States) (i : ℕ) → IsShape sizes → i < sizes.processes
     → Invariant sizes words views states
     → PlansHold sizes words views states
     → (views i).next ≡ ExchangeState
@@ -88,3 +89,11 @@ PlannedBaseIsLow = (sizes : Sizes) (words : Words) (views : Views) (states : Sta
     → PlansHold sizes words views states
     → (views i).next ≡ ExchangeState
     → (views i).plan.base ≤ loaded_base (views i).loaded + overlay_length (views i).loaded
+
+-- what a view writes fits, where all places of a plan that it installs are slots
+abbrev pub PlansGiveWrites : Type 0
+PlansGiveWrites = (sizes : Sizes) (words : Words) (views : Views) (states : States) (i : ℕ) → IsShape sizes → i < sizes.processes
+    → Invariant sizes words views states
+    → PlansHold sizes words views states
+    → ((views i).next ≡ ExchangeState → words State ≡ (views i).loaded.state → (views i).plan.base + (views i).plan.overlay ≤ sizes.batches)
+    → WritesFit sizes words (views i)

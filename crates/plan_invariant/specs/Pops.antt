@@ -47,5 +47,5 @@ PlanFitsLoaded v = has_record v.next ≡ true → v.plan.base ≤ loaded_base v.
 pub record PopsHold (processes : ℕ) (words : Words) (states : States) (v : TransferView) : Type 0 where
   pub popping : loads_popped v.next ≡ true → pops_slot processes v.loaded (heard_process v.next) (slice_index v.loaded.announcements (heard_process v.next)) v.plan ≡ true
   pub popped : has_record v.next ≡ true → loaded_tag v.loaded ≡ state_tag words → (j : ℕ) → j < planned_announcements processes v.next
-    → pops_slot processes v.loaded j (slice_index v.loaded.announcements j) (planned processes v.loaded j) ≡ true
-    → popped_head v.loaded j ≡ (states (state_tag words)).content ((planned processes v.loaded j).base - 1)
+      → pops_slot processes v.loaded j (slice_index v.loaded.announcements j) (planned processes v.loaded j) ≡ true
+      → popped_head v.loaded j ≡ (states (state_tag words)).content ((planned processes v.loaded j).base - 1)

@@ -1,6 +1,6 @@
 //! The opening meets the part, each step keeps it, and what it gives. Each law is the contract of a call that does
 //! nothing.
-ghost use Rattle.plan_invariant.specs.Laws.{OpeningMeetsPlans, StepsKeepPlans, BeginningsKeepPlans, StepsCanBeMade, StoredWordsFit, InstalledIsNext, PlannedHeadsAreBlocks, PlannedBaseIsLow};
+ghost use Rattle.plan_invariant.specs.Laws.{OpeningMeetsPlans, StepsKeepPlans, BeginningsKeepPlans, StepsCanBeMade, StoredWordsFit, PlannedIsNext, PlannedHeadsAreBlocks, PlannedBaseIsLow, PlansGiveWrites};
 
 /// The words and views of the opening meet the part.
 pub fn opening()
@@ -30,7 +30,7 @@ pub fn stored_words_fit()
 
 /// A state that is installed is what the loaded announcements make of the present one.
 pub fn planned_is_next()
-    ensures { InstalledIsNext }
+    ensures { PlannedIsNext }
 {}
 
 /// The heads that a view plans are blocks.
@@ -41,4 +41,9 @@ pub fn planned_heads_are_blocks()
 /// A view that is about to install its plan has planned a base of at most the height of the state that it loaded.
 pub fn planned_base_is_low()
     ensures { PlannedBaseIsLow }
+{}
+
+/// What a view writes fits, where all places of a plan that it installs are slots.
+pub fn writes_fit()
+    ensures { PlansGiveWrites }
 {}
