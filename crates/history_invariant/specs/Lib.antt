@@ -1,0 +1,6 @@
+pub mod Ledger
+pub mod Fits
+pub mod Holds
+pub mod Steps
+pub mod Grips
+pub mod Laws
