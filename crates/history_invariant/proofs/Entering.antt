@@ -1,5 +1,5 @@
 -- What each kind of entry owes.
-use Rattle.std.proofs.Common.{◌≡◌, ◌≢◌, ℕ, ◌+◌, ◌<◌, refl, arith, List, [], ◌∷◌, ◌++◌, length, length-append}
+use Rattle.std.proofs.Common.{◌≡◌, ◌≢◌, ℕ, ◌<◌, refl, arith, List, [], ◌∷◌, ◌++◌, length-append}
 use Rattle.std.specs.List.{Contains, count_by}
 use Rattle.std.proofs.lemmas.Bool.Decides.{nat_tests}
 use Rattle.pool_model.specs.declared.entry.Entry.{Entry}
@@ -12,6 +12,7 @@ use Rattle.transfer_schedule.specs.Account.{Account, Own, gets, refuses, frees, 
 use Rattle.history_invariant.specs.Ledger.{Ledger}
 use Rattle.history_invariant.specs.Fits.{CountsEntries, LedgerFits}
 use Rattle.history_invariant.specs.Steps.{got_one, got_none, gave_back}
+use Rattle.history_invariant.specs.Grips.{Balances}
 use Rattle.history_invariant.proofs.Totals.{length_without, times_contained}
 use Rattle.history_invariant.proofs.Shared.{Shared, gots_more, backs_more}
 use Rattle.history_invariant.proofs.Fitting.{KeepsTransfer, Owes}
@@ -71,25 +72,28 @@ got_owes limits bound quantum history i block ledger lt f phase some low free = 
 }
 
 -- a free: its process got more blocks than it gave back
-more_gots : (entries : List Entry) (block : ℕ) → Contains (grip entries) block → count_by is_got entries ≡ count_by is_back entries + length (grip entries) → count_by is_back entries < count_by is_got entries
-more_gots entries block mine net = omega (arith, net, times_contained block (grip entries) mine, length_without block (grip entries))
+more_gots : (entries : List Entry) (block : ℕ) → Contains (grip entries) block → Balances entries
+    → count_by is_back entries < count_by is_got entries
+more_gots entries block mine balance = omega (arith, balance, times_contained block (grip entries) mine, length_without block (grip entries))
 
-pub back_owes : (limits : Limits) (bound quantum : ℕ) (history : List Entry) (i block : ℕ) (ledger : Ledger) → i < limits.processes → Shared limits history → LedgerFits limits bound quantum history i ledger
+pub back_owes : (limits : Limits) (bound quantum : ℕ) (history : List Entry) (i block : ℕ) (ledger : Ledger) → i < limits.processes → Shared limits history
+    → LedgerFits limits bound quantum history i ledger
     → ledger.account.phase ≡ Own
     → Contains (grip ledger.entries) block
     → Owes limits bound quantum history (Back i block) (gave_back ledger.account) ledger
 back_owes limits bound quantum history i block ledger lt shared f phase mine =
-    let net = rw f.sees.own_entries at (shared.net i lt) in
+    let balance = rw f.sees.own_entries at (shared.balance i lt) in
     record {
       may = (lt, rw f.sees.own_entries mine);
       net = tt;
-      reached = follows f.reached (frees phase (omega (arith, f.counts.gots, f.counts.backs, more_gots ledger.entries block mine net)));
+      reached = follows f.reached (frees phase (omega (arith, f.counts.gots, f.counts.backs, more_gots ledger.entries block mine balance)));
       counts = back_counts ledger.account ledger.entries i block f.counts;
       keeps = back_keeps ledger.account;
     }
 
 -- a refusal
-pub refusal_owes : (limits : Limits) (bound quantum : ℕ) (history : List Entry) (i : ℕ) (ledger : Ledger) → AreSizes limits.batch_length bound quantum → i < limits.processes → LedgerFits limits bound quantum history i ledger
+pub refusal_owes : (limits : Limits) (bound quantum : ℕ) (history : List Entry) (i : ℕ) (ledger : Ledger) → AreSizes limits.batch_length bound quantum
+    → i < limits.processes → LedgerFits limits bound quantum history i ledger
     → ledger.account.phase ≡ Own
     → source_of ledger.account.plan ≡ Nothing
     → Owes limits bound quantum history (Dry i) (got_none ledger.account) ledger

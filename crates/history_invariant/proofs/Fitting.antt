@@ -28,7 +28,7 @@ own_split i place history = omega (
   length-append (own (take place history) i) (own (drop place history) i),
 )
 
-own_rises : (i first later : ℕ) (history : List Entry) → first ≤ later → length (own (take first history) i) ≤ length (own (take later history) i)
+pub own_rises : (i first later : ℕ) (history : List Entry) → first ≤ later → length (own (take first history) i) ≤ length (own (take later history) i)
 own_rises i first later history le = omega (arith, own_split i first (take later history), ap (λ entries. length (own entries i)) (take-take first later history le))
 
 -- the number of own entries after a later place
@@ -55,7 +55,8 @@ pub record KeepsTransfer (a b : Account) : Type 0 where
 keeps_same : (a : Account) → KeepsTransfer a a
 keeps_same a = record { begun = refl; ended = refl; pending = refl; done = refl; dry = refl }
 
-places_more : (history : List Entry) (entry : Entry) (i : ℕ) (old new : Ledger) → new.begun_place ≡ old.begun_place → new.ended_place ≡ old.ended_place → KeepsTransfer old.account new.account → KeepsPlaces history i old → KeepsPlaces (history ++ entry ∷ []) i new
+places_more : (history : List Entry) (entry : Entry) (i : ℕ) (old new : Ledger) → new.begun_place ≡ old.begun_place → new.ended_place ≡ old.ended_place
+    → KeepsTransfer old.account new.account → KeepsPlaces history i old → KeepsPlaces (history ++ entry ∷ []) i new
 places_more history entry i old new b e k p = record {
   begun_within = omega (arith, b, p.begun_within, length-append history (entry ∷ []));
   begun_here = λ announced. rw b (rw (take-append-le old.begun_place history (entry ∷ []) p.begun_within) (p.begun_here (rw k.done at announced) ∙ sym k.begun));
@@ -63,7 +64,8 @@ places_more history entry i old new b e k p = record {
   ended_here = rw e (rw (take-append-le old.ended_place history (entry ∷ []) p.ended_within) (p.ended_here ∙ sym k.ended));
 }
 
-found_more : (limits : Limits) (history : List Entry) (entry : Entry) (old new : Ledger) → new.begun_place ≡ old.begun_place → new.ended_place ≡ old.ended_place → new.found_nothing ≡ old.found_nothing
+found_more : (limits : Limits) (history : List Entry) (entry : Entry) (old new : Ledger) → new.begun_place ≡ old.begun_place → new.ended_place ≡ old.ended_place
+    → new.found_nothing ≡ old.found_nothing
     → KeepsTransfer old.account new.account
     → FoundFew limits history old
     → FoundFew limits (history ++ entry ∷ []) new
@@ -80,7 +82,8 @@ sees_other history entry i ledger ne s = record {
   beginning = take-append-le (length ledger.seen) history (entry ∷ []) (seen_within history i ledger s) ∙ s.beginning;
 }
 
-fits_other : (limits : Limits) (bound quantum : ℕ) (history : List Entry) (entry : Entry) (i : ℕ) (ledger : Ledger) → i ≢ process_of entry → LedgerFits limits bound quantum history i ledger → LedgerFits limits bound quantum (history ++ entry ∷ []) i ledger
+fits_other : (limits : Limits) (bound quantum : ℕ) (history : List Entry) (entry : Entry) (i : ℕ) (ledger : Ledger) → i ≢ process_of entry
+    → LedgerFits limits bound quantum history i ledger → LedgerFits limits bound quantum (history ++ entry ∷ []) i ledger
 fits_other limits bound quantum history entry i ledger ne f = record {
   reached = f.reached;
   counts = f.counts;
@@ -90,7 +93,8 @@ fits_other limits bound quantum history entry i ledger ne f = record {
 }
 
 -- the own entry
-sees_own : (history : List Entry) (entry : Entry) (i : ℕ) (account : Account) (ledger : Ledger) → process_of entry ≡ i → SeesBeginning history i ledger → SeesBeginning (history ++ entry ∷ []) i (entered history entry account ledger)
+sees_own : (history : List Entry) (entry : Entry) (i : ℕ) (account : Account) (ledger : Ledger) → process_of entry ≡ i → SeesBeginning history i ledger
+    → SeesBeginning (history ++ entry ∷ []) i (entered history entry account ledger)
 sees_own history entry i account ledger mine s = record {
   own_entries = own_more history entry i mine ∙ ap (λ entries. entries ++ entry ∷ []) s.own_entries;
   own_seen = own_more history entry i mine ∙ ap (λ entries. entries ++ entry ∷ []) s.own_entries;

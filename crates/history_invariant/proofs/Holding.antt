@@ -14,7 +14,8 @@ use Rattle.history_invariant.specs.Holds.{HistoryHolds}
 use Rattle.history_invariant.specs.Steps.{Emptied, stays, empties}
 use Rattle.history_invariant.specs.Grips.{times, GripsAreHeld, HasOneHolder, SharesOut}
 use Rattle.history_invariant.proofs.Totals.{total_same, total_two, total_some, times_contained, contained_times}
-use Rattle.history_invariant.proofs.Shared.{grip_all, legal_shared}
+use Rattle.history_invariant.proofs.Grips.{grip_all}
+use Rattle.history_invariant.proofs.Shared.{grips_of, legal_shared}
 
 -- the opening
 opening_fits : (limits : Limits) (bound quantum i : ℕ) → LedgerFits limits bound quantum [] i (opening_ledger limits.batch_length bound quantum)
@@ -26,7 +27,8 @@ opening_fits limits bound quantum i = record {
   found = record { pending = λ taking some nothing. cc; dry = λ dry. cc };
 }
 
-pub opening_holds : (limits : Limits) (bound quantum : ℕ) (ledgers : Ledgers) → ((i : ℕ) → i < limits.processes → ledgers i ≡ opening_ledger limits.batch_length bound quantum) → HistoryHolds limits bound quantum [] ledgers
+pub opening_holds : (limits : Limits) (bound quantum : ℕ) (ledgers : Ledgers)
+    → ((i : ℕ) → i < limits.processes → ledgers i ≡ opening_ledger limits.batch_length bound quantum) → HistoryHolds limits bound quantum [] ledgers
 opening_holds limits bound quantum ledgers opened = record {
   legal = record { follows = each_entry_none (MayFollow limits); nets = each_entry_none (HasNet limits) };
   each = λ i li. rw (opened i li) (opening_fits limits bound quantum i);
@@ -37,7 +39,8 @@ opening_holds limits bound quantum ledgers opened = record {
 few_now : (limits : Limits) (history : List Entry) (start : ℕ) → start ≤ length history → unheld limits history (length history) ≤ slack limits → HadFewSince limits history start
 few_now limits history start le few = record { place = length history; after = le; within = omega arith; few = few }
 
-emptied_fits : (limits : Limits) (bound quantum : ℕ) (history : List Entry) (i : ℕ) (old new : Ledger) → LedgerFits limits bound quantum history i old → Emptied limits history old new → LedgerFits limits bound quantum history i new
+emptied_fits : (limits : Limits) (bound quantum : ℕ) (history : List Entry) (i : ℕ) (old new : Ledger) → LedgerFits limits bound quantum history i old
+    → Emptied limits history old new → LedgerFits limits bound quantum history i new
 emptied_fits limits bound quantum history i old new f stays = f
 emptied_fits limits bound quantum history i old new f (empties few) = record {
   reached = f.reached;
@@ -75,35 +78,39 @@ one_holder limits blocks grips block g there =
       holds = contained_times block (grips part.place) part.some;
       only = λ o lo mine. elim (cases_eq o part.place) [
         | inl e ↦ e
-        | inr ne ↦ absurd (omega (arith, g.once block, g.parts block, part.some, times_contained block (grips o) mine, total_two limits.processes part.place o (λ k. times block (grips k)) part.within lo ne))
+        | inr ne ↦ (
+            let mine_times = times_contained block (grips o) mine in
+            let both = total_two limits.processes part.place o (λ k. times block (grips k)) part.within lo ne in
+            absurd (omega (arith, g.once block, g.parts block, part.some, mine_times, both))
+            )
       ];
     }
 
-in_grip_held : (limits : Limits) (blocks : List ℕ) (grips : ℕ → List ℕ) (i block : ℕ) → i < limits.processes → GripsAreHeld limits blocks grips → Contains (grips i) block → Contains blocks block
+in_grip_held : (limits : Limits) (blocks : List ℕ) (grips : ℕ → List ℕ) (i block : ℕ) → i < limits.processes → GripsAreHeld limits blocks grips → Contains (grips i) block
+    → Contains blocks block
 in_grip_held limits blocks grips i block lt g mine = contained_times block blocks (omega (arith, times_contained block (grips i) mine, grip_all limits i block blocks grips lt g))
 
 -- the grips of the ledgers are those of the history
 ledger_grips : (limits : Limits) (history : List Entry) (ledgers : Ledgers) → ((i : ℕ) → i < limits.processes → own history i ≡ (ledgers i).entries)
-    → GripsAreHeld limits (held history) (λ i. grip (own history i))
+    → GripsAreHeld limits (held history) (grips_of history)
     → GripsAreHeld limits (held history) (λ i. grip (ledgers i).entries)
 ledger_grips limits history ledgers same g = record {
   once = g.once;
-  parts = λ block. g.parts block ∙ total_same limits.processes (λ i. times block (grip (ledgers i).entries)) (λ i. times block (grip (own history i))) (λ i li. ap (λ entries. times block (grip entries)) (same i li));
-  count = g.count ∙ total_same limits.processes (λ i. length (grip (ledgers i).entries)) (λ i. length (grip (own history i))) (λ i li. ap (λ entries. length (grip entries)) (same i li));
+  parts = λ block. g.parts block
+      ∙ total_same limits.processes (λ i. times block (grip (ledgers i).entries)) (λ i. times block (grips_of history i)) (λ i li. ap (λ entries. times block (grip entries)) (same i li));
+  count = g.count
+      ∙ total_same limits.processes (λ i. length (grip (ledgers i).entries)) (λ i. length (grips_of history i)) (λ i li. ap (λ entries. length (grip entries)) (same i li));
   below = g.below;
 }
 
 pub held_shared : (limits : Limits) (bound quantum : ℕ) (history : List Entry) (ledgers : Ledgers) → HistoryHolds limits bound quantum history ledgers → SharesOut limits history ledgers
 held_shared limits bound quantum history ledgers h =
     let s = legal_shared limits history h.legal in
-    let same : (i : ℕ) → i < limits.processes → own history i ≡ (ledgers i).entries = λ i li. own_of (h.each i li) in
+    let same : (i : ℕ) → i < limits.processes → own history i ≡ (ledgers i).entries = λ i li. (let f = h.each i li in f.sees.own_entries) in
     let g = ledger_grips limits history ledgers same s.grips in
     record {
       grips = g;
       holder = λ block there. one_holder limits (held history) (λ i. grip (ledgers i).entries) block g there;
       held = λ i block li mine. in_grip_held limits (held history) (λ i. grip (ledgers i).entries) i block li g mine;
-      net = λ i li. rw (same i li) at (s.net i li);
+      balance = λ i li. rw (same i li) at (s.balance i li);
     }
-  where
-    own_of : {i : ℕ} → LedgerFits limits bound quantum history i (ledgers i) → own history i ≡ (ledgers i).entries
-    own_of f = f.sees.own_entries

@@ -17,7 +17,8 @@ use Rattle.history_invariant.specs.Fits.{LedgerFits}
 use Rattle.history_invariant.proofs.Fitting.{own_since}
 
 -- the place of the last ended take lies in the window, and with it every later place
-in_window : (limits : Limits) (history : List Entry) (i ended_place entries ended : ℕ) → 2 ≤ limits.batch_length → length (own history i) ≡ entries → length (own (take ended_place history) i) ≡ ended → entries ≤ ended + (2 * limits.batch_length - 2)
+in_window : (limits : Limits) (history : List Entry) (i ended_place entries ended : ℕ) → 2 ≤ limits.batch_length → length (own history i) ≡ entries
+    → length (own (take ended_place history) i) ≡ ended → entries ≤ ended + (2 * limits.batch_length - 2)
     → (place : ℕ) → ended_place ≤ place → place ≤ length history → IsInWindow limits history i place
 in_window limits history i ended_place entries ended long all here soon place after within = record {
   before = within;
@@ -29,24 +30,28 @@ has_net : (a : Account) → IsSound a → source_of a.plan ≡ Nothing → 2 * a
 has_net a sound none = grind (arith, nat_tests, nothing_stock a.plan none)
 
 -- its refusal is legal
-pub refusal_may_follow : (limits : Limits) (bound quantum : ℕ) (history : List Entry) (i : ℕ) (ledger : Ledger) → AreSizes limits.batch_length bound quantum → i < limits.processes → LedgerFits limits bound quantum history i ledger
+pub refusal_may_follow : (limits : Limits) (bound quantum : ℕ) (history : List Entry) (i : ℕ) (ledger : Ledger) → AreSizes limits.batch_length bound quantum
+    → i < limits.processes → LedgerFits limits bound quantum history i ledger
     → ledger.account.phase ≡ Own
     → source_of ledger.account.plan ≡ Nothing
     → MayFollow limits history (Dry i)
 refusal_may_follow limits bound quantum history i ledger sizes lt f phase none =
-    let soon : FoundNothing (2 * ledger.account.plan.length - 2) ledger.account = stands_refuses ledger.account (reached_stands limits.batch_length bound quantum ledger.account sizes f.reached) phase none in
+    let stands = reached_stands limits.batch_length bound quantum ledger.account sizes f.reached in
+    let soon : FoundNothing (2 * ledger.account.plan.length - 2) ledger.account = stands_refuses ledger.account stands phase none in
     let same = (reached_sizes limits.batch_length bound quantum ledger.account f.reached).0 in
     let few = f.found.dry soon.dry in
     let all : length (own history i) ≡ ledger.account.entries = ap length f.sees.own_entries ∙ sym f.counts.entries in (
       lt,
       record {
         place = few.place;
-        in_window = in_window limits history i ledger.ended_place ledger.account.entries ledger.account.ended sizes.long all f.places.ended_here (rw (← same) soon.recent) few.place few.after few.within;
+        in_window = in_window limits history i ledger.ended_place ledger.account.entries ledger.account.ended sizes.long all f.places.ended_here (rw (← same) soon.recent)
+            few.place few.after few.within;
         few = few.few;
       },
     )
 
-pub refusal_has_net : (limits : Limits) (bound quantum : ℕ) (history : List Entry) (i : ℕ) (ledger : Ledger) → AreSizes limits.batch_length bound quantum → LedgerFits limits bound quantum history i ledger
+pub refusal_has_net : (limits : Limits) (bound quantum : ℕ) (history : List Entry) (i : ℕ) (ledger : Ledger) → AreSizes limits.batch_length bound quantum
+    → LedgerFits limits bound quantum history i ledger
     → source_of ledger.account.plan ≡ Nothing
     → HasNet limits history (Dry i)
 refusal_has_net limits bound quantum history i ledger sizes f none =

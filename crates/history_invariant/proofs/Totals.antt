@@ -1,5 +1,5 @@
 -- Sums over the processes, and how often a block stands in a list.
-use Rattle.std.proofs.Common.{◌≡◌, ◌≢◌, ℕ, ◌+◌, ◌<◌, ◌≤◌, ◌==◌, Bool, true, false, not, cond, refl, sym, inl, inr, arith, zero, suc, List, [], ◌∷◌, length, filter}
+use Rattle.std.proofs.Common.{◌≡◌, ◌≢◌, ℕ, ◌+◌, ◌*◌, ◌<◌, ◌≤◌, ◌==◌, Bool, true, false, not, cond, refl, sym, inl, inr, arith, zero, suc, List, [], ◌∷◌, length, filter}
 use Rattle.std.specs.List.{Contains}
 use Rattle.std.proofs.lemmas.Bool.{cases_eq}
 use Rattle.std.proofs.lemmas.List.Sums.{sum_by-cons}
@@ -41,6 +41,14 @@ total_two (suc n) i j f lt lj ne = elim (cases_eq n i) [
   ]
 ]
 
+pub total_le : (n most : ℕ) (f : ℕ → ℕ) → ((o : ℕ) → o < n → f o ≤ most) → total n f ≤ n * most
+unfolding total
+total_le zero most f h = omega arith
+total_le (suc n) most f h = omega (arith, total_le n most f (λ o lt. h o (omega arith)), h n (omega arith), times_suc n most)
+  where
+    times_suc : (n most : ℕ) → suc n * most ≡ n * most + most
+    times_suc n most = omega arith
+
 pub total_none : (n : ℕ) (f : ℕ → ℕ) → ((o : ℕ) → f o ≡ 0) → total n f ≡ 0
 unfolding total
 total_none zero f h = refl
@@ -80,12 +88,14 @@ times_without b c (x ∷ xs) = elim (cases_eq x b) [
     off_it : (x b c n : ℕ) → x ≢ b → cond (c == b) 0 (cond (x == c) 1 0 + n) ≡ cond (x == c) 1 0 + cond (c == b) 0 n
     off_it x b c n ne = grind (arith, nat_tests)
 
-    same : (t : Bool) → t ≡ true → cond (c == b) 0 (cond (x == c) 1 0 + times c xs) ≡ cond (c == b) 0 (times c xs) → times c (filter (λ other. not (other == b)) xs) ≡ cond (c == b) 0 (times c xs)
+    same : (t : Bool) → t ≡ true → cond (c == b) 0 (cond (x == c) 1 0 + times c xs) ≡ cond (c == b) 0 (times c xs)
+        → times c (filter (λ other. not (other == b)) xs) ≡ cond (c == b) 0 (times c xs)
         → times c (cond (not t) (x ∷ filter (λ other. not (other == b)) xs) (filter (λ other. not (other == b)) xs)) ≡ cond (c == b) 0 (times c (x ∷ xs))
     same true e k h = rw (times_push c x xs) (rw k h)
     same false e k h = cc
 
-    other : (t : Bool) → t ≡ false → cond (c == b) 0 (cond (x == c) 1 0 + times c xs) ≡ cond (x == c) 1 0 + cond (c == b) 0 (times c xs) → times c (filter (λ other. not (other == b)) xs) ≡ cond (c == b) 0 (times c xs)
+    other : (t : Bool) → t ≡ false → cond (c == b) 0 (cond (x == c) 1 0 + times c xs) ≡ cond (x == c) 1 0 + cond (c == b) 0 (times c xs)
+        → times c (filter (λ other. not (other == b)) xs) ≡ cond (c == b) 0 (times c xs)
         → times c (cond (not t) (x ∷ filter (λ other. not (other == b)) xs) (filter (λ other. not (other == b)) xs)) ≡ cond (c == b) 0 (times c (x ∷ xs))
     other true e k h = cc
     other false e k h = rw (times_push c x xs) (rw (times_push c x (filter (λ other. not (other == b)) xs)) (rw h (sym k)))

@@ -14,6 +14,10 @@ unfoldable pub total : ℕ → (ℕ → ℕ) → ℕ
 total zero number = 0
 total (suc process) number = total process number + number process
 
+-- as many blocks were got as were given back or are still held
+abbrev pub Balances : List Entry → Type 0
+Balances entries = count_by is_got entries ≡ count_by is_back entries + length (grip entries)
+
 -- the held blocks are those of the grips, each once and one of the pool
 pub record GripsAreHeld (limits : Limits) (blocks : List ℕ) (grips : ℕ → List ℕ) : Type 0 where
   pub once : (block : ℕ) → times block blocks ≤ 1
@@ -33,4 +37,4 @@ pub record SharesOut (limits : Limits) (history : List Entry) (ledgers : Ledgers
   pub grips : GripsAreHeld limits (held history) (λ i. grip (ledgers i).entries)
   pub holder : (block : ℕ) → Contains (held history) block → HasOneHolder limits.processes (λ i. grip (ledgers i).entries) block
   pub held : (i block : ℕ) → i < limits.processes → Contains (grip (ledgers i).entries) block → Contains (held history) block
-  pub net : (i : ℕ) → i < limits.processes → count_by is_got (ledgers i).entries ≡ count_by is_back (ledgers i).entries + length (grip (ledgers i).entries)
+  pub balance : (i : ℕ) → i < limits.processes → Balances (ledgers i).entries

@@ -1,17 +1,18 @@
 -- the opening has a history, and steps, exchanges and entries keep it
-use Rattle.std.specs.Prelude.{◌≡◌, ◌≢◌, ℕ, ◌<◌, List, [], ◌∷◌, ◌++◌, take, Contains}
+use Rattle.std.specs.Prelude.{◌≡◌, ◌≢◌, ℕ, ◌+◌, ◌<◌, ◌≤◌, List, [], ◌∷◌, ◌++◌, length, take, Contains}
 use Rattle.pool_model.specs.declared.entry.Entry.{Entry}
 use Rattle.pool_model.specs.declared.entry.Entry.TheVariants.{Got, Back, Dry}
-use Rattle.pool_model.specs.Limits.{Limits}
-use Rattle.pool_model.specs.History.{held, grip}
+use Rattle.pool_model.specs.Limits.{Limits, slack}
+use Rattle.pool_model.specs.History.{held, unheld, grip}
 use Rattle.pool_model.specs.Legal.{IsLegal}
 use Rattle.transfer_schedule.specs.declared.own_step.Source.TheVariants.{Nothing}
-use Rattle.transfer_schedule.specs.Numbers.{AreSizes, source_of}
+use Rattle.transfer_schedule.specs.Numbers.{AreSizes, source_of, withheld}
 use Rattle.transfer_schedule.specs.Account.{Own}
 use Rattle.history_invariant.specs.Ledger.{Ledger, Ledgers, opening_ledger}
 use Rattle.history_invariant.specs.Holds.{HistoryHolds}
 use Rattle.history_invariant.specs.Steps.{GoesOn, Emptied, Replaced, entered, got_one, got_none, gave_back}
-use Rattle.history_invariant.specs.Grips.{SharesOut}
+use Rattle.history_invariant.specs.Grips.{total, SharesOut}
+use Rattle.history_invariant.specs.Longest.{longest}
 
 -- the empty history is that of the opening
 abbrev pub OpeningHasHistory : Type 0
@@ -69,6 +70,24 @@ RefusalsKeepHistory = (limits : Limits) (bound quantum : ℕ) (history : List En
     → Replaced i (entered history (Dry i) (got_none (ledgers i).account) (ledgers i)) ledgers after
     → HistoryHolds limits bound quantum (history ++ Dry i ∷ []) after
 
+-- a process that is told what another one has seen, where that is more, keeps the history
+abbrev pub JoinsKeepHistory : Type 0
+JoinsKeepHistory = (limits : Limits) (bound quantum : ℕ) (history : List Entry) (ledgers after : Ledgers) (i other : ℕ)
+    → i < limits.processes
+    → other < limits.processes
+    → HistoryHolds limits bound quantum history ledgers
+    → length (ledgers i).seen ≤ length (ledgers other).seen
+    → Replaced i (record (ledgers i) { seen = (ledgers other).seen }) ledgers after
+    → HistoryHolds limits bound quantum history after
+
+-- where each block is held or withheld by a process, so that the shared stack is empty, at most the slack is unheld
+abbrev pub EmptyStackLeavesFew : Type 0
+EmptyStackLeavesFew = (limits : Limits) (bound quantum : ℕ) (history : List Entry) (ledgers : Ledgers)
+    → AreSizes limits.batch_length bound quantum
+    → HistoryHolds limits bound quantum history ledgers
+    → limits.blocks ≤ length (held history) + total limits.processes (λ i. withheld (ledgers i).account.plan)
+    → unheld limits history (length history) ≤ slack limits
+
 -- the held blocks are shared out among the processes
 abbrev pub HeldBlocksAreShared : Type 0
 HeldBlocksAreShared = (limits : Limits) (bound quantum : ℕ) (history : List Entry) (ledgers : Ledgers)
@@ -87,3 +106,9 @@ SeenIsLegal = (limits : Limits) (bound quantum : ℕ) (history : List Entry) (le
     → i < limits.processes
     → HistoryHolds limits bound quantum history ledgers
     → IsLegal limits (ledgers i).seen
+
+-- the history is the longest that a process has seen
+abbrev pub HistoryIsLongest : Type 0
+HistoryIsLongest = (limits : Limits) (bound quantum : ℕ) (history : List Entry) (ledgers : Ledgers)
+    → HistoryHolds limits bound quantum history ledgers
+    → longest limits.processes (λ i. (ledgers i).seen) ≡ history

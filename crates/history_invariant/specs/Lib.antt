@@ -3,4 +3,5 @@ pub mod Fits
 pub mod Holds
 pub mod Steps
 pub mod Grips
+pub mod Longest
 pub mod Laws

@@ -1,5 +1,5 @@
 -- how the ledgers move on: by steps that make no entry, by exchanges of the state, and by entries
-use Rattle.std.specs.Prelude.{◌≡◌, ◌≢◌, ℕ, ◌+◌, ◌<◌, ◌≤◌, Bool, true, false, if◌then◌else◌, List, [], ◌∷◌, ◌++◌, length}
+use Rattle.std.specs.Prelude.{◌≡◌, ◌≢◌, ◌==◌, ℕ, ◌+◌, ◌<◌, ◌≤◌, Bool, true, false, if◌then◌else◌, List, [], ◌∷◌, ◌++◌, length}
 use Rattle.pool_model.specs.declared.entry.Entry.{Entry}
 use Rattle.pool_model.specs.Limits.{Limits, slack}
 use Rattle.pool_model.specs.History.{unheld}
@@ -27,21 +27,35 @@ got_none a = record a { plan = after_took_one a.plan; phase = Between; entries =
 abbrev pub gave_back : Account → Account
 gave_back a = record a { plan = after_gave_one a.plan; phase = Between; entries = a.entries + 1; backs = a.backs + 1 }
 
+-- the ledger when the transfer is announced: its place is kept, and what a take of it finds is still open
+abbrev pub announced : ℕ → Ledger → Ledger
+announced made ledger = record ledger { account = stepped made ledger.account; begun_place = length ledger.seen; found_nothing = false }
+
+-- the ledger when the transfer ends: the place of a take becomes that of the last ended one
+abbrev pub ended : Bool → Ledger → Ledger
+ended found ledger = record ledger {
+  account = ended_with found ledger.account;
+  ended_place = if is_taking ledger.account.plan.pending then ledger.begun_place else ledger.ended_place;
+}
+
 -- one step of a process that makes no entry leads from its ledger to the next
 pub data GoesOn (ledger : Ledger) : Ledger → Type 0 where
   -- a call begins, with a transfer or without
   begins : (account : Account) → ledger.account.phase ≡ Between → Follows ledger.account account → GoesOn ledger (record ledger { account = account })
-  -- the first step of the transfer announces it: its place is kept, and it has found nothing amiss so far
-  announces : (made : ℕ) → ledger.account.phase ≡ Moving made → ledger.account.plan.done ≡ 0 → 1 < ledger.account.plan.bound
-      → GoesOn ledger (record ledger { account = stepped made ledger.account; begun_place = length ledger.seen; found_nothing = false })
+  -- the first step of the transfer announces it
+  announces : (made : ℕ) → ledger.account.phase ≡ Moving made → ledger.account.plan.done ≡ 0 → 1 < ledger.account.plan.bound → GoesOn ledger (announced made ledger)
   -- a later step of the transfer, which goes on
-  moves : (made : ℕ) → ledger.account.phase ≡ Moving made → IsAnnounced ledger.account → ledger.account.plan.done + 1 < ledger.account.plan.bound
+  moves : (made : ℕ) → ledger.account.phase ≡ Moving made
+      → IsAnnounced ledger.account
+      → ledger.account.plan.done + 1 < ledger.account.plan.bound
       → GoesOn ledger (record ledger { account = stepped made ledger.account })
   -- the last step of the transfer: a take ends with nothing only where it was applied with nothing
-  ends : (made : ℕ) (found : Bool) → ledger.account.phase ≡ Moving made → IsAnnounced ledger.account → ledger.account.plan.done + 1 ≤ ledger.account.plan.bound
+  ends : (made : ℕ) (found : Bool) → ledger.account.phase ≡ Moving made
+      → IsAnnounced ledger.account
+      → ledger.account.plan.done + 1 ≤ ledger.account.plan.bound
       → (is_giving ledger.account.plan.pending ≡ true → found ≡ true)
       → (is_taking ledger.account.plan.pending ≡ true → found ≡ false → ledger.found_nothing ≡ true)
-      → GoesOn ledger (record ledger { account = ended_with found ledger.account; ended_place = if is_taking ledger.account.plan.pending then ledger.begun_place else ledger.ended_place })
+      → GoesOn ledger (ended found ledger)
 
 -- what an exchange of the state makes of a ledger: nothing, or its take has found nothing, at a moment when few blocks are unheld
 pub data Emptied (limits : Limits) (history : List Entry) (ledger : Ledger) : Ledger → Type 0 where
@@ -56,3 +70,7 @@ entered history entry account ledger = record ledger { account = account; entrie
 pub record Replaced (i : ℕ) (ledger : Ledger) (ledgers after : Ledgers) : Type 0 where
   pub here : after i ≡ ledger
   pub elsewhere : (other : ℕ) → other ≢ i → after other ≡ ledgers other
+
+-- the ledgers where that of process i has become another
+abbrev pub with_ledger : ℕ → Ledger → Ledgers → Ledgers
+with_ledger i ledger ledgers other = if other == i then ledger else ledgers other

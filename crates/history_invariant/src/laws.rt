@@ -1,5 +1,5 @@
 //! Each law is the contract of a call that does nothing.
-ghost use Rattle.history_invariant.specs.Laws.{OpeningHasHistory, StepsKeepHistory, ExchangesKeepHistory, GotsKeepHistory, BacksKeepHistory, RefusalsKeepHistory, HeldBlocksAreShared, BeginningsAreLegal, SeenIsLegal};
+ghost use Rattle.history_invariant.specs.Laws.{OpeningHasHistory, StepsKeepHistory, ExchangesKeepHistory, GotsKeepHistory, BacksKeepHistory, RefusalsKeepHistory, JoinsKeepHistory, EmptyStackLeavesFew, HistoryIsLongest, HeldBlocksAreShared, BeginningsAreLegal, SeenIsLegal};
 
 /// At the opening the history is empty.
 pub fn opening()
@@ -23,6 +23,16 @@ pub fn entries()
     ensures refusals { RefusalsKeepHistory }
 {}
 
+/// A process that is told what another one has seen keeps the history.
+pub fn joins()
+    ensures { JoinsKeepHistory }
+{}
+
+/// While the shared stack is empty, few blocks are unheld.
+pub fn empty_stacks()
+    ensures { EmptyStackLeavesFew }
+{}
+
 /// Each held block is one of the pool, and in the grip of one process.
 pub fn held_blocks()
     ensures { HeldBlocksAreShared }
@@ -32,4 +42,9 @@ pub fn held_blocks()
 pub fn beginnings()
     ensures all { BeginningsAreLegal }
     ensures seen { SeenIsLegal }
+{}
+
+/// The history is the longest that a process has seen.
+pub fn longest_seen()
+    ensures { HistoryIsLongest }
 {}
