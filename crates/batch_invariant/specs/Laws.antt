@@ -1,0 +1,86 @@
+-- the opening, the beginnings and the steps of transfers keep each batch at one place, and what follows of heads
+use Rattle.std.specs.Prelude.{◌≡◌, ◌≢◌, ℕ, ◌-◌, ◌<◌, ◌≤◌, true, length, slice_index}
+use Rattle.std.specs.List.{All}
+use Rattle.word_layout.specs.Sizes.{Sizes, IsShape}
+use Rattle.word_layout.specs.declared.announced.Wish.{Wish}
+use Rattle.transfer_machine.specs.States.{StackState, next_of}
+use Rattle.transfer_machine.specs.Machine.{installed}
+use Rattle.transfer_machine.specs.Opening.{opening_base, opening_slot}
+use Rattle.transfer_machine.specs.Pools.{opening_view, view_begun, view_met, step_counted, MayBegin}
+use Rattle.transfer_machine.specs.declared.stage.NextStep.TheVariants.{Rest, Announce, ExchangeState}
+use Rattle.transfer_invariant.specs.Progress.{has_announced}
+use Rattle.batch_invariant.specs.Places.{process_batches}
+use Rattle.batch_invariant.specs.Batches.{ProcessViews, MovedProcess, BatchesHold, IsBatch, WishIsBatch, times_placed}
+use Rattle.batch_invariant.specs.Premises.{InStep, PendingIsPresent, SameStack}
+
+-- at the opening each batch is at one place
+abbrev pub OpeningPlacesBatches : Type 0
+OpeningPlacesBatches = (sizes : Sizes) (s : StackState) (views : ProcessViews) → IsShape sizes
+    → s.height ≡ opening_base sizes
+    → ((k : ℕ) → k < s.height → s.content k ≡ opening_slot sizes k)
+    → ((i : ℕ) → i < sizes.processes → views i ≡ opening_view sizes i)
+    → BatchesHold sizes s views
+
+-- a process at rest that begins a transfer keeps that
+abbrev pub BeginningsKeepBatches : Type 0
+BeginningsKeepBatches = (sizes : Sizes) (s : StackState) (views after : ProcessViews) (i : ℕ) (wish : Wish) → i < sizes.processes
+    → BatchesHold sizes s views
+    → (views i).transfer.next ≡ Rest
+    → MayBegin wish (views i).pool
+    → MovedProcess i (view_begun wish (views i)) views after
+    → BatchesHold sizes s after
+
+-- so does a step that leaves the state
+abbrev pub StepsKeepBatches : Type 0
+StepsKeepBatches = (sizes : Sizes) (s : StackState) (views after : ProcessViews) (i word : ℕ) → i < sizes.processes
+    → BatchesHold sizes s views
+    → InStep s i (views i).transfer word
+    → MovedProcess i (view_met sizes (views i) word) views after
+    → BatchesHold sizes s after
+
+-- it holds of the states that come of one by the announcements of the first so many processes
+abbrev pub NextStatesKeepBatches : Type 0
+NextStatesKeepBatches = (sizes : Sizes) (s : StackState) (views : ProcessViews) (announcements : ℕ → ℕ) (heard : ℕ) → IsShape sizes → heard ≤ sizes.processes
+    → BatchesHold sizes s views
+    → ((o : ℕ) → o < sizes.processes → PendingIsPresent s (announcements o) o (views o).transfer)
+    → BatchesHold sizes (next_of heard announcements s) views
+
+-- a step that installs such a state keeps it
+abbrev pub InstallingKeepsBatches : Type 0
+InstallingKeepsBatches = (sizes : Sizes) (s t : StackState) (views after : ProcessViews) (announcements : ℕ → ℕ) (i : ℕ) → IsShape sizes → i < sizes.processes
+    → BatchesHold sizes s views
+    → ((o : ℕ) → o < sizes.processes → PendingIsPresent s (announcements o) o (views o).transfer)
+    → (views i).transfer.next ≡ ExchangeState
+    → SameStack sizes.processes (next_of sizes.processes announcements s) t
+    → MovedProcess i (record { transfer = installed (views i).transfer; pool = step_counted (views i).pool }) views after
+    → BatchesHold sizes t after
+
+-- the stack has no more batches than there are
+abbrev pub StackHasRoom : Type 0
+StackHasRoom = (sizes : Sizes) (s : StackState) (views : ProcessViews) → BatchesHold sizes s views → s.height ≤ sizes.batches
+
+-- all heads of the content are those of batches
+abbrev pub ContentIsBatches : Type 0
+ContentIsBatches = (sizes : Sizes) (s : StackState) (views : ProcessViews) (place : ℕ) → IsShape sizes → BatchesHold sizes s views → place < s.height → IsBatch sizes (s.content place)
+
+-- so are those of a process: of its current list, of its spares, in transit
+abbrev pub ProcessesHaveBatches : Type 0
+ProcessesHaveBatches = (sizes : Sizes) (s : StackState) (views : ProcessViews) (i : ℕ) → IsShape sizes → BatchesHold sizes s views → i < sizes.processes → All (IsBatch sizes) (process_batches s i (views i))
+
+-- of these, those of the current list
+abbrev pub CurrentIsBatch : Type 0
+CurrentIsBatch = (sizes : Sizes) (s : StackState) (views : ProcessViews) (i : ℕ) → IsShape sizes → BatchesHold sizes s views → i < sizes.processes → (views i).pool.plan.current ≢ 0 → IsBatch sizes ((views i).pool.head - 1)
+
+-- and those of the spares
+abbrev pub SparesAreBatches : Type 0
+SparesAreBatches = (sizes : Sizes) (s : StackState) (views : ProcessViews) (i place : ℕ) → IsShape sizes → BatchesHold sizes s views → i < sizes.processes → place < length (views i).pool.heads → IsBatch sizes (slice_index (views i).pool.heads place)
+
+-- a give that is begun, or announced and not applied, is of a batch
+abbrev pub GivesAreBatches : Type 0
+GivesAreBatches = (sizes : Sizes) (s : StackState) (views : ProcessViews) (i : ℕ) → IsShape sizes → BatchesHold sizes s views → i < sizes.processes
+    → ((views i).transfer.next ≡ Announce → WishIsBatch sizes (views i).transfer.wish)
+    × (has_announced (views i).transfer.next ≡ true → s.applied i ≢ (views i).transfer.age → WishIsBatch sizes (views i).transfer.wish)
+
+-- no head is at two places
+abbrev pub HeadsAreApart : Type 0
+HeadsAreApart = (sizes : Sizes) (s : StackState) (views : ProcessViews) (head : ℕ) → IsShape sizes → BatchesHold sizes s views → times_placed sizes s views head ≤ 1
