@@ -26,7 +26,7 @@ use Rattle.batch_invariant.proofs.Heads.{content_is_batch}
 abbrev pub with_granted : ℕ → Bool → Wish → StackState → StackState
 with_granted process odd wish s = record (with_wish wish s) { reply = put process (reply_value odd (answer_to wish s)) s.reply; applied = put process (s.applied process + 1) s.applied }
 
-put_here : (place value : ℕ) (values : ℕ → ℕ) → put place value values place ≡ value
+pub put_here : (place value : ℕ) (values : ℕ → ℕ) → put place value values place ≡ value
 put_here place value values = let test : (place == place) ≡ true = grind (arith, nat_tests) in rw test refl
 
 pub put_elsewhere : (place value : ℕ) (values : ℕ → ℕ) (k : ℕ) → k ≢ place → put place value values k ≡ values k
@@ -55,7 +55,8 @@ answer_fits sizes s (Give head) shape heads = tt
 content_weight : (ℕ → ℕ) → StackState → ℕ
 content_weight f s = total s.height (λ k. f (s.content k))
 
-take_moves : (f : ℕ → ℕ) (h : ℕ) (content : ℕ → ℕ) (t : Bool) → (h == 0) ≡ t → total (h - 1) (λ k. f (content k)) + weight f (taken Take (if t then Nothing else Took (content (h - 1)))) ≡ total h (λ k. f (content k))
+take_moves : (f : ℕ → ℕ) (h : ℕ) (content : ℕ → ℕ) (t : Bool) → (h == 0) ≡ t
+    → total (h - 1) (λ k. f (content k)) + weight f (taken Take (if t then Nothing else Took (content (h - 1)))) ≡ total h (λ k. f (content k))
 take_moves f h content true e = let empty : h ≡ 0 = grind (arith, nat_tests) in rw empty (omega arith)
 take_moves f h content false e =
     let some : 1 ≤ h = grind (arith, nat_tests) in

@@ -1,4 +1,4 @@
--- what the one equation gives: all heads are those of batches, and none is at two places
+-- what the one equation gives: all heads are those of batches
 use Rattle.std.proofs.Common.{◌≡◌, ◌≢◌, ℕ, ◌+◌, ◌-◌, ◌*◌, ◌%◌, ◌<◌, ◌≤◌, ◌==◌, true, false, ◌∙◌, List, [], ◌∷◌, length, arith}
 use Rattle.std.specs.Prelude.{if◌then◌else◌, nat_lt, ◌&&◌, slice_index}
 use Rattle.std.specs.List.{All}
@@ -6,7 +6,6 @@ use Rattle.std.proofs.lemmas.Bool.Decides.{nat_tests}
 use Rattle.std.proofs.lemmas.List.Sums.{sum_by-cons}
 use Rattle.std.proofs.lemmas.List.Elements.{All-get_or, All-nil, All-cons, All-head}
 use Rattle.std.proofs.lemmas.Nat.{mod-mul-add}
-use Rattle.std.proofs.Math.Nat.{mul-le-mul_right}
 use Rattle.word_layout.specs.Sizes.{Sizes, IsShape, blocks}
 use Rattle.word_layout.specs.declared.announced.Wish.{Wish}
 use Rattle.word_layout.specs.declared.announced.Wish.TheVariants.{Take, Give}
@@ -15,8 +14,8 @@ use Rattle.transfer_machine.specs.States.{StackState}
 use Rattle.transfer_machine.specs.declared.stage.NextStep.TheVariants.{Announce}
 use Rattle.transfer_invariant.specs.Progress.{has_announced}
 use Rattle.batch_invariant.specs.Places.{given, moving, current_batch, process_batches}
-use Rattle.batch_invariant.specs.Batches.{ProcessViews, BatchesPlaced, IsBatch, WishIsBatch, weight, placed_weight, batches_weight, is_head, times_placed}
-use Rattle.batch_invariant.proofs.Sums.{total_ones, term_of_total, total_nothing, total_once}
+use Rattle.batch_invariant.specs.Batches.{ProcessViews, BatchesPlaced, IsBatch, WishIsBatch, weight, placed_weight, batches_weight}
+use Rattle.batch_invariant.proofs.Sums.{total_ones, term_of_total, total_nothing}
 use Rattle.batch_invariant.proofs.Moving.{moving_begun, moving_pending, parts_weight}
 
 -- the places of the stack are among all
@@ -58,13 +57,15 @@ all_batches sizes (head ∷ heads) e =
     let parts = sum_by-cons (is_stray sizes) head heads in
     All-cons (IsBatch sizes) head heads (batch_of_no_stray sizes head (omega arith)) (all_batches sizes heads (omega arith))
 
-process_strays : (sizes : Sizes) (s : StackState) (views : ProcessViews) (i : ℕ) → IsShape sizes → BatchesPlaced sizes s views → i < sizes.processes → weight (is_stray sizes) (process_batches s i (views i)) ≡ 0
+process_strays : (sizes : Sizes) (s : StackState) (views : ProcessViews) (i : ℕ) → IsShape sizes → BatchesPlaced sizes s views → i < sizes.processes
+    → weight (is_stray sizes) (process_batches s i (views i)) ≡ 0
 unfolding placed_weight
 process_strays sizes s views i shape placed li =
     let none = no_strays sizes s views shape placed in
     let term = term_of_total sizes.processes i (λ o. weight (is_stray sizes) (process_batches s o (views o))) li in omega arith
 
-pub process_has_batches : (sizes : Sizes) (s : StackState) (views : ProcessViews) (i : ℕ) → IsShape sizes → BatchesPlaced sizes s views → i < sizes.processes → All (IsBatch sizes) (process_batches s i (views i))
+pub process_has_batches : (sizes : Sizes) (s : StackState) (views : ProcessViews) (i : ℕ) → IsShape sizes → BatchesPlaced sizes s views → i < sizes.processes
+    → All (IsBatch sizes) (process_batches s i (views i))
 process_has_batches sizes s views i shape placed li = all_batches sizes (process_batches s i (views i)) (process_strays sizes s views i shape placed li)
 
 module _ (sizes : Sizes) (s : StackState) (views : ProcessViews) (i : ℕ) (shape : IsShape sizes) (placed : BatchesPlaced sizes s views) (li : i < sizes.processes) where
@@ -97,27 +98,3 @@ module _ (sizes : Sizes) (s : StackState) (views : ProcessViews) (i : ℕ) (shap
 
   pub pending_is_batch : has_announced (views i).transfer.next ≡ true → s.applied i ≢ (views i).transfer.age → WishIsBatch sizes (views i).transfer.wish
   pending_is_batch h ne = given_is_batch (views i).transfer.wish (moving_pending s i (views i).transfer h ne)
-
--- no head is at two places, since no two batches have one head
-heads_differ : (a b length : ℕ) → a < b → 1 ≤ length → a * length < b * length
-heads_differ a b length lt some = omega (arith, mul-le-mul_right {m = a + 1} {n = b} length (omega arith))
-
-counts_once : (this head : ℕ) → is_head this head ≤ 1
-counts_once this head = grind (arith, nat_tests)
-
-counts_equal : (this head : ℕ) → 1 ≤ is_head this head → head ≡ this
-counts_equal this head h = grind (arith, nat_tests)
-
-counts_not : (this head : ℕ) → head ≢ this → is_head this head ≡ 0
-counts_not this head h = grind (arith, nat_tests)
-
-pub placed_once : (sizes : Sizes) (s : StackState) (views : ProcessViews) (head : ℕ) → IsShape sizes → BatchesPlaced sizes s views → times_placed sizes s views head ≤ 1
-unfolding batches_weight
-placed_once sizes s views head shape placed =
-    let all = placed (is_head head) in
-    let once = total_once sizes.batches (λ b. is_head head (b * sizes.length)) (λ o lt. counts_once head (o * sizes.length)) (λ o k ok lk is.
-    let here = counts_equal head (k * sizes.length) is in
-    let long = two_blocks_a_batch sizes shape in
-    let differ = heads_differ o k sizes.length ok (omega arith) in
-    counts_not head (o * sizes.length) (λ e. omega arith)) in
-    omega arith

@@ -43,11 +43,12 @@ announcement_holds sizes s views k word true shape lk hold present e = transfer_
 announcement_holds sizes s views k word false shape lk hold present e = hold
 
 -- those who weren't met yet have their replies and applied transfers
-either_state : (t : Bool) (x y : StackState) (o reply applied : ℕ) → (x.reply o ≡ reply) × (x.applied o ≡ applied) → (y.reply o ≡ reply) × (y.applied o ≡ applied) → ((if t then x else y).reply o ≡ reply) × ((if t then x else y).applied o ≡ applied)
+either_state : (t : Bool) (x y : StackState) (o reply applied : ℕ) → (x.reply o ≡ reply) × (x.applied o ≡ applied) → (y.reply o ≡ reply) × (y.applied o ≡ applied)
+    → ((if t then x else y).reply o ≡ reply) × ((if t then x else y).applied o ≡ applied)
 either_state true x y o reply applied hx hy = hx
 either_state false x y o reply applied hx hy = hy
 
-unmet_stay : (announcements : ℕ → ℕ) (s : StackState) (k o : ℕ) → k ≤ o → ((next_of k announcements s).reply o ≡ s.reply o) × ((next_of k announcements s).applied o ≡ s.applied o)
+pub unmet_stay : (announcements : ℕ → ℕ) (s : StackState) (k o : ℕ) → k ≤ o → ((next_of k announcements s).reply o ≡ s.reply o) × ((next_of k announcements s).applied o ≡ s.applied o)
 unfolding next_of
 unmet_stay announcements s zero o le = (refl, refl)
 unmet_stay announcements s (suc k) o le =

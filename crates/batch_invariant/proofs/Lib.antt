@@ -3,6 +3,8 @@ pub mod Moving
 pub mod Going
 pub mod Steps
 pub mod Heads
+pub mod Apart
 pub mod Applied
 pub mod Installing
 pub mod Opened
+pub mod Plans

@@ -49,6 +49,7 @@ unfolding moving
 moving_same_view s i v x g = rw (announced_begun x.next g.announced, g.announced, announced_begun v.next g.was, g.was, g.wish, g.age) refl
 
 -- the weight of a process's batches, by its parts
-pub parts_weight : (f : ℕ → ℕ) (s : StackState) (i : ℕ) (v : ProcessView) → weight f (process_batches s i v) ≡ weight f (current_batch v.pool) + (weight f v.pool.heads + weight f (moving s i v.transfer))
+pub parts_weight : (f : ℕ → ℕ) (s : StackState) (i : ℕ) (v : ProcessView)
+    → weight f (process_batches s i v) ≡ weight f (current_batch v.pool) + (weight f v.pool.heads + weight f (moving s i v.transfer))
 unfolding process_batches
 parts_weight f s i v = rw (sum_by-append f (current_batch v.pool) (v.pool.heads ++ moving s i v.transfer), sum_by-append f v.pool.heads (moving s i v.transfer)) refl

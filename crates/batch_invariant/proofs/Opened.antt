@@ -35,7 +35,8 @@ module _ (sizes : Sizes) (s : StackState) (shape : IsShape sizes) where
       below : (base k : ℕ) → k < base → (head : ℕ) → (if nat_lt k base then head else 0) ≡ head
       below base k lt head = grind (arith, nat_tests)
 
-  pub opened_holds : (views : ProcessViews) → s.height ≡ opening_base sizes → ((k : ℕ) → k < s.height → s.content k ≡ opening_slot sizes k) → ((i : ℕ) → i < sizes.processes → views i ≡ opening_view sizes i) → BatchesHold sizes s views
+  pub opened_holds : (views : ProcessViews) → s.height ≡ opening_base sizes → ((k : ℕ) → k < s.height → s.content k ≡ opening_slot sizes k)
+      → ((i : ℕ) → i < sizes.processes → views i ≡ opening_view sizes i) → BatchesHold sizes s views
   unfolding placed_weight batches_weight
   opened_holds views height content seats = record {
     placed = λ f.

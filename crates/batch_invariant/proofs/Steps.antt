@@ -26,7 +26,7 @@ use Rattle.batch_invariant.specs.Batches.{ProcessViews, MovedProcess, BatchesHol
 use Rattle.batch_invariant.specs.Premises.{InStep}
 use Rattle.batch_invariant.proofs.Sums.{total_kept}
 use Rattle.batch_invariant.proofs.Moving.{GoesOn, moving_at_rest, moving_begun, moving_pending, moving_applied, moving_same_view, parts_weight}
-use Rattle.batch_invariant.proofs.Going.{met_goes_on}
+use Rattle.batch_invariant.proofs.Going.{goes_on, goes_on_announced, met_goes_on}
 
 -- a view that keeps the weight of its batches, and that replies match it
 pub record KeepsBatches (s : StackState) (i : ℕ) (v x : ProcessView) : Type 0 where
@@ -34,7 +34,8 @@ pub record KeepsBatches (s : StackState) (i : ℕ) (v x : ProcessView) : Type 0 
   pub matches : ReplyMatches s i v.transfer → ReplyMatches s i x.transfer
 
 -- where one view becomes such a view, batches stay placed
-pub batches_move : (sizes : Sizes) (s : StackState) (views after : ProcessViews) (i : ℕ) (x : ProcessView) → i < sizes.processes → BatchesHold sizes s views → MovedProcess i x views after → KeepsBatches s i (views i) x → BatchesHold sizes s after
+pub batches_move : (sizes : Sizes) (s : StackState) (views after : ProcessViews) (i : ℕ) (x : ProcessView) → i < sizes.processes → BatchesHold sizes s views → MovedProcess i x views after
+    → KeepsBatches s i (views i) x → BatchesHold sizes s after
 unfolding placed_weight
 batches_move sizes s views after i x li h moved keeps = record {
   placed = λ f. let same = total_kept sizes.processes i (λ o. weight f (process_batches s o (views o))) (λ o. weight f (process_batches s o (after o)))
@@ -64,7 +65,8 @@ goes_on_keeps s i v x g current heads = record {
 }
 
 -- the announcement: the given batch stays in transit
-announced_keeps : (s : StackState) (i : ℕ) (v x : ProcessView) → v.transfer.next ≡ Announce → s.applied i ≡ v.transfer.age → has_announced x.transfer.next ≡ true → x.transfer.wish ≡ v.transfer.wish → x.transfer.age ≡ v.transfer.age + 1
+announced_keeps : (s : StackState) (i : ℕ) (v x : ProcessView) → v.transfer.next ≡ Announce → s.applied i ≡ v.transfer.age → has_announced x.transfer.next ≡ true
+    → x.transfer.wish ≡ v.transfer.wish → x.transfer.age ≡ v.transfer.age + 1
     → current_batch x.pool ≡ current_batch v.pool → x.pool.heads ≡ v.pool.heads → KeepsBatches s i v x
 announced_keeps s i v x begun calm announced wish age current heads =
     let unapplied : s.applied i ≢ x.transfer.age = omega arith in
@@ -115,24 +117,38 @@ ended_keeps s i v x reply last applied answer matches rest pool = let announced 
   matches = λ h. unannounced_matches s i x.transfer (rw rest refl);
 }
 
+pub ends_answer : (s : StackState) (i : ℕ) (v : TransferView) (word : ℕ) → ReplyMatches s i v → InStep s i v word → v.next ≡ LoadReply
+    → (is_take v.wish ≡ false → reply_of (value_of word) ≡ Gave) × (is_take v.wish ≡ true → reply_of (value_of word) ≢ Gave)
+ends_answer s i v word matches step last = let announced = reply_announced v.next last in (
+  λ t. ap reply_of (step.reply last) ∙ matches.gave announced (step.applied last) t,
+  λ t e. matches.took announced (step.applied last) t (sym (ap reply_of (step.reply last)) ∙ e),
+)
+
 -- the step at each stage
+trying_keeps : (sizes : Sizes) (s : StackState) (i : ℕ) (v : ProcessView) (word : ℕ) (stage : NextStep) → goes_on stage ≡ true → v.transfer.next ≡ stage
+    → KeepsBatches s i v (record { transfer = met_at sizes v.transfer word stage; pool = step_counted v.pool })
+trying_keeps sizes s i v word stage g e =
+    goes_on_keeps s i v (record { transfer = met_at sizes v.transfer word stage; pool = step_counted v.pool }) (met_goes_on sizes v.transfer word stage g (rw e (goes_on_announced stage g))) refl refl
+
 stage_keeps : (sizes : Sizes) (s : StackState) (i : ℕ) (v : ProcessView) (word : ℕ) (stage : NextStep) → v.transfer.next ≡ stage → InStep s i v.transfer word → ReplyMatches s i v.transfer
     → KeepsBatches s i v (record { transfer = met_at sizes v.transfer word stage; pool = pool_met_at word v.pool stage })
 stage_keeps sizes s i v word Rest e h matches = record { same_weight = λ f. refl; matches = λ m. m }
-stage_keeps sizes s i v word Announce e h matches = announced_keeps s i v (record { transfer = met_at sizes v.transfer word Announce; pool = pool_met_at word v.pool Announce }) e (h.calm (rw e refl)) refl refl refl refl refl
-stage_keeps sizes s i v word LoadState e h matches = goes_on_keeps s i v (record { transfer = met_at sizes v.transfer word LoadState; pool = step_counted v.pool }) (met_goes_on sizes v.transfer word LoadState refl (rw e refl)) refl refl
-stage_keeps sizes s i v word (LoadRecordWord index) e h matches = goes_on_keeps s i v (record { transfer = met_at sizes v.transfer word (LoadRecordWord index); pool = step_counted v.pool }) (met_goes_on sizes v.transfer word (LoadRecordWord index) refl (rw e refl)) refl refl
-stage_keeps sizes s i v word (LoadCoveredSlot offset) e h matches = goes_on_keeps s i v (record { transfer = met_at sizes v.transfer word (LoadCoveredSlot offset); pool = step_counted v.pool }) (met_goes_on sizes v.transfer word (LoadCoveredSlot offset) refl (rw e refl)) refl refl
-stage_keeps sizes s i v word (ExchangeSlot offset) e h matches = goes_on_keeps s i v (record { transfer = met_at sizes v.transfer word (ExchangeSlot offset); pool = step_counted v.pool }) (met_goes_on sizes v.transfer word (ExchangeSlot offset) refl (rw e refl)) refl refl
-stage_keeps sizes s i v word (LoadAnnouncement process) e h matches = goes_on_keeps s i v (record { transfer = met_at sizes v.transfer word (LoadAnnouncement process); pool = step_counted v.pool }) (met_goes_on sizes v.transfer word (LoadAnnouncement process) refl (rw e refl)) refl refl
-stage_keeps sizes s i v word (LoadPoppedSlot process) e h matches = goes_on_keeps s i v (record { transfer = met_at sizes v.transfer word (LoadPoppedSlot process); pool = step_counted v.pool }) (met_goes_on sizes v.transfer word (LoadPoppedSlot process) refl (rw e refl)) refl refl
-stage_keeps sizes s i v word (StoreRecordWord index) e h matches = goes_on_keeps s i v (record { transfer = met_at sizes v.transfer word (StoreRecordWord index); pool = step_counted v.pool }) (met_goes_on sizes v.transfer word (StoreRecordWord index) refl (rw e refl)) refl refl
-stage_keeps sizes s i v word ExchangeState e h matches = goes_on_keeps s i v (record { transfer = met_at sizes v.transfer word ExchangeState; pool = step_counted v.pool }) (met_goes_on sizes v.transfer word ExchangeState refl (rw e refl)) refl refl
-stage_keeps sizes s i v word LoadFinalState e h matches = goes_on_keeps s i v (record { transfer = met_at sizes v.transfer word LoadFinalState; pool = step_counted v.pool }) (met_goes_on sizes v.transfer word LoadFinalState refl (rw e refl)) refl refl
+stage_keeps sizes s i v word Announce e h matches =
+    announced_keeps s i v (record { transfer = met_at sizes v.transfer word Announce; pool = pool_met_at word v.pool Announce }) e (h.calm (rw e refl)) refl refl refl refl refl
+stage_keeps sizes s i v word LoadState e h matches = trying_keeps sizes s i v word LoadState refl e
+stage_keeps sizes s i v word (LoadRecordWord index) e h matches = trying_keeps sizes s i v word (LoadRecordWord index) refl e
+stage_keeps sizes s i v word (LoadCoveredSlot offset) e h matches = trying_keeps sizes s i v word (LoadCoveredSlot offset) refl e
+stage_keeps sizes s i v word (ExchangeSlot offset) e h matches = trying_keeps sizes s i v word (ExchangeSlot offset) refl e
+stage_keeps sizes s i v word (LoadAnnouncement process) e h matches = trying_keeps sizes s i v word (LoadAnnouncement process) refl e
+stage_keeps sizes s i v word (LoadPoppedSlot process) e h matches = trying_keeps sizes s i v word (LoadPoppedSlot process) refl e
+stage_keeps sizes s i v word (StoreRecordWord index) e h matches = trying_keeps sizes s i v word (StoreRecordWord index) refl e
+stage_keeps sizes s i v word ExchangeState e h matches = trying_keeps sizes s i v word ExchangeState refl e
+stage_keeps sizes s i v word LoadFinalState e h matches = trying_keeps sizes s i v word LoadFinalState refl e
 stage_keeps sizes s i v word LoadReply e h matches =
     ended_keeps s i v (record { transfer = met_at sizes v.transfer word LoadReply; pool = pool_met_at word v.pool LoadReply }) (reply_of (value_of word)) e (h.applied e) (ap reply_of (sym (h.reply e))) matches refl refl
 
-pub steps_keep : (sizes : Sizes) (s : StackState) (views after : ProcessViews) (i word : ℕ) → i < sizes.processes → BatchesHold sizes s views → InStep s i (views i).transfer word → MovedProcess i (view_met sizes (views i) word) views after → BatchesHold sizes s after
+pub steps_keep : (sizes : Sizes) (s : StackState) (views after : ProcessViews) (i word : ℕ) → i < sizes.processes → BatchesHold sizes s views → InStep s i (views i).transfer word
+    → MovedProcess i (view_met sizes (views i) word) views after → BatchesHold sizes s after
 steps_keep sizes s views after i word li h step moved = batches_move sizes s views after i (view_met sizes (views i) word) li h moved (stage_keeps sizes s i (views i) word (views i).transfer.next refl step (h.replies i li))
 
 -- a beginning: the given batch leaves the spares and is in transit
@@ -153,5 +169,6 @@ begun_keeps s i (Give head) v rest may = record {
   matches = λ h. unannounced_matches s i (begun (Give head) v.transfer) refl;
 }
 
-pub beginnings_keep : (sizes : Sizes) (s : StackState) (views after : ProcessViews) (i : ℕ) (wish : Wish) → i < sizes.processes → BatchesHold sizes s views → (views i).transfer.next ≡ Rest → MayBegin wish (views i).pool → MovedProcess i (view_begun wish (views i)) views after → BatchesHold sizes s after
+pub beginnings_keep : (sizes : Sizes) (s : StackState) (views after : ProcessViews) (i : ℕ) (wish : Wish) → i < sizes.processes → BatchesHold sizes s views → (views i).transfer.next ≡ Rest
+    → MayBegin wish (views i).pool → MovedProcess i (view_begun wish (views i)) views after → BatchesHold sizes s after
 beginnings_keep sizes s views after i wish li h rest may moved = batches_move sizes s views after i (view_begun wish (views i)) li h moved (begun_keeps s i wish (views i) rest may)

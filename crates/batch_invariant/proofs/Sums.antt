@@ -32,11 +32,19 @@ unfolding total
 total_ones zero = refl
 total_ones (suc count) = omega (arith, total_ones count)
 
--- a term is at most the sum
+-- a term is at most the sum, and so are two
 pub term_of_total : (count i : ℕ) (f : ℕ → ℕ) → i < count → f i ≤ total count f
 unfolding total
 term_of_total zero i f lt = absurd (omega arith)
 term_of_total (suc count) i f lt = elim (cases_eq i count) [ inl e ↦ rw e (omega arith) | inr ne ↦ omega (arith, term_of_total count i f (omega arith)) ]
+
+pub terms_of_total : (count i later : ℕ) (f : ℕ → ℕ) → i < later → later < count → f i + f later ≤ total count f
+unfolding total
+terms_of_total zero i later f lt low = absurd (omega arith)
+terms_of_total (suc count) i later f lt low = elim (cases_eq later count) [
+  | inl e ↦ rw e (omega (arith, term_of_total count i f (omega arith)))
+  | inr ne ↦ omega (arith, terms_of_total count i later f lt (omega arith))
+]
 
 -- no term, and one term at most
 pub total_nothing : (count : ℕ) (f : ℕ → ℕ) → ((o : ℕ) → o < count → f o ≡ 0) → total count f ≡ 0

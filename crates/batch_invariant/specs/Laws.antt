@@ -1,14 +1,23 @@
 -- the opening, the beginnings and the steps of transfers keep each batch at one place, and what follows of heads
-use Rattle.std.specs.Prelude.{◌≡◌, ◌≢◌, ℕ, ◌-◌, ◌<◌, ◌≤◌, true, length, slice_index}
-use Rattle.std.specs.List.{All}
+use Rattle.std.specs.Prelude.{◌≡◌, ◌≢◌, ℕ, ◌-◌, ◌<◌, ◌≤◌, true, false, length, slice_index}
+use Rattle.std.specs.List.{All, AllPairs}
 use Rattle.word_layout.specs.Sizes.{Sizes, IsShape}
 use Rattle.word_layout.specs.declared.announced.Wish.{Wish}
+use Rattle.word_layout.specs.Packing.{value_of, reply_of}
+use Rattle.word_layout.specs.declared.reply.Reply.TheVariants.{Gave}
 use Rattle.transfer_machine.specs.States.{StackState, next_of}
+use Rattle.transfer_machine.specs.Tries.{is_take}
+use Rattle.transfer_machine.specs.Planned.{planned, SamePlan}
+use Rattle.transfer_machine.specs.NextStates.{HasContent, HasReplies, state_after}
+use Rattle.transfer_machine.specs.declared.try_plan.TryPlan.{TryPlan}
+use Rattle.transfer_machine.specs.declared.transfer.TransferView.{TransferView}
 use Rattle.transfer_machine.specs.Machine.{installed}
 use Rattle.transfer_machine.specs.Opening.{opening_base, opening_slot}
 use Rattle.transfer_machine.specs.Pools.{opening_view, view_begun, view_met, step_counted, MayBegin}
-use Rattle.transfer_machine.specs.declared.stage.NextStep.TheVariants.{Rest, Announce, ExchangeState}
+use Rattle.transfer_machine.specs.declared.stage.NextStep.TheVariants.{Rest, Announce, ExchangeState, LoadReply}
 use Rattle.transfer_invariant.specs.Progress.{has_announced}
+use Rattle.transfer_invariant.specs.Installing.{planned_state}
+use Rattle.transfer_invariant.specs.Laws.{PlanFits}
 use Rattle.batch_invariant.specs.Places.{process_batches}
 use Rattle.batch_invariant.specs.Batches.{ProcessViews, MovedProcess, BatchesHold, IsBatch, WishIsBatch, times_placed}
 use Rattle.batch_invariant.specs.Premises.{InStep, PendingIsPresent, SameStack}
@@ -65,15 +74,18 @@ ContentIsBatches = (sizes : Sizes) (s : StackState) (views : ProcessViews) (plac
 
 -- so are those of a process: of its current list, of its spares, in transit
 abbrev pub ProcessesHaveBatches : Type 0
-ProcessesHaveBatches = (sizes : Sizes) (s : StackState) (views : ProcessViews) (i : ℕ) → IsShape sizes → BatchesHold sizes s views → i < sizes.processes → All (IsBatch sizes) (process_batches s i (views i))
+ProcessesHaveBatches = (sizes : Sizes) (s : StackState) (views : ProcessViews) (i : ℕ) → IsShape sizes → BatchesHold sizes s views → i < sizes.processes
+    → All (IsBatch sizes) (process_batches s i (views i))
 
 -- of these, those of the current list
 abbrev pub CurrentIsBatch : Type 0
-CurrentIsBatch = (sizes : Sizes) (s : StackState) (views : ProcessViews) (i : ℕ) → IsShape sizes → BatchesHold sizes s views → i < sizes.processes → (views i).pool.plan.current ≢ 0 → IsBatch sizes ((views i).pool.head - 1)
+CurrentIsBatch = (sizes : Sizes) (s : StackState) (views : ProcessViews) (i : ℕ) → IsShape sizes → BatchesHold sizes s views → i < sizes.processes → (views i).pool.plan.current ≢ 0
+    → IsBatch sizes ((views i).pool.head - 1)
 
 -- and those of the spares
 abbrev pub SparesAreBatches : Type 0
-SparesAreBatches = (sizes : Sizes) (s : StackState) (views : ProcessViews) (i place : ℕ) → IsShape sizes → BatchesHold sizes s views → i < sizes.processes → place < length (views i).pool.heads → IsBatch sizes (slice_index (views i).pool.heads place)
+SparesAreBatches = (sizes : Sizes) (s : StackState) (views : ProcessViews) (i place : ℕ) → IsShape sizes → BatchesHold sizes s views → i < sizes.processes
+    → place < length (views i).pool.heads → IsBatch sizes (slice_index (views i).pool.heads place)
 
 -- a give that is begun, or announced and not applied, is of a batch
 abbrev pub GivesAreBatches : Type 0
@@ -84,3 +96,44 @@ GivesAreBatches = (sizes : Sizes) (s : StackState) (views : ProcessViews) (i : �
 -- no head is at two places
 abbrev pub HeadsAreApart : Type 0
 HeadsAreApart = (sizes : Sizes) (s : StackState) (views : ProcessViews) (head : ℕ) → IsShape sizes → BatchesHold sizes s views → times_placed sizes s views head ≤ 1
+
+-- two places of the stack have two heads
+abbrev pub ContentIsApart : Type 0
+ContentIsApart = (sizes : Sizes) (s : StackState) (views : ProcessViews) (place later : ℕ) → IsShape sizes → BatchesHold sizes s views → place < later → later < s.height
+    → s.content later ≢ s.content place
+
+-- no process has a head of the stack
+abbrev pub ContentIsFree : Type 0
+ContentIsFree = (sizes : Sizes) (s : StackState) (views : ProcessViews) (place i : ℕ) → IsShape sizes → BatchesHold sizes s views → place < s.height → i < sizes.processes
+    → All (λ head. head ≢ s.content place) (process_batches s i (views i))
+
+-- no two processes have one head
+abbrev pub ProcessesAreApart : Type 0
+ProcessesAreApart = (sizes : Sizes) (s : StackState) (views : ProcessViews) (i o : ℕ) → IsShape sizes → BatchesHold sizes s views → i < sizes.processes → o < sizes.processes → o ≢ i
+    → All (λ head. All (λ other. other ≢ head) (process_batches s o (views o))) (process_batches s i (views i))
+
+-- no process has a head twice
+abbrev pub ProcessHasOnce : Type 0
+ProcessHasOnce = (sizes : Sizes) (s : StackState) (views : ProcessViews) (i : ℕ) → IsShape sizes → BatchesHold sizes s views → i < sizes.processes
+    → AllPairs (λ head later. later ≢ head) (process_batches s i (views i))
+
+-- the reply that ends a transfer is one to its wish: a give is answered that it gave, a take never
+abbrev pub EndsAnswerWishes : Type 0
+EndsAnswerWishes = (sizes : Sizes) (s : StackState) (views : ProcessViews) (i word : ℕ) → i < sizes.processes
+    → BatchesHold sizes s views
+    → InStep s i (views i).transfer word
+    → (views i).transfer.next ≡ LoadReply
+    → (is_take (views i).transfer.wish ≡ false → reply_of (value_of word) ≡ Gave)
+    × (is_take (views i).transfer.wish ≡ true → reply_of (value_of word) ≢ Gave)
+
+-- a plan has room whose content is that of a state in which each batch is at one place
+abbrev pub PlansHaveRoom : Type 0
+PlansHaveRoom = (sizes : Sizes) (plan : TryPlan) (s t : StackState) (views : ProcessViews) → IsShape sizes → BatchesHold sizes t views → HasContent plan s t → PlanFits sizes plan
+
+-- the state that a view planned is the next one, where the plan that it keeps is that of its loaded words, and these are of the state before
+abbrev pub PlannedStatesAreNext : Type 0
+PlannedStatesAreNext = (processes : ℕ) (s : StackState) (v : TransferView)
+    → SamePlan processes v.plan (planned processes v.loaded processes)
+    → HasContent (planned processes v.loaded processes) s (state_after v.loaded processes s)
+    → HasReplies processes (planned processes v.loaded processes) s (state_after v.loaded processes s)
+    → SameStack processes (state_after v.loaded processes s) (planned_state s v)

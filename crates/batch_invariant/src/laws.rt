@@ -1,5 +1,5 @@
 //! Each batch is at one place. Each law is the contract of a call that does nothing.
-ghost use Rattle.batch_invariant.specs.Laws.{OpeningPlacesBatches, BeginningsKeepBatches, StepsKeepBatches, NextStatesKeepBatches, InstallingKeepsBatches, StackHasRoom, ContentIsBatches, ProcessesHaveBatches, CurrentIsBatch, SparesAreBatches, GivesAreBatches, HeadsAreApart};
+ghost use Rattle.batch_invariant.specs.Laws.{OpeningPlacesBatches, BeginningsKeepBatches, StepsKeepBatches, NextStatesKeepBatches, InstallingKeepsBatches, StackHasRoom, ContentIsBatches, ProcessesHaveBatches, CurrentIsBatch, SparesAreBatches, GivesAreBatches, HeadsAreApart, ContentIsApart, ContentIsFree, ProcessesAreApart, ProcessHasOnce, EndsAnswerWishes, PlansHaveRoom, PlannedStatesAreNext};
 
 /// At the opening each batch is at one place.
 pub fn opening()
@@ -34,5 +34,20 @@ pub fn heads()
 
 /// No head is at two places.
 pub fn apart()
-    ensures { HeadsAreApart }
+    ensures all { HeadsAreApart }
+    ensures content { ContentIsApart }
+    ensures free { ContentIsFree }
+    ensures processes { ProcessesAreApart }
+    ensures once { ProcessHasOnce }
+{}
+
+/// A transfer ends with a reply to its wish.
+pub fn replies()
+    ensures { EndsAnswerWishes }
+{}
+
+/// A plan whose content is that of such a state has room, and the state that a view planned is the next one.
+pub fn plans()
+    ensures room { PlansHaveRoom }
+    ensures next { PlannedStatesAreNext }
 {}
