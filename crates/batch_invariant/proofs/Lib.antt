@@ -8,3 +8,4 @@ pub mod Applied
 pub mod Installing
 pub mod Opened
 pub mod Plans
+pub mod Machine

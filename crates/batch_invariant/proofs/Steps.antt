@@ -20,6 +20,7 @@ use Rattle.transfer_machine.specs.declared.view.PoolView.{PoolView}
 use Rattle.transfer_machine.specs.declared.view.ProcessView.{ProcessView}
 use Rattle.transfer_machine.specs.declared.stage.NextStep.{NextStep}
 use Rattle.transfer_machine.specs.declared.stage.NextStep.TheVariants.{Rest, Announce, LoadState, LoadRecordWord, LoadCoveredSlot, ExchangeSlot, LoadAnnouncement, LoadPoppedSlot, StoreRecordWord, ExchangeState, LoadFinalState, LoadReply}
+use Rattle.transfer_invariant.specs.Memory.{Moved}
 use Rattle.transfer_invariant.specs.Progress.{has_announced}
 use Rattle.batch_invariant.specs.Places.{taken, brought, current_batch, process_batches}
 use Rattle.batch_invariant.specs.Batches.{ProcessViews, MovedProcess, BatchesHold, ReplyMatches, placed_weight, weight}
@@ -43,6 +44,10 @@ batches_move sizes s views after i x li h moved keeps = record {
       rw same (h.placed f);
   replies = λ o lo. elim (cases_eq o i) [ inl e ↦ rw e (rw moved.here (keeps.matches (h.replies i li))) | inr ne ↦ rw (moved.elsewhere o ne) (h.replies o lo) ];
 }
+
+-- of a process's view, its transfer's moves too
+pub transfers_move : (i : ℕ) (x : ProcessView) (views after : ProcessViews) → MovedProcess i x views after → Moved i x.transfer (λ o. (views o).transfer) (λ o. (after o).transfer)
+transfers_move i x views after moved = record { here = ap (λ v. v.transfer) moved.here; elsewhere = λ o ne. ap (λ v. v.transfer) (moved.elsewhere o ne) }
 
 -- replies match a view that isn't in an announced transfer, and one whose transfer isn't applied
 pub unannounced_matches : (s : StackState) (i : ℕ) (x : TransferView) → has_announced x.next ≡ false → ReplyMatches s i x
@@ -130,7 +135,7 @@ trying_keeps : (sizes : Sizes) (s : StackState) (i : ℕ) (v : ProcessView) (wor
 trying_keeps sizes s i v word stage g e =
     goes_on_keeps s i v (record { transfer = met_at sizes v.transfer word stage; pool = step_counted v.pool }) (met_goes_on sizes v.transfer word stage g (rw e (goes_on_announced stage g))) refl refl
 
-stage_keeps : (sizes : Sizes) (s : StackState) (i : ℕ) (v : ProcessView) (word : ℕ) (stage : NextStep) → v.transfer.next ≡ stage → InStep s i v.transfer word → ReplyMatches s i v.transfer
+pub stage_keeps : (sizes : Sizes) (s : StackState) (i : ℕ) (v : ProcessView) (word : ℕ) (stage : NextStep) → v.transfer.next ≡ stage → InStep s i v.transfer word → ReplyMatches s i v.transfer
     → KeepsBatches s i v (record { transfer = met_at sizes v.transfer word stage; pool = pool_met_at word v.pool stage })
 stage_keeps sizes s i v word Rest e h matches = record { same_weight = λ f. refl; matches = λ m. m }
 stage_keeps sizes s i v word Announce e h matches =

@@ -11,16 +11,19 @@ use Rattle.transfer_machine.specs.Planned.{planned, SamePlan}
 use Rattle.transfer_machine.specs.NextStates.{HasContent, HasReplies, state_after}
 use Rattle.transfer_machine.specs.declared.try_plan.TryPlan.{TryPlan}
 use Rattle.transfer_machine.specs.declared.transfer.TransferView.{TransferView}
-use Rattle.transfer_machine.specs.Machine.{installed}
+use Rattle.transfer_machine.specs.Machine.{action_of, installed}
+use Rattle.transfer_machine.specs.Words.{name_of}
+use Rattle.word_layout.specs.declared.name.WordName.TheVariants.{State}
 use Rattle.transfer_machine.specs.Opening.{opening_base, opening_slot}
 use Rattle.transfer_machine.specs.Pools.{opening_view, view_begun, view_met, step_counted, MayBegin}
 use Rattle.transfer_machine.specs.declared.stage.NextStep.TheVariants.{Rest, Announce, ExchangeState, LoadReply}
 use Rattle.transfer_invariant.specs.Progress.{has_announced}
-use Rattle.transfer_invariant.specs.Installing.{planned_state}
+use Rattle.transfer_invariant.specs.Installing.{planned_state, states_after}
+use Rattle.transfer_invariant.specs.Memory.{Words, States, Acted, state_tag}
 use Rattle.transfer_invariant.specs.Laws.{PlanFits}
 use Rattle.batch_invariant.specs.Places.{process_batches}
 use Rattle.batch_invariant.specs.Batches.{ProcessViews, MovedProcess, BatchesHold, IsBatch, WishIsBatch, times_placed}
-use Rattle.batch_invariant.specs.Premises.{InStep, PendingIsPresent, SameStack}
+use Rattle.batch_invariant.specs.Premises.{InStep, PendingIsPresent, InstallsNext, SameStack}
 
 -- at the opening each batch is at one place
 abbrev pub OpeningPlacesBatches : Type 0
@@ -63,6 +66,16 @@ InstallingKeepsBatches = (sizes : Sizes) (s t : StackState) (views after : Proce
     → SameStack sizes.processes (next_of sizes.processes announcements s) t
     → MovedProcess i (record { transfer = installed (views i).transfer; pool = step_counted (views i).pool }) views after
     → BatchesHold sizes t after
+
+-- the step of a process on the words keeps it, of the present state before and after
+abbrev pub MachineKeepsBatches : Type 0
+MachineKeepsBatches = (sizes : Sizes) (words new : Words) (views after : ProcessViews) (states : States) (i : ℕ) → IsShape sizes → i < sizes.processes
+    → BatchesHold sizes (states (state_tag words)) views
+    → InStep (states (state_tag words)) i (views i).transfer (words (name_of (action_of sizes (views i).transfer)))
+    → ((views i).transfer.next ≡ ExchangeState → words State ≡ (views i).transfer.loaded.state → InstallsNext sizes (states (state_tag words)) views (views i).transfer)
+    → Acted sizes (action_of sizes (views i).transfer) words new
+    → MovedProcess i (view_met sizes (views i) (words (name_of (action_of sizes (views i).transfer)))) views after
+    → BatchesHold sizes (states_after words (views i).transfer states (state_tag new)) after
 
 -- the stack has no more batches than there are
 abbrev pub StackHasRoom : Type 0

@@ -1,5 +1,5 @@
 //! Each batch is at one place. Each law is the contract of a call that does nothing.
-ghost use Rattle.batch_invariant.specs.Laws.{OpeningPlacesBatches, BeginningsKeepBatches, StepsKeepBatches, NextStatesKeepBatches, InstallingKeepsBatches, StackHasRoom, ContentIsBatches, ProcessesHaveBatches, CurrentIsBatch, SparesAreBatches, GivesAreBatches, HeadsAreApart, ContentIsApart, ContentIsFree, ProcessesAreApart, ProcessHasOnce, EndsAnswerWishes, PlansHaveRoom, PlannedStatesAreNext};
+ghost use Rattle.batch_invariant.specs.Laws.{OpeningPlacesBatches, BeginningsKeepBatches, StepsKeepBatches, NextStatesKeepBatches, InstallingKeepsBatches, MachineKeepsBatches, StackHasRoom, ContentIsBatches, ProcessesHaveBatches, CurrentIsBatch, SparesAreBatches, GivesAreBatches, HeadsAreApart, ContentIsApart, ContentIsFree, ProcessesAreApart, ProcessHasOnce, EndsAnswerWishes, PlansHaveRoom, PlannedStatesAreNext};
 
 /// At the opening each batch is at one place.
 pub fn opening()
@@ -20,6 +20,11 @@ pub fn steps()
 pub fn installs()
     ensures next { NextStatesKeepBatches }
     ensures installed { InstallingKeepsBatches }
+{}
+
+/// So each step of a process on the words keeps that, of the present state before and after.
+pub fn machine()
+    ensures { MachineKeepsBatches }
 {}
 
 /// The stack has no more batches than there are, and all heads are those of batches.
