@@ -47,7 +47,7 @@ exchange_kept sizes m n views after states i true few li inv e plan fits test a 
     let same : m State ≡ v.loaded.state = same_words (m State) v.loaded.state test in
     let now : loaded_tag v.loaded ≡ state_tag m = sym (ap tag_of same) in
     install_step sizes m n views after states i li inv e now (rw e at plan) (fits same)
-          (exchanges_state sizes v.loaded.state (loaded_tag v.loaded + 1) v.next_record m n (row_fits sizes m i v few li (inv.own i li)) test a) moved
+    (exchanges_state sizes v.loaded.state (loaded_tag v.loaded + 1) v.next_record m n (row_fits sizes m i v few li (inv.own i li)) test a) moved
 exchange_kept sizes m n views after states i false few li inv e plan fits test a moved =
     kept sizes m n after states (try_ends sizes m views after states i li inv (rw e refl) moved) (keeps_state sizes (views i).loaded.state (next_state (views i)) m n test a)
 
@@ -78,7 +78,7 @@ step_kept sizes m n views after states i (LoadPoppedSlot process) few li inv pla
 step_kept sizes m n views after states i (StoreRecordWord index) few li inv plan w e a moved =
     let v = views i in
     store_step sizes m n views after states i index li inv e
-          (stores_word sizes v.next_record index (loaded_tag v.loaded + 1) (planned_value sizes.processes v.plan index) m n (w.store index e) a) moved
+    (stores_word sizes v.next_record index (loaded_tag v.loaded + 1) (planned_value sizes.processes v.plan index) m n (w.store index e) a) moved
 step_kept sizes m n views after states i ExchangeState few li inv plan w e a moved =
     exchange_kept sizes m n views after states i (m State == (views i).loaded.state) few li inv e plan (w.install e) refl a moved
 step_kept sizes m n views after states i LoadFinalState few li inv plan w e a moved =

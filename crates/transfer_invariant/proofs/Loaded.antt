@@ -33,7 +33,7 @@ value_head processes x s few low =
     let inside : nat_lt x (s.height - s.base) ≡ true = grind (arith, nat_tests) in
     rw (not_base, not_length, head, place, inside) refl
 
-value_reply : (processes i : ℕ) (s : StackState) → state_value processes s (processes + 2 + i) ≡ s.reply i
+pub value_reply : (processes i : ℕ) (s : StackState) → state_value processes s (processes + 2 + i) ≡ s.reply i
 unfolding state_value
 value_reply processes i s = grind (arith, nat_tests)
 

@@ -11,15 +11,11 @@ use Rattle.word_layout.specs.declared.name.WordName.{WordName}
 use Rattle.word_layout.specs.declared.name.WordName.TheVariants.{State, RecordWord}
 use Rattle.word_layout.proofs.Packed.{tag_of-tagged, value_of-tagged}
 use Rattle.word_layout.proofs.Limits.{two_blocks_a_batch}
-use Rattle.transfer_machine.specs.Opening.{opening_word, opening_record, opening_base, opening_record_word, opening_slot, opening_transfer}
-use Rattle.transfer_machine.specs.States.{StackState}
+use Rattle.transfer_machine.specs.Opening.{opening_word, opening_record, opening_base, opening_record_word, opening_transfer}
 use Rattle.transfer_invariant.specs.Memory.{Words, Views, state_tag, current_record, word_tag, word_value, state_value}
+use Rattle.transfer_invariant.specs.OpeningState.{opening_state}
 use Rattle.transfer_invariant.specs.Records.{CurrentRecord, StatesFit, TagsBelow, OwnRecord, LoadedState}
 use Rattle.transfer_invariant.specs.Invariant.{RecordsHold}
-
--- the state of the opening
-pub opening_state : Sizes → StackState
-opening_state sizes = record { base = opening_base sizes; height = opening_base sizes; content = opening_slot sizes; reply = λ i. 0; applied = λ i. 0 }
 
 -- there are fewer batches than a value can say
 few_batches : (sizes : Sizes) → IsShape sizes → sizes.batches < 2 ^ 24

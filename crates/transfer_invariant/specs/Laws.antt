@@ -16,16 +16,17 @@ use Rattle.transfer_machine.specs.declared.transfer.TransferView.{TransferView}
 use Rattle.transfer_machine.specs.declared.try_plan.TryPlan.{TryPlan}
 use Rattle.transfer_machine.specs.declared.stage.NextStep.TheVariants.{Rest, StoreRecordWord, ExchangeState}
 use Rattle.transfer_invariant.specs.Memory.{Words, Views, States, Acted, Moved, state_tag}
+use Rattle.transfer_invariant.specs.OpeningState.{opening_state}
 use Rattle.transfer_invariant.specs.Installing.{states_after}
 use Rattle.transfer_invariant.specs.Progress.{loaded_words}
 use Rattle.transfer_invariant.specs.Invariant.{Invariant}
 
--- the words and views of the opening meet the invariant with some states
+-- the words and views of the opening meet the invariant, with the state of the opening
 abbrev pub OpeningMeetsInvariant : Type 0
 OpeningMeetsInvariant = (sizes : Sizes) (words : Words) (views : Views) → IsShape sizes
     → ((name : WordName) → InRange sizes name → words name ≡ opening_word sizes name)
     → ((i : ℕ) → i < sizes.processes → views i ≡ opening_transfer i)
-    → (states : States) × Invariant sizes words views states
+    → Invariant sizes words views (λ m. opening_state sizes)
 
 -- a plan has room: all places are slots, the heads are blocks
 pub record PlanFits (sizes : Sizes) (plan : TryPlan) : Type 0 where

@@ -4,5 +4,6 @@ pub mod Progress
 pub mod Records
 pub mod Tags
 pub mod Plans
+pub mod OpeningState
 pub mod Invariant
 pub mod Laws

@@ -2,7 +2,7 @@
 //! nothing.
 ghost use Rattle.transfer_invariant.specs.Laws.{OpeningMeetsInvariant, StepsKeepInvariant, BeginningsKeepInvariant, TableActsByNames, TagsAreFew, WholeRecordsAreStates};
 
-/// The words and views of the opening meet the invariant.
+/// The words and views of the opening meet the invariant, with the opening state.
 pub fn opening()
     ensures { OpeningMeetsInvariant }
 {}

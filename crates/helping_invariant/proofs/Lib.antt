@@ -1,0 +1,14 @@
+pub mod Changes
+pub mod Stored
+pub mod Pending
+pub mod Stable
+pub mod Grown
+pub mod Own
+pub mod Between
+pub mod Moves
+pub mod Turns
+pub mod Makes
+pub mod LoadSteps
+pub mod Keeps
+pub mod OpenedHelping
+pub mod Consequences

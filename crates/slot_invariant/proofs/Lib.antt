@@ -1,0 +1,10 @@
+pub mod Changes
+pub mod Acts
+pub mod Covers
+pub mod Stable
+pub mod Own
+pub mod Steps
+pub mod Exchanges
+pub mod Keeps
+pub mod Popped
+pub mod Opened

@@ -1,0 +1,64 @@
+-- the opening meets the part on slots, and steps keep it
+use Rattle.std.specs.Prelude.{◌≡◌, ℕ, ◌+◌, ◌-◌, ◌<◌, ◌≤◌}
+use Rattle.word_layout.specs.Sizes.{Sizes, IsShape}
+use Rattle.word_layout.specs.Names.{InRange}
+use Rattle.word_layout.specs.declared.announced.Wish.{Wish}
+use Rattle.word_layout.specs.declared.name.WordName.{WordName}
+use Rattle.transfer_machine.specs.Loads.{loaded_tag, loaded_base, overlay_length}
+use Rattle.transfer_machine.specs.Machine.{action_of, met_of, begun}
+use Rattle.transfer_machine.specs.Words.{name_of}
+use Rattle.transfer_machine.specs.Opening.{opening_word, opening_transfer}
+use Rattle.transfer_machine.specs.declared.transfer.TransferView.{TransferView}
+use Rattle.transfer_machine.specs.declared.stage.NextStep.TheVariants.{Rest, LoadCoveredSlot, ExchangeSlot, LoadPoppedSlot, ExchangeState}
+use Rattle.transfer_invariant.specs.Memory.{Words, Views, States, Acted, Moved, state_tag, slot_value}
+use Rattle.transfer_invariant.specs.OpeningState.{opening_state}
+use Rattle.transfer_invariant.specs.Installing.{states_after}
+use Rattle.transfer_invariant.specs.Invariant.{Invariant}
+use Rattle.transfer_invariant.specs.Laws.{WritesFit}
+use Rattle.slot_invariant.specs.Slots.{SlotsInvariant}
+
+-- the words and views of the opening meet the part on slots, with the state of the opening
+abbrev pub OpeningMeetsSlots : Type 0
+OpeningMeetsSlots = (sizes : Sizes) (words : Words) (views : Views) → IsShape sizes
+    → ((name : WordName) → InRange sizes name → words name ≡ opening_word sizes name)
+    → ((i : ℕ) → i < sizes.processes → views i ≡ opening_transfer i)
+    → SlotsInvariant sizes words views (λ m. opening_state sizes)
+
+-- a plan that is to be installed lies on the loaded content
+abbrev pub PlanBelow : TransferView → Type 0
+PlanBelow v = v.next ≡ ExchangeState → v.plan.base ≤ loaded_base v.loaded + overlay_length v.loaded
+
+-- the step of a process from words and views that meet the invariant and the part on slots leads to such words and views
+abbrev pub StepsKeepSlots : Type 0
+StepsKeepSlots = (sizes : Sizes) (words new : Words) (views after : Views) (states : States) (i : ℕ) → IsShape sizes → i < sizes.processes
+    → Invariant sizes words views states
+    → SlotsInvariant sizes words views states
+    → WritesFit sizes words (views i)
+    → PlanBelow (views i)
+    → Acted sizes (action_of sizes (views i)) words new
+    → Moved i (met_of sizes (views i) (words (name_of (action_of sizes (views i))))) views after
+    → SlotsInvariant sizes new after (states_after words (views i) states)
+
+-- a process at rest that begins a transfer keeps it
+abbrev pub BeginningsKeepSlots : Type 0
+BeginningsKeepSlots = (sizes : Sizes) (words : Words) (views after : Views) (states : States) (i : ℕ) (wish : Wish) → i < sizes.processes
+    → SlotsInvariant sizes words views states
+    → (views i).next ≡ Rest
+    → Moved i (begun wish (views i)) views after
+    → SlotsInvariant sizes words after states
+
+-- while the loaded state is the present one, the slot below the working base holds that state's content, where it lies below the loaded base
+abbrev pub PoppedSlotsHoldContent : Type 0
+PoppedSlotsHoldContent = (sizes : Sizes) (words : Words) (views : Views) (states : States) (i process : ℕ) → i < sizes.processes
+    → Invariant sizes words views states
+    → SlotsInvariant sizes words views states
+    → (views i).next ≡ LoadPoppedSlot process
+    → loaded_tag (views i).loaded ≡ state_tag words
+    → 1 ≤ (views i).plan.base → (views i).plan.base - 1 < loaded_base (views i).loaded
+    → slot_value words ((views i).plan.base - 1) ≡ (states (state_tag words)).content ((views i).plan.base - 1)
+
+-- a view loads and exchanges only slots that the loaded overlay covers
+abbrev pub CoveredSlotsAreFew : Type 0
+CoveredSlotsAreFew = (sizes : Sizes) (words : Words) (views : Views) (states : States) (i offset : ℕ) → i < sizes.processes
+    → SlotsInvariant sizes words views states
+    → ((views i).next ≡ LoadCoveredSlot offset → offset < overlay_length (views i).loaded) × ((views i).next ≡ ExchangeSlot offset → offset < overlay_length (views i).loaded)
