@@ -48,7 +48,7 @@ either_state : (t : Bool) (x y : StackState) (o reply applied : ℕ) → (x.repl
 either_state true x y o reply applied hx hy = hx
 either_state false x y o reply applied hx hy = hy
 
-pub unmet_stay : (announcements : ℕ → ℕ) (s : StackState) (k o : ℕ) → k ≤ o → ((next_of k announcements s).reply o ≡ s.reply o) × ((next_of k announcements s).applied o ≡ s.applied o)
+unmet_stay : (announcements : ℕ → ℕ) (s : StackState) (k o : ℕ) → k ≤ o → ((next_of k announcements s).reply o ≡ s.reply o) × ((next_of k announcements s).applied o ≡ s.applied o)
 unfolding next_of
 unmet_stay announcements s zero o le = (refl, refl)
 unmet_stay announcements s (suc k) o le =
@@ -62,7 +62,7 @@ present_stays : (s t : StackState) (word o : ℕ) (v : TransferView) → t.reply
 present_stays s t word o v er ea h = record { announced = λ e. h.announced (rw er at e); word = λ e. h.word (rw er at e); next = λ e. rw ea (h.next (rw er at e)) }
 
 -- two states that say the same
-same_holds : (sizes : Sizes) (s t : StackState) (views : ProcessViews) → SameStack sizes.processes s t → BatchesHold sizes s views → BatchesHold sizes t views
+pub same_holds : (sizes : Sizes) (s t : StackState) (views : ProcessViews) → SameStack sizes.processes s t → BatchesHold sizes s views → BatchesHold sizes t views
 unfolding placed_weight
 same_holds sizes s t views same hold = record {
   placed = λ f.

@@ -21,7 +21,6 @@ use Rattle.batch_invariant.specs.Batches.{ProcessViews, MovedProcess, BatchesHol
 use Rattle.batch_invariant.specs.Premises.{InStep, InstallsNext}
 use Rattle.batch_invariant.proofs.Steps.{batches_move, stage_keeps}
 use Rattle.batch_invariant.proofs.Installing.{installing_holds}
-use Rattle.batch_invariant.proofs.Plans.{planned_is_next}
 
 -- the view after its step at that stage met that word
 abbrev pub view_met_at : Sizes → ProcessView → ℕ → NextStep → ProcessView
@@ -63,7 +62,7 @@ exchange_holds sizes m n views after states i true shape li hold e step installs
     let tag : state_tag n ≡ state_tag m + 1 = (exchanges_state sizes v.loaded.state (loaded_tag v.loaded + 1) v.next_record m n next.row test a).state ∙ ap (λ k. k + 1) now in
     let here = with_state_here (state_tag m + 1) (planned_state (states (state_tag m)) v) states in
     let placed = installing_holds sizes (states (state_tag m)) (planned_state (states (state_tag m)) v) views after (λ o. slice_index v.loaded.announcements o) i shape li hold next.present e
-    (planned_is_next sizes.processes (states (state_tag m)) v next.kept next.content next.replies) (rw test at moved) in
+    next.planned (rw test at moved) in
     rw (tag, here) placed
 exchange_holds sizes m n views after states i false shape li hold e step installs test a moved =
     stays sizes m n views after states i ExchangeState li hold e step moved (keeps_state sizes (views i).transfer.loaded.state (next_state (views i).transfer) m n test a).state

@@ -7,9 +7,6 @@ use Rattle.word_layout.specs.Packing.{value_of, reply_of}
 use Rattle.word_layout.specs.declared.reply.Reply.TheVariants.{Gave}
 use Rattle.transfer_machine.specs.States.{StackState, next_of}
 use Rattle.transfer_machine.specs.Tries.{is_take}
-use Rattle.transfer_machine.specs.Planned.{planned, SamePlan}
-use Rattle.transfer_machine.specs.NextStates.{HasContent, HasReplies, state_after}
-use Rattle.transfer_machine.specs.declared.try_plan.TryPlan.{TryPlan}
 use Rattle.transfer_machine.specs.declared.transfer.TransferView.{TransferView}
 use Rattle.transfer_machine.specs.Machine.{action_of, installed}
 use Rattle.transfer_machine.specs.Words.{name_of}
@@ -18,7 +15,7 @@ use Rattle.transfer_machine.specs.Opening.{opening_base, opening_slot}
 use Rattle.transfer_machine.specs.Pools.{opening_view, view_begun, view_met, step_counted, MayBegin}
 use Rattle.transfer_machine.specs.declared.stage.NextStep.TheVariants.{Rest, Announce, ExchangeState, LoadReply}
 use Rattle.transfer_invariant.specs.Progress.{has_announced}
-use Rattle.transfer_invariant.specs.Installing.{planned_state, states_after}
+use Rattle.transfer_invariant.specs.Installing.{states_after}
 use Rattle.transfer_invariant.specs.Memory.{Words, States, Acted, state_tag}
 use Rattle.transfer_invariant.specs.Laws.{PlanFits}
 use Rattle.batch_invariant.specs.Places.{process_batches}
@@ -139,14 +136,6 @@ EndsAnswerWishes = (sizes : Sizes) (s : StackState) (views : ProcessViews) (i wo
     → (is_take (views i).transfer.wish ≡ false → reply_of (value_of word) ≡ Gave)
     × (is_take (views i).transfer.wish ≡ true → reply_of (value_of word) ≢ Gave)
 
--- a plan has room whose content is that of a state in which each batch is at one place
+-- a plan that a view installs has room
 abbrev pub PlansHaveRoom : Type 0
-PlansHaveRoom = (sizes : Sizes) (plan : TryPlan) (s t : StackState) (views : ProcessViews) → IsShape sizes → BatchesHold sizes t views → HasContent plan s t → PlanFits sizes plan
-
--- the state that a view planned is the next one, where the plan that it keeps is that of its loaded words, and these are of the state before
-abbrev pub PlannedStatesAreNext : Type 0
-PlannedStatesAreNext = (processes : ℕ) (s : StackState) (v : TransferView)
-    → SamePlan processes v.plan (planned processes v.loaded processes)
-    → HasContent (planned processes v.loaded processes) s (state_after v.loaded processes s)
-    → HasReplies processes (planned processes v.loaded processes) s (state_after v.loaded processes s)
-    → SameStack processes (state_after v.loaded processes s) (planned_state s v)
+PlansHaveRoom = (sizes : Sizes) (s : StackState) (views : ProcessViews) (v : TransferView) → IsShape sizes → BatchesHold sizes s views → InstallsNext sizes s views v → PlanFits sizes v.plan

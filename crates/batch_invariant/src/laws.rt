@@ -1,5 +1,5 @@
 //! Each batch is at one place. Each law is the contract of a call that does nothing.
-ghost use Rattle.batch_invariant.specs.Laws.{OpeningPlacesBatches, BeginningsKeepBatches, StepsKeepBatches, NextStatesKeepBatches, InstallingKeepsBatches, MachineKeepsBatches, StackHasRoom, ContentIsBatches, ProcessesHaveBatches, CurrentIsBatch, SparesAreBatches, GivesAreBatches, HeadsAreApart, ContentIsApart, ContentIsFree, ProcessesAreApart, ProcessHasOnce, EndsAnswerWishes, PlansHaveRoom, PlannedStatesAreNext};
+ghost use Rattle.batch_invariant.specs.Laws.{OpeningPlacesBatches, BeginningsKeepBatches, StepsKeepBatches, NextStatesKeepBatches, InstallingKeepsBatches, MachineKeepsBatches, StackHasRoom, ContentIsBatches, ProcessesHaveBatches, CurrentIsBatch, SparesAreBatches, GivesAreBatches, HeadsAreApart, ContentIsApart, ContentIsFree, ProcessesAreApart, ProcessHasOnce, EndsAnswerWishes, PlansHaveRoom};
 
 /// At the opening each batch is at one place.
 pub fn opening()
@@ -51,8 +51,7 @@ pub fn replies()
     ensures { EndsAnswerWishes }
 {}
 
-/// A plan whose content is that of such a state has room, and the state that a view planned is the next one.
+/// A plan that is installed has room: all its places are slots, and its heads are blocks.
 pub fn plans()
-    ensures room { PlansHaveRoom }
-    ensures next { PlannedStatesAreNext }
+    ensures { PlansHaveRoom }
 {}
