@@ -23,7 +23,7 @@ use Rattle.stack_invariant.proofs.Content.{words_show, same_content, shows_same}
 use Rattle.stack_invariant.proofs.Follows.{installed_next}
 
 -- that step is no exchange of the state that hits
-abbrev HitsNot : TransferView → Words → NextStep → Type 0
+abbrev pub HitsNot : TransferView → Words → NextStep → Type 0
 HitsNot v words s = s ≡ ExchangeState → words State ≡ v.loaded.state → ⊥
 
 false_true : false ≡ true → ⊥
@@ -46,7 +46,7 @@ not_hit a b ne = other (a == b) (same_word a b) ne
 misses : (sizes : Sizes) (action : Action) (m n : Words) → Acted sizes action m n → is_state (name_of action) ≡ false → n State ≡ m State
 misses sizes action m n a none = a.elsewhere State tt (λ e. false_true (sym none ∙ sym (ap is_state e)))
 
-state_stays : (sizes : Sizes) (v : TransferView) (m n : Words) (s : NextStep) → Acted sizes (action_at sizes v s) m n → HitsNot v m s → n State ≡ m State
+pub state_stays : (sizes : Sizes) (v : TransferView) (m n : Words) (s : NextStep) → Acted sizes (action_at sizes v s) m n → HitsNot v m s → n State ≡ m State
 state_stays sizes v m n Rest a not = a.here
 state_stays sizes v m n Announce a not = misses sizes _ m n a refl
 state_stays sizes v m n LoadState a not = a.here
@@ -75,7 +75,7 @@ states_stay v m states ExchangeState not = rw (not_hit (m State) v.loaded.state 
 states_stay v m states LoadFinalState not = refl
 states_stay v m states LoadReply not = refl
 
-present_stays : (sizes : Sizes) (v : TransferView) (m n : Words) (states : States) → Acted sizes (action_of sizes v) m n → HitsNot v m v.next → present n (states_after m v states) ≡ present m states
+pub present_stays : (sizes : Sizes) (v : TransferView) (m n : Words) (states : States) → Acted sizes (action_of sizes v) m n → HitsNot v m v.next → present n (states_after m v states) ≡ present m states
 unfolding state_tag
 present_stays sizes v m n states a not = rw (states_stay v m states v.next not, state_stays sizes v m n v.next a not) refl
 
@@ -83,13 +83,13 @@ present_stays sizes v m n states a not = rw (states_stay v m states v.next not, 
 hit_states : (v : TransferView) (m : Words) (states : States) → v.next ≡ ExchangeState → m State ≡ v.loaded.state → states_after m v states ≡ states_with_planned m v states
 hit_states v m states e same = rw e (rw (same_test (m State) v.loaded.state same) refl)
 
-hit_tag : (sizes : Sizes) (v : TransferView) (m n : Words) → v.next_record < 2 ^ 24 → Acted sizes (action_of sizes v) m n
+pub hit_tag : (sizes : Sizes) (v : TransferView) (m n : Words) → v.next_record < 2 ^ 24 → Acted sizes (action_of sizes v) m n
     → v.next ≡ ExchangeState → m State ≡ v.loaded.state → state_tag n ≡ state_tag m + 1
 unfolding state_tag
 hit_tag sizes v m n row a e same =
     (exchanges_state sizes v.loaded.state (loaded_tag v.loaded + 1) v.next_record m n row (same_test (m State) v.loaded.state same) (rw e at a)).state ∙ ap (λ x. tag_of x + 1) (sym same)
 
-present_installed : (sizes : Sizes) (v : TransferView) (m n : Words) (states : States) → v.next_record < 2 ^ 24 → Acted sizes (action_of sizes v) m n → v.next ≡ ExchangeState → m State ≡ v.loaded.state
+pub present_installed : (sizes : Sizes) (v : TransferView) (m n : Words) (states : States) → v.next_record < 2 ^ 24 → Acted sizes (action_of sizes v) m n → v.next ≡ ExchangeState → m State ≡ v.loaded.state
     → present n (states_after m v states) ≡ planned_state (present m states) v
 present_installed sizes v m n states row a e same = rw (hit_states v m states e same, hit_tag sizes v m n row a e same) (with_state_here (state_tag m + 1) (planned_state (present m states) v) states)
 

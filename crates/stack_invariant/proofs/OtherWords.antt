@@ -23,10 +23,10 @@ use Rattle.stack_invariant.specs.Stack.{is_stack_word}
 use Rattle.stack_invariant.specs.Laws.{OtherWordsKeepStack}
 
 -- all words that the invariant speaks of stay
-abbrev StackWordsStay : Sizes → Words → Words → Type 0
+abbrev pub StackWordsStay : Sizes → Words → Words → Type 0
 StackWordsStay sizes old new = (name : WordName) → InRange sizes name → is_stack_word name ≡ true → new name ≡ old name
 
-records_stay : (sizes : Sizes) (old new : Words) → StackWordsStay sizes old new → RecordsStay sizes old new
+pub records_stay : (sizes : Sizes) (old new : Words) → StackWordsStay sizes old new → RecordsStay sizes old new
 unfolding state_tag current_record word_tag word_value
 records_stay sizes old new same = record {
   state = ap tag_of (same State tt refl);
@@ -35,11 +35,11 @@ records_stay sizes old new same = record {
   values = λ row index lr li. ap value_of (same (RecordWord row index) (lr, li) refl);
 }
 
-slots_stay : (sizes : Sizes) (old new : Words) → StackWordsStay sizes old new → SlotsStay sizes old new
+pub slots_stay : (sizes : Sizes) (old new : Words) → StackWordsStay sizes old new → SlotsStay sizes old new
 unfolding slot_tag slot_value
 slots_stay sizes old new same = record { tags = λ s ls. ap tag_of (same (Slot s) ls refl); values = λ s ls. ap value_of (same (Slot s) ls refl) }
 
-announcements_stay : (sizes : Sizes) (old new : Words) → StackWordsStay sizes old new → AnnouncementsStay sizes old new
+pub announcements_stay : (sizes : Sizes) (old new : Words) → StackWordsStay sizes old new → AnnouncementsStay sizes old new
 announcements_stay sizes old new same = record { each = λ o lo. same (Announcement o) lo refl }
 
 -- and so does each part
