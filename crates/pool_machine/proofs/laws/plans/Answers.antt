@@ -1,0 +1,8 @@
+use Rattle.pool_machine.proofs.Plans.{choice_is_the_plans, own_plan}
+use Rattle.pool_machine.proofs.laws.plans.Goals as goal
+
+pub returns-clause-choices : goal.returns-clause-choices
+returns-clause-choices c v = choice_is_the_plans v
+
+pub returns-clause-own_steps : goal.returns-clause-own_steps
+returns-clause-own_steps c v word = own_plan word v.pool v.calls.call
