@@ -24,7 +24,7 @@ use Rattle.batch_invariant.proofs.Installing.{installing_holds}
 
 -- the view after its step at that stage met that word
 abbrev pub view_met_at : Sizes → ProcessView → ℕ → NextStep → ProcessView
-view_met_at sizes v word stage = record { transfer = met_at sizes v.transfer word stage; pool = pool_met_at word v.pool stage }
+view_met_at sizes v word stage = record v { transfer = met_at sizes v.transfer word stage; pool = pool_met_at word v.pool stage }
 
 -- where the state's number stays
 stays : (sizes : Sizes) (m n : Words) (views after : ProcessViews) (states : States) (i : ℕ) (stage : NextStep) → i < sizes.processes → BatchesHold sizes (states (state_tag m)) views → (views i).transfer.next ≡ stage
