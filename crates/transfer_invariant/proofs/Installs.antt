@@ -14,7 +14,7 @@ use Rattle.transfer_invariant.specs.Progress.{in_try, has_announced, has_begun_t
 use Rattle.transfer_invariant.specs.Tags.{InstallOrder, TagsHold, installs, total}
 
 -- the sum where one number changes
-total_same : (count : ℕ) (f g : ℕ → ℕ) → ((o : ℕ) → o < count → g o ≡ f o) → total count g ≡ total count f
+pub total_same : (count : ℕ) (f g : ℕ → ℕ) → ((o : ℕ) → o < count → g o ≡ f o) → total count g ≡ total count f
 unfolding total
 total_same zero f g h = refl
 total_same (suc count) f g h = omega (arith, total_same count f g (λ o lt. h o (omega arith)), h count (omega arith))

@@ -1,0 +1,11 @@
+pub mod Sums
+pub mod Moving
+pub mod Going
+pub mod Steps
+pub mod Heads
+pub mod Apart
+pub mod Applied
+pub mod Installing
+pub mod Opened
+pub mod Plans
+pub mod Machine

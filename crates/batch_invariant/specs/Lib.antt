@@ -1,0 +1,4 @@
+pub mod Places
+pub mod Batches
+pub mod Premises
+pub mod Laws

@@ -1,0 +1,61 @@
+-- the batches of one process by their heads: its current list, its spares, and the one that its transfer moves
+use Rattle.std.specs.Prelude.{ℕ, ◌-◌, ◌==◌, Bool, true, false, if◌then◌else◌, List, [], ◌∷◌, ◌++◌}
+use Rattle.word_layout.specs.Packing.{reply_of}
+use Rattle.word_layout.specs.declared.announced.Wish.{Wish}
+use Rattle.word_layout.specs.declared.announced.Wish.TheVariants.{Take, Give}
+use Rattle.word_layout.specs.declared.reply.Reply.{Reply}
+use Rattle.word_layout.specs.declared.reply.Reply.TheVariants.{Nothing, Took, Gave}
+use Rattle.transfer_machine.specs.States.{StackState}
+use Rattle.transfer_machine.specs.declared.transfer.TransferView.{TransferView}
+use Rattle.transfer_machine.specs.declared.view.PoolView.{PoolView}
+use Rattle.transfer_machine.specs.declared.view.ProcessView.{ProcessView}
+use Rattle.transfer_machine.specs.declared.stage.NextStep.{NextStep}
+use Rattle.transfer_machine.specs.declared.stage.NextStep.TheVariants.{Rest, Announce, LoadState, LoadRecordWord, LoadCoveredSlot, ExchangeSlot, LoadAnnouncement, LoadPoppedSlot, StoreRecordWord, ExchangeState, LoadFinalState, LoadReply}
+use Rattle.transfer_invariant.specs.Progress.{has_announced}
+
+-- in a transfer that is begun and not announced yet
+abbrev pub has_only_begun : NextStep → Bool
+has_only_begun Rest = false
+has_only_begun Announce = true
+has_only_begun LoadState = false
+has_only_begun (LoadRecordWord index) = false
+has_only_begun (LoadCoveredSlot offset) = false
+has_only_begun (ExchangeSlot offset) = false
+has_only_begun (LoadAnnouncement process) = false
+has_only_begun (LoadPoppedSlot process) = false
+has_only_begun (StoreRecordWord index) = false
+has_only_begun ExchangeState = false
+has_only_begun LoadFinalState = false
+has_only_begun LoadReply = false
+
+-- before a wish is applied: the batch of a give
+abbrev pub given : Wish → List ℕ
+given Take = []
+given (Give head) = head ∷ []
+
+-- the batch that a reply brings
+abbrev pub brought : Reply → List ℕ
+brought Nothing = []
+brought (Took head) = head ∷ []
+brought Gave = []
+
+-- once a wish is applied: the batch that its reply brings to a take
+abbrev pub taken : Wish → Reply → List ℕ
+taken Take reply = brought reply
+taken (Give head) reply = []
+
+-- the batch in transit of a process whose transfer is announced, by the state: whether it is applied there
+abbrev pub announced_batch : StackState → ℕ → TransferView → List ℕ
+announced_batch s process v = if s.applied process == v.age then taken v.wish (reply_of (s.reply process)) else given v.wish
+
+-- the batch in transit of a process, if there is one
+unfoldable pub moving : StackState → ℕ → TransferView → List ℕ
+moving s process v = if has_only_begun v.next then given v.wish else (if has_announced v.next then announced_batch s process v else [])
+
+-- the batch that a process takes blocks from, unless that list is empty
+abbrev pub current_batch : PoolView → List ℕ
+current_batch pool = if pool.plan.current == 0 then [] else ((pool.head - 1) ∷ [])
+
+-- all batches of a process: the current list, the spares, the one in transit
+unfoldable pub process_batches : StackState → ℕ → ProcessView → List ℕ
+process_batches s process v = current_batch v.pool ++ (v.pool.heads ++ moving s process v.transfer)

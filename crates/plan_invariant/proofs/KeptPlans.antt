@@ -1,0 +1,86 @@
+-- the kept plan is that of the loaded words, after every step
+use Rattle.std.proofs.Common.{◌≡◌, ℕ, zero, suc, ◌+◌, ◌<◌, ◌≤◌, ◌==◌, Bool, true, false, refl, subst, arith, get_or, set}
+use Rattle.std.specs.Prelude.{if◌then◌else◌, nat_lt}
+use Rattle.word_layout.specs.Sizes.{Sizes}
+use Rattle.word_layout.specs.Names.{records, record_words}
+use Rattle.word_layout.specs.Packing.{tag_of}
+use Rattle.transfer_machine.specs.Loads.{loaded_tag, overlay_length, loaded_record}
+use Rattle.transfer_machine.specs.Planned.{planned, SamePlan, HasRoom, PlansLoaded, PlansLoadedAt}
+use Rattle.transfer_machine.specs.Machine.{met_at, CanActAt, CanMeetAt, after_slot, try_ended, installed}
+use Rattle.transfer_machine.specs.declared.loaded.Loaded.{Loaded}
+use Rattle.transfer_machine.specs.declared.transfer.TransferView.{TransferView}
+use Rattle.transfer_machine.specs.declared.stage.NextStep.{NextStep}
+use Rattle.transfer_machine.specs.declared.stage.NextStep.TheVariants.{Rest, Announce, LoadState, LoadRecordWord, LoadCoveredSlot, ExchangeSlot, LoadAnnouncement, LoadPoppedSlot, StoreRecordWord, ExchangeState, LoadFinalState, LoadReply}
+use Rattle.transfer_machine.proofs.Plans.{steps_keep_plan}
+use Rattle.plan_invariant.proofs.Lists.{either}
+
+-- the plan reads the loaded record, and no more announcements and popped slots than it applies
+pub planned_reads : (processes : ℕ) (loaded other : Loaded) (k : ℕ) → loaded.record_words ≡ other.record_words
+    → ((j : ℕ) → j < k → get_or loaded.announcements j 0 ≡ get_or other.announcements j 0) → ((j : ℕ) → j < k → get_or loaded.popped j 0 ≡ get_or other.popped j 0)
+    → planned processes loaded k ≡ planned processes other k
+unfolding planned
+planned_reads processes loaded other zero e a b = rw e refl
+planned_reads processes loaded other (suc k) e a b = rw
+    (e, a k (omega arith), b k (omega arith), planned_reads processes loaded other k e (λ j lt. a j (omega arith)) (λ j lt. b j (omega arith))) refl
+
+pub planned_stays : (processes : ℕ) (loaded other : Loaded) (k : ℕ) → loaded.record_words ≡ other.record_words → loaded.announcements ≡ other.announcements
+    → loaded.popped ≡ other.popped → planned processes loaded k ≡ planned processes other k
+planned_stays processes loaded other k e a b = planned_reads processes loaded other k e (λ j lt. rw a refl) (λ j lt. rw b refl)
+
+-- what a step that may be made keeps
+kept_here : (sizes : Sizes) (v : TransferView) (word : ℕ) (s : NextStep) → v.next ≡ s → HasRoom v → CanActAt sizes v s → CanMeetAt sizes v word s → PlansLoadedAt sizes v s
+    → PlansLoaded sizes (met_at sizes v word s)
+kept_here sizes v word s e room =
+    subst (λ (t : NextStep). CanActAt sizes v t → CanMeetAt sizes v word t → PlansLoadedAt sizes v t → PlansLoaded sizes (met_at sizes v word t)) e
+    (λ act can h. steps_keep_plan sizes v word room act can h)
+
+-- where the plan stays
+slot_after : (sizes : Sizes) (x : TransferView) (t : Bool) (offset : ℕ) → SamePlan 0 x.plan (planned sizes.processes x.loaded 0)
+    → PlansLoadedAt sizes x (if t then LoadAnnouncement 0 else LoadCoveredSlot offset)
+slot_after sizes x true offset h = h
+slot_after sizes x false offset h = h
+
+exchange_after : (sizes : Sizes) (x : TransferView) (loaded : Loaded) (t : Bool) (offset : ℕ) → SamePlan 0 x.plan (planned sizes.processes x.loaded 0)
+    → PlansLoadedAt sizes x (if t then ExchangeSlot offset else after_slot loaded offset)
+exchange_after sizes x loaded true offset h = h
+exchange_after sizes x loaded false offset h = slot_after sizes x (offset + 1 == overlay_length loaded) (offset + 1) h
+
+stored_after : (sizes : Sizes) (x : TransferView) (t : Bool) (index : ℕ) → SamePlan sizes.processes x.plan (planned sizes.processes x.loaded sizes.processes)
+    → PlansLoadedAt sizes x (if t then ExchangeState else StoreRecordWord index)
+stored_after sizes x true index h = h
+stored_after sizes x false index h = h
+
+ended_after : (sizes : Sizes) (x : TransferView) (t : Bool) → PlansLoadedAt sizes x (if t then LoadState else LoadFinalState)
+ended_after sizes x true = tt
+ended_after sizes x false = tt
+
+same_none : (processes : ℕ) (v : TransferView) (loaded : Loaded) → v.loaded.record_words ≡ loaded.record_words → v.loaded.announcements ≡ loaded.announcements
+    → v.loaded.popped ≡ loaded.popped → SamePlan 0 v.plan (planned processes v.loaded 0) → SamePlan 0 v.plan (planned processes loaded 0)
+same_none processes v loaded e a b h = subst (SamePlan 0 v.plan) (planned_stays processes v.loaded loaded 0 e a b) h
+
+-- the numbers of the steps that change the plan are in range
+pub record PlanChanges (sizes : Sizes) (v : TransferView) (word : ℕ) : Type 0 where
+  pub row : (index : ℕ) → v.next ≡ LoadRecordWord index → loaded_record v.loaded < records sizes
+  pub index : (index : ℕ) → v.next ≡ LoadRecordWord index → index < record_words sizes
+  pub turn : (index : ℕ) → v.next ≡ LoadRecordWord index → v.turn ≤ 2
+  pub heard : (process : ℕ) → v.next ≡ LoadAnnouncement process → CanMeetAt sizes v word (LoadAnnouncement process)
+  pub popped_act : (process : ℕ) → v.next ≡ LoadPoppedSlot process → CanActAt sizes v (LoadPoppedSlot process)
+  pub popped : (process : ℕ) → v.next ≡ LoadPoppedSlot process → CanMeetAt sizes v word (LoadPoppedSlot process)
+
+pub loaded_met : (sizes : Sizes) (v : TransferView) (word : ℕ) (s : NextStep) → v.next ≡ s → HasRoom v → PlanChanges sizes v word → PlansLoadedAt sizes v s
+    → PlansLoaded sizes (met_at sizes v word s)
+loaded_met sizes v word Rest e room c h = rw e tt
+loaded_met sizes v word Announce e room c h = tt
+loaded_met sizes v word LoadState e room c h = tt
+loaded_met sizes v word (LoadRecordWord index) e room c h = kept_here sizes v word (LoadRecordWord index) e room (c.row index e, c.index index e) (c.turn index e) h
+loaded_met sizes v word (LoadCoveredSlot offset) e room c h =
+    let loaded : Loaded = record v.loaded { slots = set v.loaded.slots offset word } in
+    exchange_after sizes (met_at sizes v word (LoadCoveredSlot offset)) v.loaded (nat_lt (tag_of word) (loaded_tag v.loaded)) offset (same_none sizes.processes v loaded refl refl refl h)
+loaded_met sizes v word (ExchangeSlot offset) e room c h = slot_after sizes (met_at sizes v word (ExchangeSlot offset)) (offset + 1 == overlay_length v.loaded) (offset + 1) h
+loaded_met sizes v word (LoadAnnouncement process) e room c h = kept_here sizes v word (LoadAnnouncement process) e room (c.heard process e).among (c.heard process e) h
+loaded_met sizes v word (LoadPoppedSlot process) e room c h = kept_here sizes v word (LoadPoppedSlot process) e room (c.popped_act process e) (c.popped process e) h
+loaded_met sizes v word (StoreRecordWord index) e room c h = stored_after sizes (met_at sizes v word (StoreRecordWord index)) (index + 1 == record_words sizes) (index + 1) h
+loaded_met sizes v word ExchangeState e room c h = either TransferView (PlansLoaded sizes) (word == v.loaded.state) (installed v) (try_ended v) tt
+    (ended_after sizes (try_ended v) (v.turn == 1))
+loaded_met sizes v word LoadFinalState e room c h = tt
+loaded_met sizes v word LoadReply e room c h = tt

@@ -1,0 +1,75 @@
+-- the numbers of a view's next step are in range
+use Rattle.std.proofs.Common.{◌≡◌, ℕ, ◌+◌, ◌-◌, ◌^◌, ◌<◌, ◌≤◌, ◌==◌, Bool, true, arith, get_or}
+use Rattle.std.specs.Prelude.{nat_lt, ◌&&◌}
+use Rattle.std.proofs.lemmas.Bool.Decides.{nat_tests}
+use Rattle.word_layout.specs.Sizes.{Sizes, blocks}
+use Rattle.word_layout.specs.Names.{record_words}
+use Rattle.transfer_machine.specs.Loads.{loaded_tag, loaded_base, overlay_length, loaded_reply}
+use Rattle.transfer_machine.specs.NextStates.{IsLoaded}
+use Rattle.transfer_machine.specs.States.{StackState}
+use Rattle.transfer_machine.specs.Tries.{pops_slot, is_pending, is_take, announced_wish, planned_value, CanApply}
+use Rattle.transfer_machine.specs.declared.loaded.Loaded.{Loaded}
+use Rattle.transfer_machine.specs.declared.try_plan.TryPlan.{TryPlan}
+use Rattle.transfer_machine.specs.declared.transfer.TransferView.{TransferView}
+use Rattle.transfer_machine.specs.declared.stage.NextStep.{NextStep}
+use Rattle.transfer_invariant.specs.Memory.{Words, States}
+use Rattle.transfer_invariant.specs.Progress.{has_loaded, has_record, loaded_words}
+use Rattle.transfer_invariant.specs.Records.{StateFits, StatesFit, LoadedState}
+use Rattle.transfer_invariant.proofs.Loaded.{whole_record}
+use Rattle.plan_invariant.proofs.Wishes.{LoadedFits, answer_fits}
+
+-- a view with a whole record
+pub record_whole : (words : ℕ) (s : NextStep) → has_record s ≡ true → loaded_words words s ≡ words
+record_whole words s e = grind arith
+
+pub record_has : (s : NextStep) → has_record s ≡ true → has_loaded s ≡ true
+record_has s e = grind arith
+
+state_loaded_fits : (sizes : Sizes) (loaded : Loaded) (s : StackState) → IsLoaded sizes.processes loaded s → StateFits sizes s → LoadedFits sizes loaded
+state_loaded_fits sizes loaded s l f = record {
+  few = omega (arith, l.base, l.height, f.overlay);
+  within = omega (arith, l.height, f.within);
+  heads = λ x lt. rw (l.overlay x lt) (f.heads (s.base + x) (omega arith) (omega (arith, l.base, l.height)));
+}
+
+pub loaded_is : (sizes : Sizes) (words : Words) (states : States) (v : TransferView) → StatesFit sizes words states → LoadedState sizes words states v → has_record v.next ≡ true
+    → IsLoaded sizes.processes v.loaded (states (loaded_tag v.loaded))
+loaded_is sizes words states v fits h has = whole_record sizes words states v fits h (record_whole (record_words sizes) v.next has)
+
+pub loaded_fits : (sizes : Sizes) (words : Words) (states : States) (v : TransferView) → StatesFit sizes words states → LoadedState sizes words states v → has_record v.next ≡ true
+    → LoadedFits sizes v.loaded
+loaded_fits sizes words states v fits h has =
+    state_loaded_fits sizes v.loaded (states (loaded_tag v.loaded)) (loaded_is sizes words states v fits h has) (fits (loaded_tag v.loaded) (h.past (record_has v.next has)))
+
+-- a take that gets its batch from a slot
+pub record IsSlotBelow (loaded : Loaded) (plan : TryPlan) : Type 0 where
+  pub some : 0 < plan.base
+  pub below : plan.base - 1 < loaded_base loaded
+
+slot_below : (b t z : Bool) (loaded : Loaded) (plan : TryPlan) → (b && (t && (z && (nat_lt 0 plan.base && nat_lt (plan.base - 1) (loaded_base loaded))))) ≡ true
+    → IsSlotBelow loaded plan
+slot_below b t z loaded plan e = grind (arith, nat_tests)
+
+pub popped_below : (processes : ℕ) (loaded : Loaded) (process word : ℕ) (plan : TryPlan) → pops_slot processes loaded process word plan ≡ true → IsSlotBelow loaded plan
+popped_below processes loaded process word plan e = slot_below (is_pending word (loaded_reply processes loaded process)) (is_take (announced_wish word)) (plan.overlay == 0) loaded plan e
+
+-- an announcement can be applied
+pub can_apply : (sizes : Sizes) (loaded : Loaded) (process word popped : ℕ) (plan : TryPlan) → sizes.processes ≤ 32 → blocks sizes ≤ 2 ^ 22 → process < sizes.processes
+    → plan.overlay ≤ process → LoadedFits sizes loaded → popped < blocks sizes
+    → ((k : ℕ) → get_or plan.heads k 0 < blocks sizes) → plan.base ≤ loaded_base loaded + overlay_length loaded → CanApply sizes.processes loaded process word popped plan
+can_apply sizes loaded process word popped plan few small among over fits block heads low = record {
+  few = few;
+  among = among;
+  room = omega arith;
+  near = omega (arith, fits.few);
+  answer = answer_fits sizes loaded popped plan (announced_wish word) small fits block heads low;
+}
+
+-- what a plan makes a record of has values
+pub planned_value_lt : (sizes : Sizes) (plan : TryPlan) (index : ℕ) → sizes.batches < 2 ^ 22 + 1 → blocks sizes ≤ 2 ^ 22 → plan.base ≤ sizes.batches → plan.overlay ≤ 32
+    → ((k : ℕ) → get_or plan.heads k 0 < blocks sizes) → ((k : ℕ) → get_or plan.replies k 0 < 2 ^ 24)
+    → planned_value sizes.processes plan index < 2 ^ 24
+planned_value_lt sizes plan index few small base over heads replies =
+    let head = heads (index - 2) in
+    let reply = replies (index - (sizes.processes + 2)) in
+    grind (arith, nat_tests)

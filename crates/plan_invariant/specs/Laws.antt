@@ -1,0 +1,99 @@
+-- the opening meets the part plan of a try, steps keep it, and what it gives
+use Rattle.std.specs.Prelude.{◌≡◌, ℕ, ◌+◌, ◌<◌, ◌≤◌, ◌^◌, slice_index}
+use Rattle.word_layout.specs.Sizes.{Sizes, IsShape, blocks}
+use Rattle.word_layout.specs.Names.{InRange}
+use Rattle.word_layout.specs.declared.announced.Wish.{Wish}
+use Rattle.word_layout.specs.declared.name.WordName.{WordName}
+use Rattle.word_layout.specs.declared.name.WordName.TheVariants.{State}
+use Rattle.transfer_machine.specs.Loads.{loaded_base, overlay_length}
+use Rattle.transfer_machine.specs.Machine.{action_of, met_of, begun, CanAct, CanMeet}
+use Rattle.transfer_machine.specs.Opening.{opening_word, opening_transfer}
+use Rattle.transfer_machine.specs.States.{next_of}
+use Rattle.transfer_machine.specs.Tries.{planned_value}
+use Rattle.transfer_machine.specs.Words.{name_of}
+use Rattle.transfer_machine.specs.declared.transfer.TransferView.{TransferView}
+use Rattle.transfer_machine.specs.declared.stage.NextStep.TheVariants.{Rest, LoadCoveredSlot, ExchangeSlot, StoreRecordWord, ExchangeState}
+use Rattle.transfer_invariant.specs.Memory.{Words, Views, States, Acted, Moved, state_tag}
+use Rattle.transfer_invariant.specs.Installing.{planned_state, states_after}
+use Rattle.transfer_invariant.specs.Invariant.{Invariant}
+use Rattle.transfer_invariant.specs.Laws.{WritesFit}
+use Rattle.plan_invariant.specs.Holding.{PlansHold, PlanPremises}
+use Rattle.plan_invariant.specs.NextState.{SameState}
+
+-- the words and views of the opening meet the part, with whatever states
+abbrev pub OpeningMeetsPlans : Type 0
+OpeningMeetsPlans = (sizes : Sizes) (words : Words) (views : Views) (states : States) → IsShape sizes
+    → ((name : WordName) → InRange sizes name → words name ≡ opening_word sizes name)
+    → ((i : ℕ) → i < sizes.processes → views i ≡ opening_transfer i)
+    → PlansHold sizes words views states
+
+-- the step of a process from words and views that meet the invariant and the part leads to such ones
+abbrev pub StepsKeepPlans : Type 0
+StepsKeepPlans = (sizes : Sizes) (words new : Words) (views after : Views) (states : States) (i : ℕ) → IsShape sizes → i < sizes.processes
+    → Invariant sizes words views states
+    → PlansHold sizes words views states
+    → PlanPremises sizes words states (views i)
+    → Acted sizes (action_of sizes (views i)) words new
+    → Moved i (met_of sizes (views i) (words (name_of (action_of sizes (views i))))) views after
+    → PlansHold sizes new after (states_after words (views i) states)
+
+-- a process at rest that begins a transfer keeps the part
+abbrev pub BeginningsKeepPlans : Type 0
+BeginningsKeepPlans = (sizes : Sizes) (words : Words) (views after : Views) (states : States) (i : ℕ) (wish : Wish) → i < sizes.processes
+    → PlansHold sizes words views states
+    → (views i).next ≡ Rest
+    → Moved i (begun wish (views i)) views after
+    → PlansHold sizes words after states
+
+-- the covered slot that the next step is about lies in the loaded overlay
+pub record CoversWithin (v : TransferView) : Type 0 where
+  pub load : (offset : ℕ) → v.next ≡ LoadCoveredSlot offset → offset < overlay_length v.loaded
+  pub exchange : (offset : ℕ) → v.next ≡ ExchangeSlot offset → offset < overlay_length v.loaded
+
+-- every view can make its next step, whose numbers are then all in range
+abbrev pub StepsCanBeMade : Type 0
+StepsCanBeMade = (sizes : Sizes) (words : Words) (views : Views) (states : States) (i : ℕ) → IsShape sizes → i < sizes.processes
+    → Invariant sizes words views states
+    → PlansHold sizes words views states
+    → PlanPremises sizes words states (views i)
+    → CoversWithin (views i)
+    → state_tag words ≤ 2 ^ 37 + 1
+    → CanAct sizes (views i) × CanMeet sizes (views i) (words (name_of (action_of sizes (views i))))
+
+-- what a view stores in its next record fits a value
+abbrev pub StoredWordsFit : Type 0
+StoredWordsFit = (sizes : Sizes) (words : Words) (views : Views) (states : States) (i index : ℕ) → IsShape sizes → i < sizes.processes
+    → Invariant sizes words views states
+    → PlansHold sizes words views states
+    → (views i).next ≡ StoreRecordWord index
+    → planned_value sizes.processes (views i).plan index < 2 ^ 24
+
+-- the state that a view plans is, where its exchange installs it, what the loaded announcements make of the present one
+abbrev pub PlannedIsNext : Type 0
+PlannedIsNext = (sizes : Sizes) (words : Words) (views : Views) (states : States) (i : ℕ) → IsShape sizes → i < sizes.processes
+    → Invariant sizes words views states
+    → PlansHold sizes words views states
+    → (views i).next ≡ ExchangeState
+    → words State ≡ (views i).loaded.state
+    → SameState sizes.processes (planned_state (states (state_tag words)) (views i)) (next_of sizes.processes (λ o. slice_index (views i).loaded.announcements o) (states (state_tag words)))
+
+-- the heads that a view plans are blocks
+abbrev pub PlannedHeadsAreBlocks : Type 0
+PlannedHeadsAreBlocks = (sizes : Sizes) (words : Words) (views : Views) (states : States) (i k : ℕ) → i < sizes.processes
+    → PlansHold sizes words views states
+    → slice_index (views i).plan.heads k < blocks sizes
+
+-- the base that a view plans is at most the height of the state that it loaded, when it is about to install the plan
+abbrev pub PlannedBaseIsLow : Type 0
+PlannedBaseIsLow = (sizes : Sizes) (words : Words) (views : Views) (states : States) (i : ℕ) → i < sizes.processes
+    → PlansHold sizes words views states
+    → (views i).next ≡ ExchangeState
+    → (views i).plan.base ≤ loaded_base (views i).loaded + overlay_length (views i).loaded
+
+-- what a view writes fits, where all places of a plan that it installs are slots
+abbrev pub PlansGiveWrites : Type 0
+PlansGiveWrites = (sizes : Sizes) (words : Words) (views : Views) (states : States) (i : ℕ) → IsShape sizes → i < sizes.processes
+    → Invariant sizes words views states
+    → PlansHold sizes words views states
+    → ((views i).next ≡ ExchangeState → words State ≡ (views i).loaded.state → (views i).plan.base + (views i).plan.overlay ≤ sizes.batches)
+    → WritesFit sizes words (views i)

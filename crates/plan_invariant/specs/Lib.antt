@@ -1,0 +1,5 @@
+pub mod Heads
+pub mod Pops
+pub mod Holding
+pub mod NextState
+pub mod Laws
