@@ -3,14 +3,15 @@ use Rattle.std.proofs.Common.{◌≡◌, ℕ, ◌+◌, ◌-◌, false, refl, ari
 use Rattle.std.specs.Prelude.{if◌then◌else◌, nat_lt, slice_index}
 use Rattle.std.proofs.lemmas.Bool.Decides.{nat_tests}
 use Rattle.word_layout.specs.Sizes.{Sizes, IsShape}
-use Rattle.transfer_machine.specs.States.{StackState, next_of}
+use Rattle.transfer_machine.specs.States.{StackState}
 use Rattle.transfer_machine.specs.declared.transfer.TransferView.{TransferView}
 use Rattle.transfer_invariant.specs.Installing.{planned_state}
 use Rattle.transfer_invariant.specs.Laws.{PlanFits}
 use Rattle.batch_invariant.specs.Batches.{ProcessViews, BatchesHold, BatchesPlaced}
 use Rattle.batch_invariant.specs.Premises.{InstallsNext}
 use Rattle.batch_invariant.proofs.Heads.{height_within, content_is_batch}
-use Rattle.batch_invariant.proofs.Installing.{next_holds, same_holds}
+use Rattle.batch_invariant.proofs.Transit.{placed_fit, carried_holds}
+use Rattle.batch_invariant.proofs.Installing.{planned_carried}
 
 -- the planned overlay stands above the planned base
 planned_height : (s : StackState) (v : TransferView) → (planned_state s v).height ≡ v.plan.base + v.plan.overlay
@@ -37,6 +38,5 @@ planned_fits sizes s views v shape placed =
 
 pub plan_has_room : (sizes : Sizes) (s : StackState) (views : ProcessViews) (v : TransferView) → IsShape sizes → BatchesHold sizes s views → InstallsNext sizes s views v → PlanFits sizes v.plan
 plan_has_room sizes s views v shape hold installs =
-    let announcements = λ (o : ℕ). slice_index v.loaded.announcements o in
-    let next = next_holds sizes s views announcements sizes.processes shape (omega arith) hold installs.present in
-    planned_fits sizes s views v shape (same_holds sizes (next_of sizes.processes announcements s) (planned_state s v) views installs.planned next).placed
+    let carried = planned_carried sizes s (planned_state s v) views (λ o. slice_index v.loaded.announcements o) (placed_fit sizes s views shape hold.placed) installs.present installs.planned in
+    planned_fits sizes s views v shape (carried_holds sizes s (planned_state s v) views carried hold).placed

@@ -152,6 +152,14 @@ stage_keeps sizes s i v word LoadFinalState e h matches = trying_keeps sizes s i
 stage_keeps sizes s i v word LoadReply e h matches =
     ended_keeps s i v (record { transfer = met_at sizes v.transfer word LoadReply; pool = pool_met_at word v.pool LoadReply }) (reply_of (value_of word)) e (h.applied e) (ap reply_of (sym (h.reply e))) matches refl refl
 
+-- the exchange of the state keeps them whatever state is there
+exchange_keeps_at : (sizes : Sizes) (s : StackState) (i : ℕ) (v : ProcessView) (word : ℕ) (stage : NextStep) → v.transfer.next ≡ stage → stage ≡ ExchangeState
+    → KeepsBatches s i v (record { transfer = met_at sizes v.transfer word stage; pool = pool_met_at word v.pool stage })
+exchange_keeps_at sizes s i v word stage e is = rw is (trying_keeps sizes s i v word ExchangeState refl (e ∙ is))
+
+pub exchange_keeps : (sizes : Sizes) (s : StackState) (i : ℕ) (v : ProcessView) (word : ℕ) → v.transfer.next ≡ ExchangeState → KeepsBatches s i v (view_met sizes v word)
+exchange_keeps sizes s i v word e = exchange_keeps_at sizes s i v word v.transfer.next refl e
+
 pub steps_keep : (sizes : Sizes) (s : StackState) (views after : ProcessViews) (i word : ℕ) → i < sizes.processes → BatchesHold sizes s views → InStep s i (views i).transfer word
     → MovedProcess i (view_met sizes (views i) word) views after → BatchesHold sizes s after
 steps_keep sizes s views after i word li h step moved = batches_move sizes s views after i (view_met sizes (views i) word) li h moved (stage_keeps sizes s i (views i) word (views i).transfer.next refl step (h.replies i li))
@@ -164,7 +172,7 @@ spares_parted f heads head some e =
     let all : take ((length heads - 1) + 1) heads ≡ heads = rw last (take_all (length heads) heads (omega arith)) in
     let whole = rw (all, e) at more in omega (arith, whole)
 
-begun_keeps : (s : StackState) (i : ℕ) (wish : Wish) (v : ProcessView) → v.transfer.next ≡ Rest → MayBegin wish v.pool → KeepsBatches s i v (view_begun wish v)
+pub begun_keeps : (s : StackState) (i : ℕ) (wish : Wish) (v : ProcessView) → v.transfer.next ≡ Rest → MayBegin wish v.pool → KeepsBatches s i v (view_begun wish v)
 begun_keeps s i Take v rest may = record {
   same_weight = λ f. rw (parts_weight f s i (view_begun Take v), parts_weight f s i v, moving_begun s i (begun Take v.transfer) refl, moving_at_rest s i v.transfer rest) refl;
   matches = λ h. unannounced_matches s i (begun Take v.transfer) refl;
