@@ -6,22 +6,23 @@ use Rattle.word_layout.specs.Sizes.{Sizes, IsShape}
 use Rattle.word_layout.specs.Packing.{tag_of}
 use Rattle.word_layout.specs.declared.name.WordName.TheVariants.{State, Announcement, RecordWord, Slot}
 use Rattle.transfer_machine.specs.Loads.{loaded_tag, loaded_record, loaded_base}
-use Rattle.transfer_machine.specs.Machine.{action_at, action_of, own_announcement, stored_word, next_state}
-use Rattle.transfer_machine.specs.Pools.{view_met}
+use Rattle.transfer_machine.specs.Machine.{action_at, met_at, own_announcement, stored_word, next_state}
+use Rattle.transfer_machine.specs.Pools.{pool_met_at}
 use Rattle.transfer_machine.specs.Words.{name_of}
 use Rattle.transfer_machine.specs.declared.action.Action.TheVariants.{Load, Store, Exchange}
 use Rattle.transfer_machine.specs.States.{StackState}
 use Rattle.transfer_machine.specs.declared.transfer.TransferView.{TransferView}
+use Rattle.transfer_machine.specs.declared.view.ProcessView.{ProcessView}
 use Rattle.transfer_machine.specs.declared.stage.NextStep.{NextStep}
 use Rattle.transfer_machine.specs.declared.stage.NextStep.TheVariants.{Rest, Announce, LoadState, LoadRecordWord, LoadCoveredSlot, ExchangeSlot, LoadAnnouncement, LoadPoppedSlot, StoreRecordWord, ExchangeState, LoadFinalState, LoadReply}
 use Rattle.transfer_invariant.specs.Memory.{Words, States, Acted, state_tag}
-use Rattle.transfer_invariant.specs.Installing.{planned_state, states_with_planned, states_after_at, states_after}
+use Rattle.transfer_invariant.specs.Installing.{planned_state, states_with_planned, states_after_at}
 use Rattle.transfer_invariant.proofs.Acts.{is_state, leaves_records, announces, exchanges_slot, exchanges_state, keeps_state}
 use Rattle.transfer_invariant.proofs.Writes.{with_state_here}
 use Rattle.batch_invariant.specs.Batches.{ProcessViews, MovedProcess, BatchesHold}
 use Rattle.batch_invariant.specs.Premises.{InStep, InstallsNext}
 use Rattle.batch_invariant.proofs.Transit.{placed_fit, carried_holds}
-use Rattle.batch_invariant.proofs.Steps.{batches_move, steps_keep, exchange_keeps}
+use Rattle.batch_invariant.proofs.Steps.{batches_move, stage_keeps, exchange_keeps_at}
 use Rattle.batch_invariant.proofs.Installing.{planned_carried}
 
 -- a stored record word isn't the state
@@ -70,20 +71,25 @@ step_carries P sizes m n v states LoadFinalState holds installs a = rw (leaves_r
 step_carries P sizes m n v states LoadReply holds installs a =
     rw (leaves_records sizes (Load (RecordWord (loaded_record v.loaded) (sizes.processes + 2 + v.number))) m n a refl).state holds
 
+-- the view after its step at that stage met that word
+abbrev pub view_met_at : Sizes → ProcessView → ℕ → NextStep → ProcessView
+view_met_at sizes v word stage = record { transfer = met_at sizes v.transfer word stage; pool = pool_met_at word v.pool stage }
+
 -- so batches stay at one place
-pub step_holds : (sizes : Sizes) (m n : Words) (views after : ProcessViews) (states : States) (i : ℕ) → IsShape sizes → i < sizes.processes → BatchesHold sizes (states (state_tag m)) views
-    → InStep (states (state_tag m)) i (views i).transfer (m (name_of (action_of sizes (views i).transfer)))
-    → ((views i).transfer.next ≡ ExchangeState → m State ≡ (views i).transfer.loaded.state → InstallsNext sizes (states (state_tag m)) views (views i).transfer)
-    → Acted sizes (action_of sizes (views i).transfer) m n
-    → MovedProcess i (view_met sizes (views i) (m (name_of (action_of sizes (views i).transfer)))) views after
-    → BatchesHold sizes (states_after m (views i).transfer states (state_tag n)) after
-step_holds sizes m n views after states i shape li hold step installs a moved =
+pub step_holds : (sizes : Sizes) (m n : Words) (views after : ProcessViews) (states : States) (i : ℕ) (stage : NextStep) → IsShape sizes → i < sizes.processes → BatchesHold sizes (states (state_tag m)) views → (views i).transfer.next ≡ stage
+    → InStep (states (state_tag m)) i (views i).transfer (m (name_of (action_at sizes (views i).transfer stage)))
+    → (stage ≡ ExchangeState → m State ≡ (views i).transfer.loaded.state → InstallsNext sizes (states (state_tag m)) views (views i).transfer)
+    → Acted sizes (action_at sizes (views i).transfer stage) m n
+    → MovedProcess i (view_met_at sizes (views i) (m (name_of (action_at sizes (views i).transfer stage))) stage) views after
+    → BatchesHold sizes (states_after_at m (views i).transfer states stage (state_tag n)) after
+step_holds sizes m n views after states i stage shape li hold e step installs a moved =
     let v = (views i).transfer in
     let now = states (state_tag m) in
-    let word = m (name_of (action_of sizes v)) in
-    let stay : BatchesHold sizes now after = steps_keep sizes now views after i word li hold step moved in
-    step_carries (λ t. BatchesHold sizes t after) sizes m n v states v.next stay (λ e same.
-    let next = installs e same in
+    let word = m (name_of (action_at sizes v stage)) in
+    let x = view_met_at sizes (views i) word stage in
+    let stay : BatchesHold sizes now after = batches_move sizes now views after i x li hold moved (stage_keeps sizes now i (views i) word stage e step (hold.replies i li)) in
+    step_carries (λ t. BatchesHold sizes t after) sizes m n v states stage stay (λ is same.
+    let next = installs is same in
     let planned = planned_state now v in
     let carried = planned_carried sizes now planned views (λ o. slice_index v.loaded.announcements o) (placed_fit sizes now views shape hold.placed) next.present next.planned in
-    (next.row, batches_move sizes planned views after i (view_met sizes (views i) word) li (carried_holds sizes now planned views carried hold) moved (exchange_keeps sizes planned i (views i) word e))) a
+    (next.row, batches_move sizes planned views after i x li (carried_holds sizes now planned views carried hold) moved (exchange_keeps_at sizes planned i (views i) word stage e is))) a

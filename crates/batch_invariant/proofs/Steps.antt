@@ -153,12 +153,9 @@ stage_keeps sizes s i v word LoadReply e h matches =
     ended_keeps s i v (record { transfer = met_at sizes v.transfer word LoadReply; pool = pool_met_at word v.pool LoadReply }) (reply_of (value_of word)) e (h.applied e) (ap reply_of (sym (h.reply e))) matches refl refl
 
 -- the exchange of the state keeps them whatever state is there
-exchange_keeps_at : (sizes : Sizes) (s : StackState) (i : ℕ) (v : ProcessView) (word : ℕ) (stage : NextStep) → v.transfer.next ≡ stage → stage ≡ ExchangeState
+pub exchange_keeps_at : (sizes : Sizes) (s : StackState) (i : ℕ) (v : ProcessView) (word : ℕ) (stage : NextStep) → v.transfer.next ≡ stage → stage ≡ ExchangeState
     → KeepsBatches s i v (record { transfer = met_at sizes v.transfer word stage; pool = pool_met_at word v.pool stage })
 exchange_keeps_at sizes s i v word stage e is = rw is (trying_keeps sizes s i v word ExchangeState refl (e ∙ is))
-
-pub exchange_keeps : (sizes : Sizes) (s : StackState) (i : ℕ) (v : ProcessView) (word : ℕ) → v.transfer.next ≡ ExchangeState → KeepsBatches s i v (view_met sizes v word)
-exchange_keeps sizes s i v word e = exchange_keeps_at sizes s i v word v.transfer.next refl e
 
 pub steps_keep : (sizes : Sizes) (s : StackState) (views after : ProcessViews) (i word : ℕ) → i < sizes.processes → BatchesHold sizes s views → InStep s i (views i).transfer word
     → MovedProcess i (view_met sizes (views i) word) views after → BatchesHold sizes s after
