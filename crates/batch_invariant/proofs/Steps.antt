@@ -90,7 +90,7 @@ either_current : (t : Bool) (x y : schedule.Numbers) (current : ℕ) → x.curre
 either_current true x y current ex ey = ex
 either_current false x y current ex ey = ey
 
-ended_current : (found : Bool) (x : schedule.Numbers) → (schedule.after_end found x).current ≡ x.current
+pub ended_current : (found : Bool) (x : schedule.Numbers) → (schedule.after_end found x).current ≡ x.current
 ended_current found x = either_current (schedule.is_taking x.pending) (record x { pending = Idle; done = 0; spares = if found then schedule.one_more x.spares else x.spares; dry = not found }) (record x { pending = Idle; done = 0 }) x.current refl refl
 
 ended_current_batch : (reply : Reply) (pool : PoolView) → current_batch (pool_ended reply pool) ≡ current_batch pool
@@ -162,7 +162,7 @@ pub steps_keep : (sizes : Sizes) (s : StackState) (views after : ProcessViews) (
 steps_keep sizes s views after i word li h step moved = batches_move sizes s views after i (view_met sizes (views i) word) li h moved (stage_keeps sizes s i (views i) word (views i).transfer.next refl step (h.replies i li))
 
 -- a beginning: the given batch leaves the spares and is in transit
-spares_parted : (f : ℕ → ℕ) (heads : List ℕ) (head : ℕ) → 1 ≤ length heads → slice_index heads (length heads - 1) ≡ head → weight f (take (length heads - 1) heads) + f head ≡ weight f heads
+pub spares_parted : (f : ℕ → ℕ) (heads : List ℕ) (head : ℕ) → 1 ≤ length heads → slice_index heads (length heads - 1) ≡ head → weight f (take (length heads - 1) heads) + f head ≡ weight f heads
 spares_parted f heads head some e =
     let last : (length heads - 1) + 1 ≡ length heads = omega arith in
     let more = sum_by_more f heads (length heads - 1) 0 (omega arith) in
