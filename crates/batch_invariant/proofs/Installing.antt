@@ -103,8 +103,8 @@ exchange_announced next e = rw e refl
 
 pub installing_holds : (sizes : Sizes) (s t : StackState) (views after : ProcessViews) (announcements : ℕ → ℕ) (i : ℕ) → IsShape sizes → i < sizes.processes → BatchesHold sizes s views
     → ((o : ℕ) → o < sizes.processes → PendingIsPresent s (announcements o) o (views o).transfer) → (views i).transfer.next ≡ ExchangeState → SameStack sizes.processes (next_of sizes.processes announcements s) t
-    → MovedProcess i (record { transfer = installed (views i).transfer; pool = step_counted (views i).pool }) views after → BatchesHold sizes t after
+    → MovedProcess i (record (views i) { transfer = installed (views i).transfer; pool = step_counted (views i).pool }) views after → BatchesHold sizes t after
 installing_holds sizes s t views after announcements i shape li hold present e same moved =
-    batches_move sizes t views after i (record { transfer = installed (views i).transfer; pool = step_counted (views i).pool }) li
+    batches_move sizes t views after i (record (views i) { transfer = installed (views i).transfer; pool = step_counted (views i).pool }) li
     (carried_holds sizes s t views (planned_carried sizes s t views announcements (placed_fit sizes s views shape hold.placed) present same) hold) moved
-    (goes_on_keeps t i (views i) (record { transfer = installed (views i).transfer; pool = step_counted (views i).pool }) (installed_goes_on (views i).transfer (exchange_announced (views i).transfer.next e)) refl refl)
+    (goes_on_keeps t i (views i) (record (views i) { transfer = installed (views i).transfer; pool = step_counted (views i).pool }) (installed_goes_on (views i).transfer (exchange_announced (views i).transfer.next e)) refl refl)

@@ -73,7 +73,7 @@ step_carries P sizes m n v states LoadReply holds installs a =
 
 -- the view after its step at that stage met that word
 abbrev pub view_met_at : Sizes → ProcessView → ℕ → NextStep → ProcessView
-view_met_at sizes v word stage = record { transfer = met_at sizes v.transfer word stage; pool = pool_met_at word v.pool stage }
+view_met_at sizes v word stage = record v { transfer = met_at sizes v.transfer word stage; pool = pool_met_at word v.pool stage }
 
 -- so batches stay at one place
 pub step_holds : (sizes : Sizes) (m n : Words) (views after : ProcessViews) (states : States) (i : ℕ) (stage : NextStep) → IsShape sizes → i < sizes.processes → BatchesHold sizes (states (state_tag m)) views → (views i).transfer.next ≡ stage

@@ -131,15 +131,15 @@ ends_answer s i v word matches step last = let announced = reply_announced v.nex
 
 -- the step at each stage
 trying_keeps : (sizes : Sizes) (s : StackState) (i : ℕ) (v : ProcessView) (word : ℕ) (stage : NextStep) → goes_on stage ≡ true → v.transfer.next ≡ stage
-    → KeepsBatches s i v (record { transfer = met_at sizes v.transfer word stage; pool = step_counted v.pool })
+    → KeepsBatches s i v (record v { transfer = met_at sizes v.transfer word stage; pool = step_counted v.pool })
 trying_keeps sizes s i v word stage g e =
-    goes_on_keeps s i v (record { transfer = met_at sizes v.transfer word stage; pool = step_counted v.pool }) (met_goes_on sizes v.transfer word stage g (rw e (goes_on_announced stage g))) refl refl
+    goes_on_keeps s i v (record v { transfer = met_at sizes v.transfer word stage; pool = step_counted v.pool }) (met_goes_on sizes v.transfer word stage g (rw e (goes_on_announced stage g))) refl refl
 
 pub stage_keeps : (sizes : Sizes) (s : StackState) (i : ℕ) (v : ProcessView) (word : ℕ) (stage : NextStep) → v.transfer.next ≡ stage → InStep s i v.transfer word → ReplyMatches s i v.transfer
-    → KeepsBatches s i v (record { transfer = met_at sizes v.transfer word stage; pool = pool_met_at word v.pool stage })
+    → KeepsBatches s i v (record v { transfer = met_at sizes v.transfer word stage; pool = pool_met_at word v.pool stage })
 stage_keeps sizes s i v word Rest e h matches = record { same_weight = λ f. refl; matches = λ m. m }
 stage_keeps sizes s i v word Announce e h matches =
-    announced_keeps s i v (record { transfer = met_at sizes v.transfer word Announce; pool = pool_met_at word v.pool Announce }) e (h.calm (rw e refl)) refl refl refl refl refl
+    announced_keeps s i v (record v { transfer = met_at sizes v.transfer word Announce; pool = pool_met_at word v.pool Announce }) e (h.calm (rw e refl)) refl refl refl refl refl
 stage_keeps sizes s i v word LoadState e h matches = trying_keeps sizes s i v word LoadState refl e
 stage_keeps sizes s i v word (LoadRecordWord index) e h matches = trying_keeps sizes s i v word (LoadRecordWord index) refl e
 stage_keeps sizes s i v word (LoadCoveredSlot offset) e h matches = trying_keeps sizes s i v word (LoadCoveredSlot offset) refl e
@@ -150,11 +150,11 @@ stage_keeps sizes s i v word (StoreRecordWord index) e h matches = trying_keeps 
 stage_keeps sizes s i v word ExchangeState e h matches = trying_keeps sizes s i v word ExchangeState refl e
 stage_keeps sizes s i v word LoadFinalState e h matches = trying_keeps sizes s i v word LoadFinalState refl e
 stage_keeps sizes s i v word LoadReply e h matches =
-    ended_keeps s i v (record { transfer = met_at sizes v.transfer word LoadReply; pool = pool_met_at word v.pool LoadReply }) (reply_of (value_of word)) e (h.applied e) (ap reply_of (sym (h.reply e))) matches refl refl
+    ended_keeps s i v (record v { transfer = met_at sizes v.transfer word LoadReply; pool = pool_met_at word v.pool LoadReply }) (reply_of (value_of word)) e (h.applied e) (ap reply_of (sym (h.reply e))) matches refl refl
 
 -- the exchange of the state keeps them whatever state is there
 pub exchange_keeps_at : (sizes : Sizes) (s : StackState) (i : ℕ) (v : ProcessView) (word : ℕ) (stage : NextStep) → v.transfer.next ≡ stage → stage ≡ ExchangeState
-    → KeepsBatches s i v (record { transfer = met_at sizes v.transfer word stage; pool = pool_met_at word v.pool stage })
+    → KeepsBatches s i v (record v { transfer = met_at sizes v.transfer word stage; pool = pool_met_at word v.pool stage })
 exchange_keeps_at sizes s i v word stage e is = rw is (trying_keeps sizes s i v word ExchangeState refl (e ∙ is))
 
 pub steps_keep : (sizes : Sizes) (s : StackState) (views after : ProcessViews) (i word : ℕ) → i < sizes.processes → BatchesHold sizes s views → InStep s i (views i).transfer word

@@ -61,7 +61,7 @@ InstallingKeepsBatches = (sizes : Sizes) (s t : StackState) (views after : Proce
     → ((o : ℕ) → o < sizes.processes → PendingIsPresent s (announcements o) o (views o).transfer)
     → (views i).transfer.next ≡ ExchangeState
     → SameStack sizes.processes (next_of sizes.processes announcements s) t
-    → MovedProcess i (record { transfer = installed (views i).transfer; pool = step_counted (views i).pool }) views after
+    → MovedProcess i (record (views i) { transfer = installed (views i).transfer; pool = step_counted (views i).pool }) views after
     → BatchesHold sizes t after
 
 -- the step of a process on the words keeps it, of the present state before and after

@@ -37,7 +37,7 @@ going_age v x h stays = grind arith
 
 going_holds : (sizes : Sizes) (i : ℕ) (v : ProcessView) (word : ℕ) (s : NextStep) → v.transfer.next ≡ s → goes_on s ≡ true → 1 ≤ sizes.processes → PoolHolds sizes i v
     → (has_record s ≡ true → overlay_length v.transfer.loaded ≤ sizes.processes)
-    → PoolHolds sizes i (record { transfer = met_at sizes v.transfer word s; pool = pool_met_at word v.pool s })
+    → PoolHolds sizes i (record v { transfer = met_at sizes v.transfer word s; pool = pool_met_at word v.pool s })
 going_holds sizes i v word s e going some h few =
     let x = met_at sizes v.transfer word s in
     let stays = step_stays sizes v.transfer word s going in
@@ -59,7 +59,7 @@ announced_age : (v : TransferView) → AgeFits v → v.next ≡ Announce → v.a
 announced_age v h e = let below = h.below (rw e refl) in omega arith
 
 announced_holds : (sizes : Sizes) (i : ℕ) (v : ProcessView) (word : ℕ) → v.transfer.next ≡ Announce → PoolHolds sizes i v
-    → PoolHolds sizes i (record { transfer = met_at sizes v.transfer word Announce; pool = pool_met_at word v.pool Announce })
+    → PoolHolds sizes i (record v { transfer = met_at sizes v.transfer word Announce; pool = pool_met_at word v.pool Announce })
 announced_holds sizes i v word e h =
     let none : v.pool.plan.done ≤ 0 = rw e at h.counted refl in
     record {
@@ -73,7 +73,7 @@ announced_holds sizes i v word e h =
 
 -- the reply
 ended_holds : (sizes : Sizes) (i : ℕ) (v : ProcessView) (word : ℕ) → v.transfer.next ≡ LoadReply → PoolHolds sizes i v → Answers v.transfer.wish (reply_of (value_of word))
-    → PoolHolds sizes i (record { transfer = met_at sizes v.transfer word LoadReply; pool = pool_met_at word v.pool LoadReply })
+    → PoolHolds sizes i (record v { transfer = met_at sizes v.transfer word LoadReply; pool = pool_met_at word v.pool LoadReply })
 ended_holds sizes i v word e h answers =
     let reply = reply_of (value_of word) in
     let pending : v.pool.plan.pending ≡ pending_of v.transfer.wish = h.kept.pending (rw e refl) in
@@ -89,7 +89,7 @@ ended_holds sizes i v word e h answers =
 -- every step
 pub step_holds : (sizes : Sizes) (i : ℕ) (v : ProcessView) (word : ℕ) (s : NextStep) → v.transfer.next ≡ s → 1 ≤ sizes.processes → PoolHolds sizes i v
     → (has_record s ≡ true → overlay_length v.transfer.loaded ≤ sizes.processes) → (s ≡ LoadReply → Answers v.transfer.wish (reply_of (value_of word)))
-    → PoolHolds sizes i (record { transfer = met_at sizes v.transfer word s; pool = pool_met_at word v.pool s })
+    → PoolHolds sizes i (record v { transfer = met_at sizes v.transfer word s; pool = pool_met_at word v.pool s })
 step_holds sizes i v word Rest e some h few answers = h
 step_holds sizes i v word Announce e some h few answers = announced_holds sizes i v word e h
 step_holds sizes i v word LoadState e some h few answers = going_holds sizes i v word LoadState e refl some h few

@@ -1,5 +1,5 @@
 -- what a process keeps for its private pool, and what the steps of a transfer do to it
-use Rattle.std.specs.Prelude.{◌≡◌, ◌≢◌, ℕ, ◌+◌, ◌-◌, ◌*◌, ◌<◌, ◌≤◌, true, false, [], ◌∷◌, ◌++◌, length, take, slice_index}
+use Rattle.std.specs.Prelude.{◌≡◌, ◌≢◌, ℕ, ◌+◌, ◌-◌, ◌*◌, ◌<◌, ◌≤◌, true, false, None, [], ◌∷◌, ◌++◌, length, take, slice_index}
 use Rattle.word_layout.specs.Sizes.{Sizes, transfer_bound}
 use Rattle.word_layout.specs.Packing.{value_of, reply_of}
 use Rattle.word_layout.specs.declared.announced.Wish.{Wish}
@@ -11,6 +11,9 @@ use Rattle.transfer_schedule.specs.declared.pending.Pending.{Pending}
 use Rattle.transfer_schedule.specs.declared.pending.Pending.TheVariants.{Idle, Taking, Giving}
 use Rattle.transfer_machine.specs.Machine.{met_of, begun}
 use Rattle.transfer_machine.specs.Opening.{opening_transfer}
+use Rattle.transfer_machine.specs.declared.call.CallView.{CallView}
+use Rattle.transfer_machine.specs.declared.call.CallStage.TheVariants.{Between}
+use Rattle.transfer_machine.specs.declared.call.Way.TheVariants.{Fresh}
 use Rattle.transfer_machine.specs.declared.view.PoolView.{PoolView}
 use Rattle.transfer_machine.specs.declared.view.ProcessView.{ProcessView}
 use Rattle.transfer_machine.specs.declared.stage.NextStep.{NextStep}
@@ -25,9 +28,13 @@ opening_pool sizes process = record {
   giving = 0;
 }
 
+-- the calls of a process at the opening: it has begun nothing
+abbrev pub opening_calls : CallView
+opening_calls = record { stage = Between; call = None; steps = 0; way = Fresh }
+
 -- what a process knows at the opening
 abbrev pub opening_view : Sizes → ℕ → ProcessView
-opening_view sizes process = record { transfer = opening_transfer process; pool = opening_pool sizes process }
+opening_view sizes process = record { transfer = opening_transfer process; pool = opening_pool sizes process; calls = opening_calls }
 
 -- what is pending for a wish
 abbrev pub pending_of : Wish → Pending
@@ -50,7 +57,7 @@ pool_begun wish pool = record (wish_begun wish pool) { plan = schedule.after_beg
 
 -- the view once a transfer is begun
 abbrev pub view_begun : Wish → ProcessView → ProcessView
-view_begun wish v = record { transfer = begun wish v.transfer; pool = pool_begun wish v.pool }
+view_begun wish v = record v { transfer = begun wish v.transfer; pool = pool_begun wish v.pool }
 
 -- the pending transfer ends with this reply: the batch of a take becomes the newest spare
 abbrev pub pool_ended : Reply → PoolView → PoolView
@@ -79,7 +86,7 @@ pool_met_at word pool LoadReply = pool_ended (reply_of (value_of word)) (step_co
 
 -- the view of a process after its transfer's next step met this word
 abbrev pub view_met : Sizes → ProcessView → ℕ → ProcessView
-view_met sizes v word = record { transfer = met_of sizes v.transfer word; pool = pool_met_at word v.pool v.transfer.next }
+view_met sizes v word = record v { transfer = met_of sizes v.transfer word; pool = pool_met_at word v.pool v.transfer.next }
 
 -- a reply that the pending transfer may end with: a take has room for one more spare, a give is never answered with nothing
 abbrev pub CanEnd : Reply → PoolView → Type 0

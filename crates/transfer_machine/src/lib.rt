@@ -10,6 +10,7 @@
 #![tactic(auto)]
 
 mod action;
+mod call;
 mod heads;
 mod kind;
 pub mod laws;
@@ -24,12 +25,13 @@ mod try_plan;
 mod view;
 
 pub use action::Action;
+pub use call::{Call, CallStage, CallView, Way};
 pub use heads::Heads;
 pub use kind::Kind;
 pub use loaded::Loaded;
 pub use opening::opening_words;
 pub use stage::{NextStep, Phase, Stage};
-pub use step::{can_step, step_transfer, step_words};
+pub use step::{act, can_step, step_transfer, step_words};
 pub use transfer::TransferView;
 pub use try_plan::TryPlan;
 pub use view::{PoolView, ProcessView, begin_transfer};

@@ -61,7 +61,7 @@ pub fn step_words(words: &mut [u64], view: &mut ProcessView, shape: &Shape) -> K
 
 /// Does what an action says to its word, and answers the word that was there.
 #[tactic(auto, unfolding(word_layout::specs::Names::word_at, word_layout::specs::Names::set_word))]
-fn act(words: &mut [u64], action: Action, shape: &Shape) -> u64
+pub fn act(words: &mut [u64], action: Action, shape: &Shape) -> u64
     requires whole { length words.old ≡ table_words shape.now }
     requires within { InRange shape.now (name_of action) }
     ensures met { result ≡ met_word shape.now words.old action }

@@ -1,6 +1,6 @@
 use crate::{
-    Kind, NextStep, ProcessView, TransferView, begin_transfer, can_step, opening_words,
-    step_transfer, step_words,
+    Kind, NextStep, Phase, ProcessView, Stage, TransferView, begin_transfer, can_step,
+    opening_words, step_transfer, step_words,
 };
 use std::process::Abort;
 use std::test::Fail;
@@ -59,7 +59,17 @@ fn opening_words_of_a_small_shape(rt: HostRuntime) -> Result<(), Fail> {
         [16777218, 8, 36, 2, 4, 0]
     );
     let mut view = ProcessView::open(&shape, 0);
+    assert_eq!(rt; (view.phase(), view.waiting()), (Phase::Between, None));
     begin_transfer(&mut view, Wish::Take);
+    let announce = Stage {
+        turn: 0,
+        kind: Kind::K1,
+        index: 0,
+    };
+    assert_eq!(rt;
+        (view.phase(), view.waiting()),
+        (Phase::Moving(announce), None)
+    );
     assert!(rt; can_step(&words, &view.transfer, &shape));
     assert_eq!(rt; step_words(&mut words, &mut view, &shape), Kind::K1);
     assert_eq!(rt;

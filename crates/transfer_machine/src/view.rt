@@ -4,10 +4,12 @@ ghost use Rattle.word_layout.specs.Packing.{FitsWish};
 ghost use Rattle.transfer_schedule.specs.declared.pending.Pending.TheVariants.{Idle};
 ghost use Rattle.transfer_machine.specs.declared.stage.NextStep.TheVariants.{Rest};
 ghost use Rattle.transfer_machine.specs.Machine.{CanAct, CanMeet};
+ghost use Rattle.transfer_machine.specs.Phases.{phase_of, waiting_of};
 ghost use Rattle.transfer_machine.specs.Pools.{opening_pool, opening_view, pool_begun, view_begun, pool_met_at, view_met, pool_ended, MayBegin, CanCount, CanMeetPool, CanEnd};
 
+use crate::call::{CallStage, CallView, Way};
 use crate::heads::Heads;
-use crate::stage::NextStep;
+use crate::stage::{NextStep, Phase, Stage};
 use crate::transfer::TransferView;
 use transfer_schedule::{Pending, Plan};
 use word_layout::{Reply, Shape, Tagged, Wish};
@@ -25,11 +27,12 @@ pub struct PoolView {
     pub giving: u32,
 }
 
-/// What a process knows: its part of the transfers, and its private pool.
+/// What a process knows: its part of the transfers, its private pool, and its calls.
 #[derive(Debug, Drop)]
 pub struct ProcessView {
     pub transfer: TransferView,
     pub pool: PoolView,
+    pub calls: CallView,
 }
 
 impl PoolView {
@@ -107,6 +110,38 @@ impl ProcessView {
         ProcessView {
             transfer: TransferView::open(process),
             pool: PoolView::open(shape, process),
+            calls: CallView::open(),
+        }
+    }
+
+    /// What the process is at. A transfer that is pending between two calls or at the own step of one waits;
+    /// one that was begun outside any call is moving.
+    pub fn phase(&self) -> Phase
+        ensures { result ≡ phase_of self.now }
+    {
+        match self.calls.stage {
+            CallStage::Between => {
+                if self.transfer.next == NextStep::Rest || self.calls.way == Way::Calls {
+                    Phase::Between
+                } else {
+                    Phase::Moving(self.transfer.stage())
+                }
+            }
+            CallStage::Moving => Phase::Moving(self.transfer.stage()),
+            CallStage::Own => Phase::Own,
+        }
+    }
+
+    /// Where the pending transfer stands while the process is between two calls or at the own step of one.
+    pub fn waiting(&self) -> Option<Stage>
+        ensures { result ≡ waiting_of self.now }
+    {
+        if self.transfer.next == NextStep::Rest {
+            return None;
+        }
+        match self.phase() {
+            Phase::Moving(_) => None,
+            Phase::Between | Phase::Own => Some(self.transfer.stage()),
         }
     }
 

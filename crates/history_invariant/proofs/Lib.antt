@@ -1,0 +1,11 @@
+pub mod Totals
+pub mod Grips
+pub mod Shared
+pub mod Fitting
+pub mod GoingOn
+pub mod Refusals
+pub mod Entering
+pub mod Holding
+pub mod Seeing
+pub mod Unheld
+pub mod Replacing

@@ -1,0 +1,16 @@
+use Rattle.std.proofs.Common.{sym, [], List}
+use Rattle.interleaving_core.specs.Runs.{opens, IsRun}
+use Rattle.interleaving_core.proofs.Runs.{run_fits}
+use Rattle.interleaving_core.proofs.run.CoreRun.open.Goals as goal
+
+opened : (c : goal.After-result-1) → IsRun c.args.shape.now [] (record { sizes = c.args.shape.now; words = c.in_ok-words.words.items; views = c.in_ok-views.views.items })
+opened c = let seats = c.in_ok-views.ensures in let opening = c.in_ok-words.ensures in rw seats (opens c.in_ok-words.words.items c.processes.ensures.shape opening)
+
+pub invariant_of-result : goal.invariant_of-result
+invariant_of-result c = ([], opened c)
+
+pub returns-clause-run : goal.returns-clause-run
+returns-clause-run c = opened c
+
+pub returns-clause-invariant : goal.returns-clause-invariant
+returns-clause-invariant c = (run_fits c.args.shape.now [] (record { sizes = c.args.shape.now; words = c.in_ok-words.words.items; views = c.in_ok-views.views.items }) (opened c)).meets

@@ -1,0 +1,4 @@
+pub mod Invariant
+pub mod Moves
+pub mod Runs
+pub mod Content

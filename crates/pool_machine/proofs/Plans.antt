@@ -1,0 +1,118 @@
+-- what calls make of the plan
+use Rattle.std.proofs.Common.{◌≡◌, ℕ, Bool, true, false, Option, None, Some, refl, arith}
+use Rattle.std.proofs.lemmas.Bool.Decides.{nat_tests}
+use Rattle.word_layout.specs.Sizes.{Sizes}
+use Rattle.word_layout.specs.Packing.{value_of, reply_of}
+use Rattle.word_layout.specs.declared.reply.Reply.{Reply}
+use Rattle.word_layout.specs.declared.reply.Reply.TheVariants as reply
+use Rattle.word_layout.specs.declared.announced.Wish.{Wish}
+use Rattle.word_layout.specs.declared.announced.Wish.TheVariants.{Take, Give}
+use Rattle.transfer_schedule.specs.Numbers as schedule
+use Rattle.transfer_schedule.specs.declared.own_step.Source.{Source}
+use Rattle.transfer_schedule.specs.declared.own_step.Target.{Target}
+use Rattle.transfer_schedule.specs.declared.own_step.Source.TheVariants as source
+use Rattle.transfer_schedule.specs.declared.own_step.Target.TheVariants as target
+use Rattle.transfer_machine.specs.Pools.{pool_met_at, pool_ended, step_counted, opening_view}
+use Rattle.transfer_machine.specs.declared.call.Call.{Call}
+use Rattle.transfer_machine.specs.declared.call.Call.TheVariants.{Allocate, Free, Read, Write}
+use Rattle.transfer_machine.specs.declared.call.CallStage.{CallStage}
+use Rattle.transfer_machine.specs.declared.call.CallStage.TheVariants.{Between, Moving, Own}
+use Rattle.transfer_machine.specs.declared.stage.NextStep.{NextStep}
+use Rattle.transfer_machine.specs.declared.stage.NextStep.TheVariants.{Rest, Announce, LoadState, LoadRecordWord, LoadCoveredSlot, ExchangeSlot, LoadAnnouncement, LoadPoppedSlot, StoreRecordWord, ExchangeState, LoadFinalState, LoadReply}
+use Rattle.transfer_machine.specs.declared.view.PoolView.{PoolView}
+use Rattle.transfer_machine.specs.declared.view.ProcessView.{ProcessView}
+use Rattle.pool_machine.specs.Beginning.{due, before_call, call_begun}
+use Rattle.pool_machine.specs.OwnSteps.{allocated, freed, pool_own_met}
+use Rattle.pool_machine.specs.Steps.{call_met, call_met_at}
+use Rattle.pool_machine.specs.Ready.{PlanFits, CanBegin}
+use Rattle.pool_machine.specs.Laws.{plan_after, CanBeginWish}
+
+-- the transfer that is due is the plan's choice
+pub choice_is_the_plans : (v : ProcessView) → (before_call v).pool.plan ≡ schedule.after_choice v.pool.plan
+choice_is_the_plans v = grind (arith, nat_tests)
+
+-- a transfer that is due can begin
+pub due_begins : (v : ProcessView) (wish : Wish) → CanBegin v → due v.pool ≡ Some wish → CanBeginWish v wish
+due_begins v Take h e = grind (arith, nat_tests)
+due_begins v (Give head) h e = grind (arith, nat_tests)
+
+-- the own steps are the schedule's
+allocated_plan : (word : ℕ) (pool : PoolView) (s : Source) → (allocated word pool s).plan ≡ schedule.after_took_one pool.plan
+allocated_plan word pool source.Current = refl
+allocated_plan word pool source.Spare = refl
+allocated_plan word pool source.Nothing = refl
+
+freed_plan : (block : ℕ) (pool : PoolView) (t : Target) → (freed block pool t).plan ≡ schedule.after_gave_one pool.plan
+freed_plan block pool target.Current = refl
+freed_plan block pool target.Fresh = refl
+
+pub own_plan : (word : ℕ) (pool : PoolView) (call : Option Call) → (pool_own_met word pool call).plan ≡ plan_after call pool.plan
+own_plan word pool None = refl
+own_plan word pool (Some Allocate) = allocated_plan word pool (schedule.source_of pool.plan)
+own_plan word pool (Some (Free block)) = freed_plan block pool (schedule.target_of pool.plan)
+own_plan word pool (Some (Read block index)) = refl
+own_plan word pool (Some (Write block index value)) = refl
+
+-- each step of the schedule keeps the sizes
+choice_fits : (sizes : Sizes) (x : schedule.Numbers) → PlanFits sizes x → PlanFits sizes (schedule.after_choice x)
+choice_fits sizes x h = grind (arith, nat_tests)
+
+end_fits : (sizes : Sizes) (found : Bool) (x : schedule.Numbers) → PlanFits sizes x → PlanFits sizes (schedule.after_end found x)
+end_fits sizes found x h = grind (arith, nat_tests)
+
+took_fits : (sizes : Sizes) (x : schedule.Numbers) → PlanFits sizes x → PlanFits sizes (schedule.after_took_one x)
+took_fits sizes x h = grind (arith, nat_tests)
+
+gave_fits : (sizes : Sizes) (x : schedule.Numbers) → PlanFits sizes x → PlanFits sizes (schedule.after_gave_one x)
+gave_fits sizes x h = grind (arith, nat_tests)
+
+after_fits : (sizes : Sizes) (call : Option Call) (x : schedule.Numbers) → PlanFits sizes x → PlanFits sizes (plan_after call x)
+after_fits sizes None x h = h
+after_fits sizes (Some Allocate) x h = took_fits sizes x h
+after_fits sizes (Some (Free block)) x h = gave_fits sizes x h
+after_fits sizes (Some (Read block index)) x h = h
+after_fits sizes (Some (Write block index value)) x h = h
+
+-- beginnings and steps keep the sizes
+begun_fits_at : (sizes : Sizes) (v : ProcessView) → PlanFits sizes v.pool.plan → PlanFits sizes (before_call v).pool.plan
+begun_fits_at sizes v h = rw (choice_is_the_plans v) (choice_fits sizes v.pool.plan h)
+
+pub begun_fits : (sizes : Sizes) (call : Call) (v : ProcessView) → PlanFits sizes v.pool.plan → PlanFits sizes (call_begun call v).pool.plan
+begun_fits sizes Allocate v h = begun_fits_at sizes v h
+begun_fits sizes (Free block) v h = begun_fits_at sizes v h
+begun_fits sizes (Read block index) v h = h
+begun_fits sizes (Write block index value) v h = h
+
+ended_fits : (sizes : Sizes) (r : Reply) (pool : PoolView) → PlanFits sizes pool.plan → PlanFits sizes (pool_ended r pool).plan
+ended_fits sizes reply.Nothing pool h = end_fits sizes false pool.plan h
+ended_fits sizes (reply.Took head) pool h = end_fits sizes true pool.plan h
+ended_fits sizes reply.Gave pool h = end_fits sizes true pool.plan h
+
+counted_fits : (sizes : Sizes) (x : schedule.Numbers) → PlanFits sizes x → PlanFits sizes (schedule.after_steps 1 x)
+counted_fits sizes x h = record { length = h.length; bound = h.bound; quantum = h.quantum }
+
+moved_fits : (sizes : Sizes) (word : ℕ) (pool : PoolView) (s : NextStep) → PlanFits sizes pool.plan → PlanFits sizes (pool_met_at word pool s).plan
+moved_fits sizes word pool Rest h = h
+moved_fits sizes word pool Announce h = counted_fits sizes pool.plan h
+moved_fits sizes word pool LoadState h = counted_fits sizes pool.plan h
+moved_fits sizes word pool (LoadRecordWord index) h = counted_fits sizes pool.plan h
+moved_fits sizes word pool (LoadCoveredSlot offset) h = counted_fits sizes pool.plan h
+moved_fits sizes word pool (ExchangeSlot offset) h = counted_fits sizes pool.plan h
+moved_fits sizes word pool (LoadAnnouncement process) h = counted_fits sizes pool.plan h
+moved_fits sizes word pool (LoadPoppedSlot process) h = counted_fits sizes pool.plan h
+moved_fits sizes word pool (StoreRecordWord index) h = counted_fits sizes pool.plan h
+moved_fits sizes word pool ExchangeState h = counted_fits sizes pool.plan h
+moved_fits sizes word pool LoadFinalState h = counted_fits sizes pool.plan h
+moved_fits sizes word pool LoadReply h = ended_fits sizes (reply_of (value_of word)) (step_counted pool) (counted_fits sizes pool.plan h)
+
+met_fits_at : (sizes : Sizes) (v : ProcessView) (word : ℕ) (s : CallStage) → PlanFits sizes v.pool.plan → PlanFits sizes (call_met_at sizes v word s).pool.plan
+met_fits_at sizes v word Between h = h
+met_fits_at sizes v word Moving h = moved_fits sizes word v.pool v.transfer.next h
+met_fits_at sizes v word Own h = rw (own_plan word v.pool v.calls.call) (after_fits sizes v.calls.call v.pool.plan h)
+
+pub met_fits : (sizes : Sizes) (v : ProcessView) (word : ℕ) → PlanFits sizes v.pool.plan → PlanFits sizes (call_met sizes v word).pool.plan
+met_fits sizes v word h = met_fits_at sizes v word v.calls.stage h
+
+-- the plan of the opening has the shape's sizes
+pub opening_fits : (sizes : Sizes) (process : ℕ) → PlanFits sizes (opening_view sizes process).pool.plan
+opening_fits sizes process = record { length = refl; bound = refl; quantum = refl }

@@ -1,0 +1,6 @@
+pub mod Beginning
+pub mod Conditions
+pub mod OwnSteps
+pub mod Steps
+pub mod Ready
+pub mod Laws

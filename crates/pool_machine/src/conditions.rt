@@ -1,0 +1,34 @@
+// When a process may begin a call, or a transfer alone.
+ghost use Rattle.std.specs.Prelude.{◌≡◌, ◌↔◌, IsTrue};
+ghost use Rattle.pool_machine.specs.Conditions.{MayCall, MayMove, NamesFit, may_call, may_move, names_fit};
+
+use transfer_machine::{Call, ProcessView, Way};
+use word_layout::Shape;
+
+/// Whether a process may begin this call. `holds` says whether it holds the block that the call names.
+pub fn may_call(view: &ProcessView, shape: &Shape, call: Call, holds: bool) -> bool
+    ensures test { result ≡ may_call shape.now holds call view.now }
+    ensures fact { IsTrue result ↔ MayCall shape.now holds call view.now }
+{
+    view.calls.way != Way::Alone && view.transfer.age < 1 << 32 && names_fit(shape, call, holds)
+}
+
+/// Whether a process may begin a transfer alone, outside any call.
+pub fn may_move(view: &ProcessView) -> bool
+    ensures test { result ≡ may_move view.now }
+    ensures fact { IsTrue result ↔ MayMove view.now }
+{
+    view.calls.way != Way::Calls
+}
+
+/// Whether what a call names fits: its block is held, and its index is one of the block's data words.
+fn names_fit(shape: &Shape, call: Call, holds: bool) -> bool
+    ensures test { result ≡ names_fit shape.now holds call }
+    ensures fact { IsTrue result ↔ NamesFit shape.now holds call }
+{
+    match call {
+        Call::Allocate => true,
+        Call::Free { .. } => holds,
+        Call::Read { index, .. } | Call::Write { index, .. } => holds && index < shape.words(),
+    }
+}

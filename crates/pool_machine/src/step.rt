@@ -1,0 +1,97 @@
+// One step of a call.
+ghost use Rattle.std.specs.Prelude.{◌≡◌};
+ghost use Rattle.word_layout.specs.Names.{InRange};
+ghost use Rattle.transfer_machine.specs.Words.{acted, met_word, name_of};
+ghost use Rattle.pool_machine.specs.Steps.{call_action, call_met, call_answer, happened, move_counted};
+ghost use Rattle.pool_machine.specs.Ready.{CanActCall, CanMeetCall, CanMove, CanMeetMoving, CanStepCall};
+ghost use Rattle.transfer_machine.specs.Pools.{view_met};
+
+use crate::answer::OwnAnswer;
+use crate::event::Happened;
+use crate::own::{own_action, own_answer, own_kind, own_meet};
+use transfer_machine::{Action, CallStage, Kind, NextStep, ProcessView, act};
+use word_layout::{Shape, WordName};
+
+/// What a process does next in its call, and to which word. Between two calls it would load the state.
+pub fn call_action(view: &ProcessView, shape: &Shape) -> Action
+    requires { CanActCall shape.now view.now }
+    ensures action { result ≡ call_action shape.now view.now }
+    ensures within { InRange shape.now (name_of result) }
+{
+    match view.calls.stage {
+        CallStage::Between => Action::Load {
+            name: WordName::State,
+        },
+        CallStage::Moving => view.transfer.action(shape),
+        CallStage::Own => own_action(view, shape),
+    }
+}
+
+/// What the view becomes once its next step met this word.
+pub fn call_meet(view: &mut ProcessView, shape: &Shape, word: u64)
+    requires act { CanActCall shape.now view.old }
+    requires meet { CanMeetCall shape.now view.old word }
+    ensures { view.new ≡ call_met shape.now view.old word }
+{
+    match view.calls.stage {
+        CallStage::Between => {}
+        CallStage::Moving => move_on(view, shape, word),
+        CallStage::Own => own_meet(view, shape, word),
+    }
+}
+
+/// Counts a step of the pending transfer. The own step follows where the transfer has ended or the call has
+/// made its quantum.
+fn move_on(view: &mut ProcessView, shape: &Shape, word: u64)
+    requires act { CanMove shape.now view.old }
+    requires meet { CanMeetMoving shape.now view.old word }
+    ensures { view.new ≡ move_counted shape.now (view_met shape.now view.old word) }
+{
+    let quantum = shape.quantum();
+    prove!(quantum <= 16);
+    view.meet(shape, word);
+    view.calls.steps += 1;
+    view.calls.stage = if view.transfer.next == NextStep::Rest || view.calls.steps == quantum {
+        CallStage::Own
+    } else {
+        CallStage::Moving
+    };
+}
+
+/// What happened in the next step, where it met this word.
+pub fn call_answer(view: &ProcessView, shape: &Shape, word: u64) -> Happened
+    requires { CanActCall shape.now view.now }
+    ensures { result ≡ call_answer view.now word }
+{
+    match view.calls.stage {
+        CallStage::Between => Happened::Ignored,
+        CallStage::Moving => Happened::Step(view.transfer.next.kind()),
+        CallStage::Own => happened(own_kind(view, shape), own_answer(view, shape, word)),
+    }
+}
+
+/// What happened where the own step of this kind answered so.
+fn happened(kind: Kind, answer: OwnAnswer) -> Happened
+    ensures { result ≡ happened kind answer }
+{
+    match answer {
+        OwnAnswer::Recorded(entry) => Happened::Ended { kind, entry },
+        OwnAnswer::Loaded(word) => Happened::Loaded(word),
+        OwnAnswer::Stored => Happened::Stored,
+    }
+}
+
+/// Makes the next step of a call on the words, and answers what happened. It looks at one word, and changes
+/// no other.
+pub fn step_call(words: &mut [u64], view: &mut ProcessView, shape: &Shape) -> Happened
+    requires { CanStepCall shape.now words.old view.old }
+    ensures happened { result ≡ call_answer view.old (met_word shape.now words.old (call_action shape.now view.old)) }
+    ensures words { words.new ≡ acted shape.now words.old (call_action shape.now view.old) }
+    ensures view { view.new ≡ call_met shape.now view.old (met_word shape.now words.old (call_action shape.now view.old)) }
+{
+    let action = call_action(view, shape);
+    let word = act(words, action, shape);
+    let happened = call_answer(view, shape, word);
+    call_meet(view, shape, word);
+    happened
+}

@@ -1,0 +1,4 @@
+pub mod Stack
+pub mod Shown
+pub mod Gives
+pub mod Laws

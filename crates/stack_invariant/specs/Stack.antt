@@ -1,0 +1,35 @@
+-- the invariant of the shared stack, its parts gathered, and what a step needs besides
+use Rattle.std.specs.Prelude.{◌≡◌, ◌+◌, ◌^◌, ◌<◌, ◌≤◌, Bool, true, false}
+use Rattle.word_layout.specs.Sizes.{Sizes}
+use Rattle.word_layout.specs.declared.name.WordName.{WordName}
+use Rattle.word_layout.specs.declared.name.WordName.TheVariants.{State, Announcement, RecordWord, Slot, Next, Data}
+use Rattle.transfer_machine.specs.declared.transfer.TransferView.{TransferView}
+use Rattle.transfer_machine.specs.declared.stage.NextStep.TheVariants.{Announce, ExchangeState}
+use Rattle.transfer_invariant.specs.Memory.{Words, Views, States}
+use Rattle.transfer_invariant.specs.Invariant.{Invariant}
+use Rattle.slot_invariant.specs.Slots.{SlotsInvariant}
+use Rattle.helping_invariant.specs.Holds.{HelpingHolds}
+use Rattle.plan_invariant.specs.Heads.{WishIsBlock}
+use Rattle.plan_invariant.specs.Holding.{PlansHold}
+
+-- the words and all views meet every part, with these states
+pub record StackHolds (sizes : Sizes) (words : Words) (views : Views) (states : States) : Type 0 where
+  pub transfers : Invariant sizes words views states
+  pub slots : SlotsInvariant sizes words views states
+  pub helping : HelpingHolds sizes words views states
+  pub plans : PlansHold sizes words views states
+
+-- what the process's own pool and the count of batches give for the next step of a view: an announced transfer has a number and a wish in range, and all places of a plan that is installed are slots
+pub record Supplied (sizes : Sizes) (words : Words) (states : States) (v : TransferView) : Type 0 where
+  pub age : v.next ≡ Announce → v.age < 2 ^ 32
+  pub wish : v.next ≡ Announce → WishIsBlock sizes v.wish
+  pub room : v.next ≡ ExchangeState → words State ≡ v.loaded.state → v.plan.base + v.plan.overlay ≤ sizes.batches
+
+-- whether the invariant speaks of the word of that name
+abbrev pub is_stack_word : WordName → Bool
+is_stack_word State = true
+is_stack_word (Announcement process) = true
+is_stack_word (RecordWord row index) = true
+is_stack_word (Slot slot) = true
+is_stack_word (Next block) = false
+is_stack_word (Data block index) = false

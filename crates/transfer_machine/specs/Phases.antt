@@ -1,0 +1,54 @@
+-- what a process is at
+use Rattle.std.specs.Prelude.{Bool, true, false, ◌||◌, if◌then◌else◌, Option, None, Some}
+use Rattle.transfer_machine.specs.Stages.{stage_of}
+use Rattle.transfer_machine.specs.declared.call.CallStage.{CallStage}
+use Rattle.transfer_machine.specs.declared.call.CallStage.TheVariants as call
+use Rattle.transfer_machine.specs.declared.call.Way.{Way}
+use Rattle.transfer_machine.specs.declared.call.Way.TheVariants.{Fresh, Alone, Calls}
+use Rattle.transfer_machine.specs.declared.stage.NextStep.{NextStep}
+use Rattle.transfer_machine.specs.declared.stage.NextStep.TheVariants.{Rest, Announce, LoadState, LoadRecordWord, LoadCoveredSlot, ExchangeSlot, LoadAnnouncement, LoadPoppedSlot, StoreRecordWord, ExchangeState, LoadFinalState, LoadReply}
+use Rattle.transfer_machine.specs.declared.stage.Phase.{Phase}
+use Rattle.transfer_machine.specs.declared.stage.Phase.TheVariants as phase
+use Rattle.transfer_machine.specs.declared.stage.Stage.{Stage}
+use Rattle.transfer_machine.specs.declared.view.ProcessView.{ProcessView}
+
+-- no transfer is begun
+abbrev pub is_rest : NextStep → Bool
+is_rest Rest = true
+is_rest Announce = false
+is_rest LoadState = false
+is_rest (LoadRecordWord index) = false
+is_rest (LoadCoveredSlot offset) = false
+is_rest (ExchangeSlot offset) = false
+is_rest (LoadAnnouncement process) = false
+is_rest (LoadPoppedSlot process) = false
+is_rest (StoreRecordWord index) = false
+is_rest ExchangeState = false
+is_rest LoadFinalState = false
+is_rest LoadReply = false
+
+-- the process has begun a call
+abbrev pub has_called : Way → Bool
+has_called Fresh = false
+has_called Alone = false
+has_called Calls = true
+
+-- what a process is at, by its stage in a call: a transfer that is begun outside any call moves, that of a call waits between two
+abbrev pub phase_at : ProcessView → CallStage → Phase
+phase_at v call.Between = if is_rest v.transfer.next || has_called v.calls.way then phase.Between else phase.Moving (stage_of v.transfer)
+phase_at v call.Moving = phase.Moving (stage_of v.transfer)
+phase_at v call.Own = phase.Own
+
+-- what a process is at
+abbrev pub phase_of : ProcessView → Phase
+phase_of v = phase_at v v.calls.stage
+
+-- where a transfer stands that isn't moving in this phase
+abbrev pub waiting_in : ProcessView → Phase → Option Stage
+waiting_in v phase.Between = Some (stage_of v.transfer)
+waiting_in v (phase.Moving stage) = None
+waiting_in v phase.Own = Some (stage_of v.transfer)
+
+-- where the pending transfer stands while the process is between two calls or at the own step of one
+abbrev pub waiting_of : ProcessView → Option Stage
+waiting_of v = if is_rest v.transfer.next then None else waiting_in v (phase_of v)
