@@ -8,3 +8,4 @@ pub mod Own
 pub mod Counts
 pub mod Opened
 pub mod Gives
+pub mod Calls

@@ -1,5 +1,5 @@
 -- beginnings and steps of transfers, and changes of the state, move batches alone: the blocks stay where they are
-use Rattle.std.proofs.Common.{◌≡◌, ℕ, ◌+◌, ◌*◌, ◌<◌, ◌≤◌, true, false, refl, inl, inr, length, arith}
+use Rattle.std.proofs.Common.{sym, ◌∙◌, ◌≡◌, ℕ, ◌+◌, ◌*◌, ◌<◌, ◌≤◌, true, false, refl, inl, inr, length, arith}
 use Rattle.std.specs.Prelude.{slice_index}
 use Rattle.std.proofs.lemmas.Bool.{cases_eq}
 use Rattle.word_layout.specs.Sizes.{Sizes, IsShape}
@@ -18,7 +18,7 @@ use Rattle.transfer_machine.specs.declared.stage.NextStep.{NextStep}
 use Rattle.transfer_machine.specs.declared.stage.NextStep.TheVariants.{Rest, Announce, LoadState, LoadRecordWord, LoadCoveredSlot, ExchangeSlot, LoadAnnouncement, LoadPoppedSlot, StoreRecordWord, ExchangeState, LoadFinalState, LoadReply}
 use Rattle.transfer_invariant.specs.Installing.{planned_state}
 use Rattle.transfer_invariant.specs.Memory.{Words}
-use Rattle.batch_invariant.specs.Places.{moving, current_batch}
+use Rattle.batch_invariant.specs.Places.{moving, current_batch, process_batches}
 use Rattle.batch_invariant.specs.Batches.{ProcessViews, MovedProcess, ReplyMatches, weight, is_head}
 use Rattle.batch_invariant.specs.Premises.{InStep, PendingIsPresent, InstallsNext}
 use Rattle.batch_invariant.proofs.Sums.{total_nothing}
@@ -27,6 +27,7 @@ use Rattle.batch_invariant.proofs.Transit.{HeadsFit, Carried, is_large, small_wh
 use Rattle.batch_invariant.proofs.Steps.{KeepsBatches, stage_keeps, begun_keeps, ended_current}
 use Rattle.batch_invariant.proofs.Installing.{next_carried, planned_carried}
 use Rattle.chain_invariant.specs.Chains.{BlockLists, ChainsHold, NextsStay, pool_weight, blocks_weight}
+use Rattle.chain_invariant.specs.Steps.{SameParts}
 use Rattle.chain_invariant.proofs.Lists.{chain_stays}
 use Rattle.chain_invariant.proofs.Pool.{pool_parts, pool_moved, pool_le, pool_each}
 use Rattle.chain_invariant.proofs.Places.{batch_stays, current_stays, head_low}
@@ -71,10 +72,21 @@ batches_same s i v x f current keeps = omega (arith, keeps.same_weight f, parts_
 current_same : (f : ℕ → ℕ) (v x : PoolView) → KeepsCurrent v x → weight f (current_batch x) ≡ weight f (current_batch v)
 current_same f v x keeps = rw (keeps.current, keeps.head) refl
 
-pub process_moves : (sizes : Sizes) (words : Words) (s : StackState) (views after : ProcessViews) (batch_blocks current_blocks held_blocks : BlockLists) (i : ℕ) (x : ProcessView) → i < sizes.processes
-    → ChainsHold sizes words s views batch_blocks current_blocks held_blocks → MovedProcess i x views after → KeepsBatches s i (views i) x → KeepsCurrent (views i).pool x.pool
+same_parts_keep : (s : StackState) (i : ℕ) (v x y : ProcessView) → SameParts x y → KeepsBatches s i v y → KeepsBatches s i v x
+same_parts_keep s i v x y same keeps = record {
+  same_weight = λ f. sym (weight_of f) ∙ keeps.same_weight f;
+  matches = λ h. rw same.transfer (keeps.matches h);
+}
+  where
+    weight_of : (f : ℕ → ℕ) → weight f (process_batches s i y) ≡ weight f (process_batches s i x)
+    weight_of f = rw (parts_weight f s i x, parts_weight f s i y, same.transfer, same.pool) refl
+
+pub process_moves : (sizes : Sizes) (words : Words) (s : StackState) (views after : ProcessViews) (batch_blocks current_blocks held_blocks : BlockLists) (i : ℕ) (x y : ProcessView) → i < sizes.processes
+    → ChainsHold sizes words s views batch_blocks current_blocks held_blocks → SameParts x y → MovedProcess i x views after → KeepsBatches s i (views i) y → KeepsCurrent (views i).pool y.pool
     → ChainsHold sizes words s after batch_blocks current_blocks held_blocks
-process_moves sizes words s views after batch_blocks current_blocks held_blocks i x li hold moved keeps current =
+process_moves sizes words s views after batch_blocks current_blocks held_blocks i x y li hold same moved keeps_y current_y =
+    let keeps = same_parts_keep s i (views i) x y same keeps_y in
+    let current : KeepsCurrent (views i).pool x.pool = rw same.pool current_y in
     chains_stay sizes words s s views after batch_blocks current_blocks held_blocks hold
     (λ f. omega (arith, pool_moved sizes s views after i x f li moved, batches_same s i (views i) x f (current_same f (views i).pool x.pool current) keeps))
     (λ o lo. elim (cases_eq o i) [ inl e ↦ rw e (rw moved.here current) | inr ne ↦ rw (moved.elsewhere o ne) (record { head = refl; current = refl }) ])
@@ -107,17 +119,17 @@ met_keeps_current word pool ExchangeState = record { head = refl; current = refl
 met_keeps_current word pool LoadFinalState = record { head = refl; current = refl }
 met_keeps_current word pool LoadReply = counted_ended pool (pool_ended (reply_of (value_of word)) (step_counted pool)) (ended_keeps_current (reply_of (value_of word)) (step_counted pool))
 
-pub beginning_keeps : (sizes : Sizes) (words : Words) (s : StackState) (views after : ProcessViews) (batch_blocks current_blocks held_blocks : BlockLists) (i : ℕ) (wish : Wish) → i < sizes.processes
-    → ChainsHold sizes words s views batch_blocks current_blocks held_blocks → (views i).transfer.next ≡ Rest → MayBegin wish (views i).pool → MovedProcess i (view_begun wish (views i)) views after
+pub beginning_keeps : (sizes : Sizes) (words : Words) (s : StackState) (views after : ProcessViews) (batch_blocks current_blocks held_blocks : BlockLists) (i : ℕ) (wish : Wish) (x : ProcessView) → i < sizes.processes
+    → ChainsHold sizes words s views batch_blocks current_blocks held_blocks → (views i).transfer.next ≡ Rest → MayBegin wish (views i).pool → SameParts x (view_begun wish (views i)) → MovedProcess i x views after
     → ChainsHold sizes words s after batch_blocks current_blocks held_blocks
-beginning_keeps sizes words s views after batch_blocks current_blocks held_blocks i wish li hold rest may moved =
-    process_moves sizes words s views after batch_blocks current_blocks held_blocks i (view_begun wish (views i)) li hold moved (begun_keeps s i wish (views i) rest may) (begun_keeps_current wish (views i).pool)
+beginning_keeps sizes words s views after batch_blocks current_blocks held_blocks i wish x li hold rest may same moved =
+    process_moves sizes words s views after batch_blocks current_blocks held_blocks i x (view_begun wish (views i)) li hold same moved (begun_keeps s i wish (views i) rest may) (begun_keeps_current wish (views i).pool)
 
-pub step_keeps : (sizes : Sizes) (words : Words) (s : StackState) (views after : ProcessViews) (batch_blocks current_blocks held_blocks : BlockLists) (i word : ℕ) → i < sizes.processes
-    → ChainsHold sizes words s views batch_blocks current_blocks held_blocks → InStep s i (views i).transfer word → MovedProcess i (view_met sizes (views i) word) views after
+pub step_keeps : (sizes : Sizes) (words : Words) (s : StackState) (views after : ProcessViews) (batch_blocks current_blocks held_blocks : BlockLists) (i word : ℕ) (x : ProcessView) → i < sizes.processes
+    → ChainsHold sizes words s views batch_blocks current_blocks held_blocks → InStep s i (views i).transfer word → SameParts x (view_met sizes (views i) word) → MovedProcess i x views after
     → ChainsHold sizes words s after batch_blocks current_blocks held_blocks
-step_keeps sizes words s views after batch_blocks current_blocks held_blocks i word li hold step moved =
-    process_moves sizes words s views after batch_blocks current_blocks held_blocks i (view_met sizes (views i) word) li hold moved
+step_keeps sizes words s views after batch_blocks current_blocks held_blocks i word x li hold step same moved =
+    process_moves sizes words s views after batch_blocks current_blocks held_blocks i x (view_met sizes (views i) word) li hold same moved
     (stage_keeps sizes s i (views i) word (views i).transfer.next refl step (hold.replies i li)) (met_keeps_current word (views i).pool (views i).transfer.next)
 
 -- a change of the state moves batches between what is in transit and the content

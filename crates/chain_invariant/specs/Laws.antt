@@ -25,7 +25,7 @@ use Rattle.batch_invariant.specs.Places.{moving}
 use Rattle.batch_invariant.specs.Batches.{ProcessViews, MovedProcess, is_head}
 use Rattle.batch_invariant.specs.Premises.{InStep, PendingIsPresent, InstallsNext, SameStack}
 use Rattle.chain_invariant.specs.Chains.{BlockLists, ChainsHold, Chains, MovedList, NextsStay, OtherNextsStay, times_pooled, blocks_weight, without}
-use Rattle.chain_invariant.specs.Steps.{KeepsLists, FirstLeaves, SpareOpens, FirstComes, ListStarts}
+use Rattle.chain_invariant.specs.Steps.{SameParts, KeepsLists, FirstLeaves, SpareOpens, FirstComes, ListStarts}
 
 -- at the opening each block is at one place, and none is held
 abbrev pub OpeningHasChains : Type 0
@@ -39,19 +39,21 @@ OpeningHasChains = (sizes : Sizes) (words : Words) (s : StackState) (views : Pro
 
 -- a process at rest that begins a transfer keeps that
 abbrev pub BeginningsKeepChains : Type 0
-BeginningsKeepChains = (sizes : Sizes) (words : Words) (s : StackState) (views after : ProcessViews) (held : BlockLists) (i : ℕ) (wish : Wish) → i < sizes.processes
+BeginningsKeepChains = (sizes : Sizes) (words : Words) (s : StackState) (views after : ProcessViews) (held : BlockLists) (i : ℕ) (wish : Wish) (x : ProcessView) → i < sizes.processes
     → Chains sizes words s views held
     → (views i).transfer.next ≡ Rest
     → MayBegin wish (views i).pool
-    → MovedProcess i (view_begun wish (views i)) views after
+    → SameParts x (view_begun wish (views i))
+    → MovedProcess i x views after
     → Chains sizes words s after held
 
 -- so does a step of a transfer that leaves the state
 abbrev pub StepsKeepChains : Type 0
-StepsKeepChains = (sizes : Sizes) (words : Words) (s : StackState) (views after : ProcessViews) (held : BlockLists) (i word : ℕ) → i < sizes.processes
+StepsKeepChains = (sizes : Sizes) (words : Words) (s : StackState) (views after : ProcessViews) (held : BlockLists) (i word : ℕ) (x : ProcessView) → i < sizes.processes
     → Chains sizes words s views held
     → InStep s i (views i).transfer word
-    → MovedProcess i (view_met sizes (views i) word) views after
+    → SameParts x (view_met sizes (views i) word)
+    → MovedProcess i x views after
     → Chains sizes words s after held
 
 -- it holds of the states that come of one by the announcements of the first so many processes
@@ -70,12 +72,13 @@ SameStatesKeepChains = (sizes : Sizes) (words : Words) (s t : StackState) (views
 
 -- the step of a transfer on the words keeps it, of the present state before and after
 abbrev pub TransfersKeepChains : Type 0
-TransfersKeepChains = (sizes : Sizes) (words new : Words) (views after : ProcessViews) (states : States) (held : BlockLists) (i : ℕ) → IsShape sizes → i < sizes.processes
+TransfersKeepChains = (sizes : Sizes) (words new : Words) (views after : ProcessViews) (states : States) (held : BlockLists) (i : ℕ) (x : ProcessView) → IsShape sizes → i < sizes.processes
     → Chains sizes words (states (state_tag words)) views held
     → InStep (states (state_tag words)) i (views i).transfer (words (name_of (action_of sizes (views i).transfer)))
     → ((views i).transfer.next ≡ ExchangeState → words State ≡ (views i).transfer.loaded.state → InstallsNext sizes (states (state_tag words)) views (views i).transfer)
     → Acted sizes (action_of sizes (views i).transfer) words new
-    → MovedProcess i (view_met sizes (views i) (words (name_of (action_of sizes (views i).transfer)))) views after
+    → SameParts x (view_met sizes (views i) (words (name_of (action_of sizes (views i).transfer))))
+    → MovedProcess i x views after
     → Chains sizes new (states_after words (views i).transfer states (state_tag new)) after held
 
 -- a step that changes no next word and no list keeps it: it gets no block, or it is one on data

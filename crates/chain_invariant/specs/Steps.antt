@@ -5,6 +5,11 @@ use Rattle.transfer_machine.specs.declared.view.PoolView.{PoolView}
 use Rattle.transfer_machine.specs.declared.view.ProcessView.{ProcessView}
 use Rattle.transfer_invariant.specs.Memory.{Words}
 
+-- a view with the transfer and the pool of another: what else it has doesn't matter here
+pub record SameParts (x v : ProcessView) : Type 0 where
+  pub transfer : x.transfer ≡ v.transfer
+  pub pool : x.pool ≡ v.pool
+
 -- a view whose lists and whose transfer are those of another
 pub record KeepsLists (old new : ProcessView) : Type 0 where
   pub transfer : new.transfer ≡ old.transfer
