@@ -175,3 +175,88 @@ module _ (sizes : Sizes) (words new : Words) (s : StackState) (views after : Pro
       quiet (ap (λ p. p.head) pool) (ap (λ p. p.plan.current) pool) (ap (λ p. p.heads) pool) (acts_elsewhere sizes (Load (Data block index)) words new refl a) same
   own_chains_at (Some (Write block index value)) within names a pool same =
       quiet (ap (λ p. p.head) pool) (ap (λ p. p.plan.current) pool) (ap (λ p. p.heads) pool) (acts_elsewhere sizes (Store (Data block index) value) words new refl a) same
+
+-- the block that an allocate gets is free, and what its step names is in range
+module _ (sizes : Sizes) (words : Words) (s : StackState) (views : ProcessViews) (held : BlockLists) (i : ℕ) (shape : IsShape sizes) (li : i < sizes.processes) (chains : Chains sizes words s views held)
+    (heads : length (views i).pool.heads ≡ (views i).pool.plan.spares) where
+  got_at : (t u : Bool) (block : ℕ) → nat_lt 0 (views i).pool.plan.current ≡ t → nat_lt 0 (views i).pool.plan.spares ≡ u
+      → block_from (views i).pool (if t then source.Current else (if u then source.Spare else source.Nothing)) ≡ Some block → IsFree sizes held block
+  got_at true u block et eu e =
+      let lists = current_lists_are_free sizes words s views held i li chains in
+      let same : (views i).pool.head - 1 ≡ block = cc in
+      rw same at (lists.2 (λ none. omega (arith, none, tests_some (views i).pool.plan.current et)))
+  got_at false true block et eu e =
+      let same : newest (views i).pool ≡ block = cc in
+      rw same at (spares_are_free sizes words s views held i (length (views i).pool.heads - 1) shape li chains (omega (arith, heads, tests_some (views i).pool.plan.spares eu))).0
+  got_at false false block et eu e = absurd cc
+
+  pub got_is_free : (block : ℕ) → next_block (views i).pool ≡ Some block → IsFree sizes held block
+  got_is_free block e = got_at (nat_lt 0 (views i).pool.plan.current) (nat_lt 0 (views i).pool.plan.spares) block refl refl e
+
+  -- of an allocate
+  allocate_can : (t u : Bool) → nat_lt 0 (views i).pool.plan.current ≡ t → nat_lt 0 (views i).pool.plan.spares ≡ u
+      → CanAllocate sizes (views i).pool (if t then source.Current else (if u then source.Spare else source.Nothing))
+      × CanFollow (words (name_of (allocate_action (block_from (views i).pool (if t then source.Current else (if u then source.Spare else source.Nothing)))))) (if t then source.Current else (if u then source.Spare else source.Nothing))
+      × InRange sizes (name_of (allocate_action (block_from (views i).pool (if t then source.Current else (if u then source.Spare else source.Nothing)))))
+  allocate_can true u et eu =
+      let some = tests_some (views i).pool.plan.current et in
+      let lists = current_lists_are_free sizes words s views held i li chains in
+      let first = lists.1 (λ e. omega arith) in
+      let free = lists.2 (λ e. omega arith) in
+      let next = lists.3 (λ e. omega arith) in
+      ((first, omega (arith, first, free.low)), omega (arith, next, shape.few_blocks), free.low)
+  allocate_can false true et eu =
+      let some : 1 ≤ length (views i).pool.heads = omega (arith, heads, tests_some (views i).pool.plan.spares eu) in
+      let spare = spares_are_free sizes words s views held i (length (views i).pool.heads - 1) shape li chains (omega (arith, some)) in
+      ((some, spare.0.low), omega (arith, spare.1, shape.few_blocks), spare.0.low)
+  allocate_can false false et eu = (tt, tt, tt)
+
+  -- of a free
+  free_can : (t : Bool) → (views i).pool.plan.length ≡ sizes.length → (views i).pool.plan.current ≤ sizes.length → nat_lt (views i).pool.plan.current (views i).pool.plan.length ≡ t
+      → ((views i).pool.plan.current ≡ sizes.length → length (views i).pool.heads < 3) → CanFree (views i).pool (if t then target.Current else target.Fresh)
+  free_can true size within et room = tt
+  free_can false size within et room =
+      let full : (views i).pool.plan.current ≡ sizes.length = omega (arith, tests_full (views i).pool.plan.current (views i).pool.plan.length et, size, within) in
+      let lists = current_lists_are_free sizes words s views held i li chains in
+      (lists.1 (λ e. omega (arith, e, full, two_blocks_a_batch sizes shape)), room full)
+
+  held_low : (block : ℕ) → Contains (held i) block → block < blocks sizes
+  held_low block has = (held_are_apart sizes words s views held i block li chains has).0
+
+  -- of any call
+  pub own_can_at : (call : Option Call) → (views i).pool.plan.length ≡ sizes.length → (views i).pool.plan.current ≤ sizes.length → NamesHeld sizes (held i) call
+      → ((views i).pool.plan.current ≡ sizes.length → length (views i).pool.heads < 3)
+      → CanOwnFor sizes (views i).pool call × CanMeetOwnFor (views i).pool (words (name_of (own_action_for (views i).pool call))) call × InRange sizes (name_of (own_action_for (views i).pool call))
+  own_can_at None size within names room = (tt, tt, tt)
+  own_can_at (Some Allocate) size within names room = allocate_can (nat_lt 0 (views i).pool.plan.current) (nat_lt 0 (views i).pool.plan.spares) refl refl
+  own_can_at (Some (Free block)) size within names room =
+      ((held_low block names, free_can (nat_lt (views i).pool.plan.current (views i).pool.plan.length) size within refl room), tt, held_low block names)
+  own_can_at (Some (Read block index)) size within names room = ((held_low block names.0, names.1), tt, (held_low block names.0, names.1))
+  own_can_at (Some (Write block index value)) size within names room = ((held_low block names.0, names.1), tt, (held_low block names.0, names.1))
+
+-- a call begins, with the transfer that is due
+module _ (sizes : Sizes) (words : Words) (s : StackState) (views after : ProcessViews) (held : BlockLists) (i : ℕ) (x : ProcessView) (li : i < sizes.processes) (chains : Chains sizes words s views held)
+    (can : CanBegin (views i)) (moved : MovedProcess i x views after) where
+  as_it_was : SameParts x (views i) → Chains sizes words s after held
+  as_it_was same = quiet_chains sizes words words s views after held i x li chains (record {
+    transfer = same.transfer;
+    head = ap (λ p. p.head) same.pool;
+    current = ap (λ p. p.plan.current) same.pool;
+    heads = ap (λ p. p.heads) same.pool;
+  }) moved (λ b lt. refl)
+
+  due_begun : (wish : Option Wish) → due (views i).pool ≡ wish → SameParts x (begun_if_due wish (views i)) → Chains sizes words s after held
+  due_begun None e same = as_it_was same
+  due_begun (Some wish) e same =
+      let begins = due_begins (views i) wish can e in
+      record {
+        batch_blocks = chains.batch_blocks;
+        current_blocks = chains.current_blocks;
+        hold = beginning_keeps sizes words s views after chains.batch_blocks chains.current_blocks held i wish x li chains.hold begins.rest begins.may same moved;
+      }
+
+  pub call_begins : (call : Call) → SameParts x (call_begun call (views i)) → Chains sizes words s after held
+  call_begins Allocate same = due_begun (due (views i).pool) refl (record { transfer = same.transfer; pool = same.pool })
+  call_begins (Free block) same = due_begun (due (views i).pool) refl (record { transfer = same.transfer; pool = same.pool })
+  call_begins (Read block index) same = as_it_was (record { transfer = same.transfer; pool = same.pool })
+  call_begins (Write block index value) same = as_it_was (record { transfer = same.transfer; pool = same.pool })

@@ -1,4 +1,5 @@
 //! Each block is at one place. Each law is the contract of a call that does nothing.
+ghost use Rattle.chain_invariant.specs.Calls.{CallsBeginWithChains, OwnStepsKeepChains, GotBlocksAreFree, OwnStepsCanBeMade, SameHeldKeepChains};
 ghost use Rattle.chain_invariant.specs.Laws.{OpeningHasChains, BeginningsKeepChains, StepsKeepChains, NextStatesKeepChains, SameStatesKeepChains, TransfersKeepChains, QuietStepsKeepChains, LeavingKeepsChains, OpeningASpareKeepsChains, ComingKeepsChains, StartingKeepsChains, CurrentListsAreFree, SparesAreFree, HeldAreApart, BlocksAreOnce, StackHasRoom, HeadsAreBlocks, HeadsAreApart, GivesAreBlocks, PlansHaveRoom, EndsAnswerWishes, BlocksAreCounted, FewAreFree};
 
 /// At the opening each block is at one place.
@@ -70,4 +71,13 @@ pub fn replies()
 pub fn counts()
     ensures all { BlocksAreCounted }
     ensures few { FewAreFree }
+{}
+
+/// The calls of processes keep it as the machine of calls makes them: their beginnings and their own steps.
+pub fn calls()
+    ensures begun { CallsBeginWithChains }
+    ensures own { OwnStepsKeepChains }
+    ensures got { GotBlocksAreFree }
+    ensures made { OwnStepsCanBeMade }
+    ensures same { SameHeldKeepChains }
 {}
