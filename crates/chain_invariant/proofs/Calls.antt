@@ -1,17 +1,14 @@
 -- calls as the machine makes them: their beginnings, and their own steps by where a block comes from or goes to
-use Rattle.std.proofs.Common.{◌≡◌, ◌≢◌, ℕ, ◌+◌, ◌-◌, ◌<◌, ◌≤◌, ◌^◌, ◌==◌, Bool, true, false, Option, None, Some, refl, sym, ap, ◌∙◌, inl, inr, List, [], ◌∷◌, ◌++◌, length, take, arith}
-use Rattle.std.specs.Prelude.{if◌then◌else◌, nat_lt, slice_index, Contains}
+use Rattle.std.proofs.Common.{◌≡◌, ℕ, ◌+◌, ◌-◌, ◌<◌, ◌≤◌, Bool, true, false, Option, None, Some, refl, ap, ◌∙◌, inl, inr, length, arith}
+use Rattle.std.specs.Prelude.{if◌then◌else◌, nat_lt, Contains}
 use Rattle.std.proofs.lemmas.Bool.{cases_eq}
 use Rattle.std.proofs.lemmas.Bool.Decides.{nat_tests}
 use Rattle.word_layout.specs.Names.{InRange}
 use Rattle.word_layout.specs.Sizes.{Sizes, IsShape, blocks}
 use Rattle.word_layout.specs.declared.announced.Wish.{Wish}
-use Rattle.word_layout.specs.declared.name.WordName.{WordName}
 use Rattle.word_layout.specs.declared.name.WordName.TheVariants.{State, Next, Data}
 use Rattle.word_layout.proofs.Limits.{two_blocks_a_batch}
 use Rattle.transfer_schedule.specs.Numbers as schedule
-use Rattle.transfer_schedule.specs.declared.own_step.Source.{Source}
-use Rattle.transfer_schedule.specs.declared.own_step.Target.{Target}
 use Rattle.transfer_schedule.specs.declared.own_step.Source.TheVariants as source
 use Rattle.transfer_schedule.specs.declared.own_step.Target.TheVariants as target
 use Rattle.transfer_machine.specs.States.{StackState}
@@ -19,20 +16,18 @@ use Rattle.transfer_machine.specs.Words.{name_of}
 use Rattle.transfer_machine.specs.declared.action.Action.TheVariants.{Load, Store}
 use Rattle.transfer_machine.specs.declared.call.Call.{Call}
 use Rattle.transfer_machine.specs.declared.call.Call.TheVariants.{Allocate, Free, Read, Write}
-use Rattle.transfer_machine.specs.declared.view.PoolView.{PoolView}
 use Rattle.transfer_machine.specs.declared.view.ProcessView.{ProcessView}
 use Rattle.transfer_invariant.specs.Memory.{Words, Acted}
-use Rattle.pool_machine.specs.Beginning.{newest, due, begun_if_due, before_call, call_begun}
-use Rattle.pool_machine.specs.OwnSteps.{block_from, next_block, allocate_action, follower, own_action_for, own_action, allocated, freed, pool_own_met, own_met}
-use Rattle.pool_machine.specs.Ready.{CanBegin, CanAllocate, CanFree, CanOwnFor, CanOwn, CanFollow, CanMeetOwnFor, CanMeetOwn}
+use Rattle.pool_machine.specs.Beginning.{newest, due, begun_if_due, call_begun}
+use Rattle.pool_machine.specs.OwnSteps.{block_from, next_block, allocate_action, follower, own_action_for, allocated, freed, pool_own_met}
+use Rattle.pool_machine.specs.Ready.{CanBegin, CanAllocate, CanFree, CanOwnFor, CanFollow, CanMeetOwnFor}
 use Rattle.pool_machine.proofs.Plans.{due_begins}
 use Rattle.batch_invariant.specs.Batches.{ProcessViews, MovedProcess, weight}
-use Rattle.transfer_invariant.specs.Tags.{total}
 use Rattle.transfer_invariant.proofs.Installs.{total_same}
-use Rattle.chain_invariant.specs.Calls.{with_got, held_by_call, NamesHeld, OwnStepFits}
+use Rattle.chain_invariant.specs.Calls.{with_got, held_by_call, NamesHeld}
 use Rattle.chain_invariant.specs.Chains.{BlockLists, ChainsHold, Chains, MovedList, NextsStay, OtherNextsStay, blocks_weight, without}
 use Rattle.chain_invariant.specs.Laws.{IsFree}
-use Rattle.chain_invariant.specs.Steps.{SameParts, KeepsLists, FirstLeaves, SpareOpens, FirstComes, ListStarts}
+use Rattle.chain_invariant.specs.Steps.{SameParts}
 use Rattle.chain_invariant.proofs.Gives.{current_lists_are_free, spares_are_free, held_are_apart}
 use Rattle.chain_invariant.proofs.Moves.{beginning_keeps}
 use Rattle.chain_invariant.proofs.Own.{quiet_chains, leaving_chains, spare_chains, coming_chains, starting_chains}

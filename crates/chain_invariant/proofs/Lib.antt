@@ -9,3 +9,4 @@ pub mod Counts
 pub mod Opened
 pub mod Gives
 pub mod Calls
+pub mod Kept

@@ -1,5 +1,5 @@
 -- the own steps of calls, as the machine of calls makes them, keep each block at one place
-use Rattle.std.specs.Prelude.{◌≡◌, ℕ, ◌+◌, ◌<◌, ◌≤◌, Option, None, Some, List, ◌∷◌, length, Contains}
+use Rattle.std.specs.Prelude.{◌≡◌, ℕ, ◌<◌, ◌≤◌, Option, None, Some, List, ◌∷◌, length, Contains}
 use Rattle.word_layout.specs.Names.{InRange}
 use Rattle.word_layout.specs.Sizes.{Sizes, IsShape}
 use Rattle.transfer_machine.specs.States.{StackState}

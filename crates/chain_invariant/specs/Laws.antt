@@ -7,6 +7,7 @@ use Rattle.word_layout.specs.declared.announced.Wish.{Wish}
 use Rattle.word_layout.specs.declared.announced.Wish.TheVariants.{Take, Give}
 use Rattle.word_layout.specs.declared.name.WordName.TheVariants.{State, Next}
 use Rattle.word_layout.specs.declared.reply.Reply.TheVariants.{Gave}
+use Rattle.transfer_schedule.specs.Numbers.{is_idle, withheld}
 use Rattle.transfer_machine.specs.Machine.{action_of}
 use Rattle.transfer_machine.specs.Opening.{opening_base, opening_slot, opening_next}
 use Rattle.transfer_machine.specs.Pools.{opening_view, view_begun, view_met, MayBegin}
@@ -215,6 +216,16 @@ EndsAnswerWishes = (sizes : Sizes) (words : Words) (s : StackState) (views : Pro
 -- how many blocks a process keeps: its current list, its spares, and its batch in transit
 abbrev pub kept_blocks : Sizes → StackState → ℕ → ProcessView → ℕ
 kept_blocks sizes s i v = v.pool.plan.current + sizes.length * (length v.pool.heads + length (moving s i v.transfer))
+
+-- a process's numbers count its batches: each spare has its head, and where nothing is pending its transfer is at rest
+pub record CountsItsBatches (sizes : Sizes) (v : ProcessView) : Type 0 where
+  pub size : v.pool.plan.length ≡ sizes.length
+  pub heads : length v.pool.heads ≡ v.pool.plan.spares
+  pub idle : is_idle v.pool.plan.pending ≡ true → v.transfer.next ≡ Rest
+
+-- so what it keeps is at most what its plan says that it withholds, in whatever state
+abbrev pub KeptIsWithheld : Type 0
+KeptIsWithheld = (sizes : Sizes) (s : StackState) (i : ℕ) (v : ProcessView) → CountsItsBatches sizes v → kept_blocks sizes s i v ≤ withheld v.pool.plan
 
 -- what the processes keep, what they hold, and the batches of the content are all blocks
 abbrev pub BlocksAreCounted : Type 0

@@ -1,6 +1,6 @@
 //! Each block is at one place. Each law is the contract of a call that does nothing.
 ghost use Rattle.chain_invariant.specs.Calls.{CallsBeginWithChains, OwnStepsKeepChains, GotBlocksAreFree, OwnStepsCanBeMade, SameHeldKeepChains};
-ghost use Rattle.chain_invariant.specs.Laws.{OpeningHasChains, BeginningsKeepChains, StepsKeepChains, NextStatesKeepChains, SameStatesKeepChains, TransfersKeepChains, QuietStepsKeepChains, LeavingKeepsChains, OpeningASpareKeepsChains, ComingKeepsChains, StartingKeepsChains, CurrentListsAreFree, SparesAreFree, HeldAreApart, BlocksAreOnce, StackHasRoom, HeadsAreBlocks, HeadsAreApart, GivesAreBlocks, PlansHaveRoom, EndsAnswerWishes, BlocksAreCounted, FewAreFree};
+ghost use Rattle.chain_invariant.specs.Laws.{OpeningHasChains, BeginningsKeepChains, StepsKeepChains, NextStatesKeepChains, SameStatesKeepChains, TransfersKeepChains, QuietStepsKeepChains, LeavingKeepsChains, OpeningASpareKeepsChains, ComingKeepsChains, StartingKeepsChains, CurrentListsAreFree, SparesAreFree, HeldAreApart, BlocksAreOnce, StackHasRoom, HeadsAreBlocks, HeadsAreApart, GivesAreBlocks, PlansHaveRoom, EndsAnswerWishes, BlocksAreCounted, KeptIsWithheld, FewAreFree};
 
 /// At the opening each block is at one place.
 pub fn opening()
@@ -70,6 +70,7 @@ pub fn replies()
 /// All blocks are kept, held or in the content; so few are free where the content is empty.
 pub fn counts()
     ensures all { BlocksAreCounted }
+    ensures kept { KeptIsWithheld }
     ensures few { FewAreFree }
 {}
 
