@@ -4,8 +4,8 @@ use Rattle.std.specs.Prelude.{if◌then◌else◌}
 use Rattle.std.proofs.lemmas.Bool.{cases_eq}
 use Rattle.std.proofs.lemmas.Bool.Decides.{nat_tests}
 use Rattle.std.proofs.lemmas.List.Sums.{sum_by-cons}
-use Rattle.word_layout.specs.Sizes.{Sizes, IsShape}
-use Rattle.word_layout.specs.Packing.{reply_value, reply_of, FitsWish, FitsReply}
+use Rattle.word_layout.specs.Sizes.{Sizes}
+use Rattle.word_layout.specs.Packing.{reply_value, reply_of, FitsReply}
 use Rattle.word_layout.specs.declared.announced.Wish.{Wish}
 use Rattle.word_layout.specs.declared.announced.Wish.TheVariants.{Take, Give}
 use Rattle.word_layout.specs.declared.reply.Reply.TheVariants.{Nothing, Took, Gave}
@@ -16,11 +16,11 @@ use Rattle.transfer_machine.specs.declared.transfer.TransferView.{TransferView}
 use Rattle.transfer_invariant.specs.Progress.{has_announced}
 use Rattle.transfer_invariant.specs.Tags.{total}
 use Rattle.transfer_invariant.proofs.Installs.{total_same, total_moved}
-use Rattle.batch_invariant.specs.Places.{given, taken, moving, current_batch, process_batches}
-use Rattle.batch_invariant.specs.Batches.{ProcessViews, BatchesHold, BatchesPlaced, ReplyMatches, IsBatch, WishIsBatch, placed_weight, weight}
+use Rattle.batch_invariant.specs.Places.{given, taken, moving}
+use Rattle.batch_invariant.specs.Batches.{ProcessViews, ReplyMatches, weight}
 use Rattle.batch_invariant.proofs.Sums.{total_more}
-use Rattle.batch_invariant.proofs.Moving.{moving_same_state, moving_pending, moving_applied, parts_weight}
-use Rattle.batch_invariant.proofs.Heads.{content_is_batch}
+use Rattle.batch_invariant.proofs.Moving.{moving_same_state, moving_pending, moving_applied}
+use Rattle.batch_invariant.proofs.Transit.{transit_weight, HeadsFit, content_fits, Carried}
 
 -- the state once a wish of a process is granted and answered
 abbrev pub with_granted : ℕ → Bool → Wish → StackState → StackState
@@ -33,23 +33,16 @@ pub put_elsewhere : (place value : ℕ) (values : ℕ → ℕ) (k : ℕ) → k �
 put_elsewhere place value values k ne = let test : (k == place) ≡ false = grind (arith, nat_tests) in rw test refl
 
 -- replies that fit
-head_fits : (sizes : Sizes) (head : ℕ) → IsShape sizes → IsBatch sizes head → head < 2 ^ 22
-head_fits sizes head shape is = omega (arith, shape.few_blocks, is.block)
-
-pub wish_fits : (sizes : Sizes) (wish : Wish) → IsShape sizes → WishIsBatch sizes wish → FitsWish wish
-wish_fits sizes Take shape is = tt
-wish_fits sizes (Give head) shape is = head_fits sizes head shape is
-
 taken_fits : (t : Bool) (head : ℕ) → (t ≡ false → head < 2 ^ 22) → FitsReply (if t then Nothing else Took head)
 taken_fits true head h = tt
 taken_fits false head h = h refl
 
-answer_fits : (sizes : Sizes) (s : StackState) (wish : Wish) → IsShape sizes → ((place : ℕ) → place < s.height → IsBatch sizes (s.content place)) → FitsReply (answer_to wish s)
-answer_fits sizes s Take shape heads = taken_fits (s.height == 0) (s.content (s.height - 1)) (λ e. head_fits sizes (s.content (s.height - 1)) shape (heads (s.height - 1) (not_empty s.height e)))
+answer_fits : (s : StackState) (wish : Wish) → ((place : ℕ) → place < s.height → s.content place < 2 ^ 22) → FitsReply (answer_to wish s)
+answer_fits s Take heads = taken_fits (s.height == 0) (s.content (s.height - 1)) (λ e. heads (s.height - 1) (not_empty s.height e))
   where
     not_empty : (n : ℕ) → (n == 0) ≡ false → n - 1 < n
     not_empty n e = grind (arith, nat_tests)
-answer_fits sizes s (Give head) shape heads = tt
+answer_fits s (Give head) heads = tt
 
 -- the content and what was in transit before, the content and what is in transit after
 content_weight : (ℕ → ℕ) → StackState → ℕ
@@ -76,15 +69,15 @@ wish_moves f s (Give head) = omega (arith, give_moves f s.height s.content head,
 pub same_matches : (s t : StackState) (i : ℕ) (v : TransferView) → t.reply i ≡ s.reply i → t.applied i ≡ s.applied i → ReplyMatches s i v → ReplyMatches t i v
 same_matches s t i v er ea h = record { gave = λ a e w. rw er (h.gave a (rw ea at e) w); took = λ a e w. rw er (h.took a (rw ea at e) w) }
 
--- the process's batches before and after, and those of the others
-module _ (sizes : Sizes) (s : StackState) (views : ProcessViews) (k : ℕ) (odd : Bool) (shape : IsShape sizes) (hold : BatchesHold sizes s views) (lk : k < sizes.processes)
+-- what is in transit by the process before and after, and by the others
+module _ (sizes : Sizes) (s : StackState) (views : ProcessViews) (k : ℕ) (odd : Bool) (fits : HeadsFit sizes s views) (lk : k < sizes.processes)
     (announced : has_announced (views k).transfer.next ≡ true) (next : s.applied k + 1 ≡ (views k).transfer.age) where
   granted_applied : (with_granted k odd (views k).transfer.wish s).applied k ≡ (views k).transfer.age
   granted_applied = put_here k (s.applied k + 1) s.applied ∙ next
 
   granted_reply : reply_of ((with_granted k odd (views k).transfer.wish s).reply k) ≡ answer_to (views k).transfer.wish s
   granted_reply = ap reply_of (put_here k (reply_value odd (answer_to (views k).transfer.wish s)) s.reply)
-      ∙ reply_of-reply_value odd (answer_to (views k).transfer.wish s) (answer_fits sizes s (views k).transfer.wish shape (λ place lt. content_is_batch sizes s views place shape hold.placed lt))
+      ∙ reply_of-reply_value odd (answer_to (views k).transfer.wish s) (answer_fits s (views k).transfer.wish (λ place lt. content_fits sizes s views place fits lt))
 
   moving_after : moving (with_granted k odd (views k).transfer.wish s) k (views k).transfer ≡ taken (views k).transfer.wish (answer_to (views k).transfer.wish s)
   moving_after = moving_applied (with_granted k odd (views k).transfer.wish s) k (views k).transfer announced granted_applied ∙ ap (taken (views k).transfer.wish) granted_reply
@@ -96,19 +89,12 @@ module _ (sizes : Sizes) (s : StackState) (views : ProcessViews) (k : ℕ) (odd 
   others_stay o ne = moving_same_state s (with_granted k odd (views k).transfer.wish s) o (views o).transfer
       (put_elsewhere k (reply_value odd (answer_to (views k).transfer.wish s)) s.reply o ne) (put_elsewhere k (s.applied k + 1) s.applied o ne)
 
-  others_weigh : (f : ℕ → ℕ) (o : ℕ) → o ≢ k → weight f (process_batches (with_granted k odd (views k).transfer.wish s) o (views o)) ≡ weight f (process_batches s o (views o))
-  others_weigh f o ne = rw (parts_weight f (with_granted k odd (views k).transfer.wish s) o (views o), parts_weight f s o (views o), others_stay o ne) refl
-
-  granted_placed : BatchesPlaced sizes (with_granted k odd (views k).transfer.wish s) views
-  unfolding placed_weight content_weight
-  granted_placed f =
+  granted_weight : (f : ℕ → ℕ) → transit_weight sizes (with_granted k odd (views k).transfer.wish s) views f ≡ transit_weight sizes s views f
+  unfolding transit_weight content_weight
+  granted_weight f =
       let t : StackState = with_granted k odd (views k).transfer.wish s in
-      let all = total_moved sizes.processes k (λ o. weight f (process_batches s o (views o))) (λ o. weight f (process_batches t o (views o))) lk (λ o lo ne. others_weigh f o ne) in
-      let before = parts_weight f s k (views k) ∙ ap (λ b. weight f (current_batch (views k).pool) + (weight f (views k).pool.heads + weight f b)) moving_before in
-      let after = parts_weight f t k (views k) ∙ ap (λ b. weight f (current_batch (views k).pool) + (weight f (views k).pool.heads + weight f b)) moving_after in
-      let moves = wish_moves f s (views k).transfer.wish in
-      let placed = hold.placed f in
-      omega (arith, all, before, after, moves, placed)
+      let all = total_moved sizes.processes k (λ o. weight f (moving s o (views o).transfer)) (λ o. weight f (moving t o (views o).transfer)) lk (λ o lo ne. ap (weight f) (others_stay o ne)) in
+      omega (arith, all, ap (weight f) moving_before, ap (weight f) moving_after, wish_moves f s (views k).transfer.wish)
 
   granted_matches : ReplyMatches (with_granted k odd (views k).transfer.wish s) k (views k).transfer
   granted_matches = record {
@@ -128,12 +114,12 @@ module _ (sizes : Sizes) (s : StackState) (views : ProcessViews) (k : ℕ) (odd 
       took_answer Take s e g = took_either (s.height == 0) (s.content (s.height - 1)) g
       took_answer (Give head) s e g = absurd (grind arith)
 
-  pub granted_holds : BatchesHold sizes (with_granted k odd (views k).transfer.wish s) views
-  granted_holds = record {
-    placed = granted_placed;
-    replies = λ o lo. elim (cases_eq o k) [
+  pub granted_carried : Carried sizes s (with_granted k odd (views k).transfer.wish s) views
+  granted_carried = record {
+    same_weight = granted_weight;
+    matches = λ o lo h. elim (cases_eq o k) [
       | inl e ↦ rw e granted_matches
       | inr ne ↦ same_matches s (with_granted k odd (views k).transfer.wish s) o (views o).transfer
-          (put_elsewhere k (reply_value odd (answer_to (views k).transfer.wish s)) s.reply o ne) (put_elsewhere k (s.applied k + 1) s.applied o ne) (hold.replies o lo)
+          (put_elsewhere k (reply_value odd (answer_to (views k).transfer.wish s)) s.reply o ne) (put_elsewhere k (s.applied k + 1) s.applied o ne) h
     ];
   }

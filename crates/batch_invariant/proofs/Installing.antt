@@ -15,32 +15,31 @@ use Rattle.transfer_machine.specs.declared.stage.NextStep.TheVariants.{ExchangeS
 use Rattle.transfer_invariant.specs.Progress.{has_announced}
 use Rattle.transfer_invariant.specs.Tags.{total}
 use Rattle.transfer_invariant.proofs.Installs.{total_same}
-use Rattle.batch_invariant.specs.Places.{process_batches}
-use Rattle.batch_invariant.specs.Batches.{ProcessViews, MovedProcess, BatchesHold, placed_weight, weight}
+use Rattle.batch_invariant.specs.Places.{moving}
+use Rattle.batch_invariant.specs.Batches.{ProcessViews, MovedProcess, BatchesHold, weight}
 use Rattle.batch_invariant.specs.Premises.{PendingIsPresent, SameStack}
-use Rattle.batch_invariant.proofs.Moving.{moving_same_state, parts_weight}
+use Rattle.batch_invariant.proofs.Moving.{moving_same_state}
 use Rattle.batch_invariant.proofs.Going.{installed_goes_on}
 use Rattle.batch_invariant.proofs.Steps.{batches_move, goes_on_keeps}
-use Rattle.batch_invariant.proofs.Heads.{pending_is_batch}
-use Rattle.batch_invariant.proofs.Applied.{with_granted, granted_holds, same_matches, wish_fits, put_elsewhere}
+use Rattle.batch_invariant.proofs.Transit.{transit_weight, HeadsFit, pending_fits, placed_fit, Carried, carried_fits, carried_on, carried_holds}
+use Rattle.batch_invariant.proofs.Applied.{with_granted, granted_carried, same_matches, put_elsewhere}
 
 -- the wish of the present announcement is read back
 wish_read : (number : ℕ) (wish : Wish) → FitsWish wish → announced_wish (announced_word (record { number = number; wish = wish })) ≡ wish
 wish_read number wish fits = rw (value_of-tagged number (wish_code wish) (wish_code_lt wish fits)) (wish_of-wish_code wish)
 
 -- one announcement is met
-transfer_holds : (sizes : Sizes) (s : StackState) (views : ProcessViews) (k word : ℕ) → IsShape sizes → k < sizes.processes → BatchesHold sizes s views
+transfer_carried : (sizes : Sizes) (s : StackState) (views : ProcessViews) (k word : ℕ) → k < sizes.processes → HeadsFit sizes s views
     → has_announced (views k).transfer.next ≡ true → word ≡ announced_word (record { number = (views k).transfer.age; wish = (views k).transfer.wish }) → s.applied k + 1 ≡ (views k).transfer.age
-    → BatchesHold sizes (with_transfer k word s) views
-transfer_holds sizes s views k word shape lk hold announced present next =
-    let is = pending_is_batch sizes s views k shape hold.placed lk announced (λ e. omega arith) in
-    let wish : announced_wish word ≡ (views k).transfer.wish = ap announced_wish present ∙ wish_read (views k).transfer.age (views k).transfer.wish (wish_fits sizes (views k).transfer.wish shape is) in
-    subst (λ (w : Wish). BatchesHold sizes (with_granted k (is_odd_transfer word) w s) views) (sym wish) (granted_holds sizes s views k (is_odd_transfer word) shape hold lk announced next)
+    → Carried sizes s (with_transfer k word s) views
+transfer_carried sizes s views k word lk fits announced present next =
+    let wish : announced_wish word ≡ (views k).transfer.wish = ap announced_wish present ∙ wish_read (views k).transfer.age (views k).transfer.wish (pending_fits sizes s views k lk fits announced (λ e. omega arith)) in
+    subst (λ (w : Wish). Carried sizes s (with_granted k (is_odd_transfer word) w s) views) (sym wish) (granted_carried sizes s views k (is_odd_transfer word) fits lk announced next)
 
-announcement_holds : (sizes : Sizes) (s : StackState) (views : ProcessViews) (k word : ℕ) (t : Bool) → IsShape sizes → k < sizes.processes → BatchesHold sizes s views
-    → PendingIsPresent s word k (views k).transfer → is_pending word (s.reply k) ≡ t → BatchesHold sizes (if t then with_transfer k word s else s) views
-announcement_holds sizes s views k word true shape lk hold present e = transfer_holds sizes s views k word shape lk hold (present.announced e) (present.word e) (present.next e)
-announcement_holds sizes s views k word false shape lk hold present e = hold
+announcement_carried : (sizes : Sizes) (s : StackState) (views : ProcessViews) (k word : ℕ) (t : Bool) → k < sizes.processes → HeadsFit sizes s views
+    → PendingIsPresent s word k (views k).transfer → is_pending word (s.reply k) ≡ t → Carried sizes s (if t then with_transfer k word s else s) views
+announcement_carried sizes s views k word true lk fits present e = transfer_carried sizes s views k word lk fits (present.announced e) (present.word e) (present.next e)
+announcement_carried sizes s views k word false lk fits present e = record { same_weight = λ f. refl; matches = λ o lo h. h }
 
 -- those who weren't met yet have their replies and applied transfers
 either_state : (t : Bool) (x y : StackState) (o reply applied : ℕ) → (x.reply o ≡ reply) × (x.applied o ≡ applied) → (y.reply o ≡ reply) × (y.applied o ≡ applied)
@@ -62,30 +61,41 @@ present_stays : (s t : StackState) (word o : ℕ) (v : TransferView) → t.reply
 present_stays s t word o v er ea h = record { announced = λ e. h.announced (rw er at e); word = λ e. h.word (rw er at e); next = λ e. rw ea (h.next (rw er at e)) }
 
 -- two states that say the same
-pub same_holds : (sizes : Sizes) (s t : StackState) (views : ProcessViews) → SameStack sizes.processes s t → BatchesHold sizes s views → BatchesHold sizes t views
-unfolding placed_weight
-same_holds sizes s t views same hold = record {
-  placed = λ f.
+pub same_carried : (sizes : Sizes) (s t : StackState) (views : ProcessViews) → SameStack sizes.processes s t → Carried sizes s t views
+unfolding transit_weight
+same_carried sizes s t views same = record {
+  same_weight = λ f.
       let height = ap (λ n. total n (λ k. f (t.content k))) same.height in
       let content = total_same s.height (λ k. f (s.content k)) (λ k. f (t.content k)) (λ k lt. ap f (same.content k lt)) in
-      let processes = total_same sizes.processes (λ o. weight f (process_batches s o (views o))) (λ o. weight f (process_batches t o (views o))) (λ o lo. process_same f o lo) in
-      omega (arith, height, content, processes, hold.placed f);
-  replies = λ o lo. same_matches s t o (views o).transfer (same.reply o lo) (same.applied o lo) (hold.replies o lo);
+      let processes = total_same sizes.processes (λ o. weight f (moving s o (views o).transfer)) (λ o. weight f (moving t o (views o).transfer)) (λ o lo.
+      ap (weight f) (moving_same_state s t o (views o).transfer (same.reply o lo) (same.applied o lo))) in
+      omega (arith, height, content, processes);
+  matches = λ o lo h. same_matches s t o (views o).transfer (same.reply o lo) (same.applied o lo) h;
 }
-  where
-    process_same : (f : ℕ → ℕ) (o : ℕ) → o < sizes.processes → weight f (process_batches t o (views o)) ≡ weight f (process_batches s o (views o))
-    process_same f o lo = rw (parts_weight f t o (views o), parts_weight f s o (views o), moving_same_state s t o (views o).transfer (same.reply o lo) (same.applied o lo)) refl
 
 -- one announcement after the other
-pub next_holds : (sizes : Sizes) (s : StackState) (views : ProcessViews) (announcements : ℕ → ℕ) (k : ℕ) → IsShape sizes → k ≤ sizes.processes → BatchesHold sizes s views
-    → ((o : ℕ) → o < sizes.processes → PendingIsPresent s (announcements o) o (views o).transfer) → BatchesHold sizes (next_of k announcements s) views
+pub next_carried : (sizes : Sizes) (s : StackState) (views : ProcessViews) (announcements : ℕ → ℕ) (k : ℕ) → k ≤ sizes.processes → HeadsFit sizes s views
+    → ((o : ℕ) → o < sizes.processes → PendingIsPresent s (announcements o) o (views o).transfer) → Carried sizes s (next_of k announcements s) views
 unfolding next_of
-next_holds sizes s views announcements zero shape le hold present = same_holds sizes s (try_begun s) views (record { height = refl; content = λ place lt. refl; reply = λ o lo. refl; applied = λ o lo. refl }) hold
-next_holds sizes s views announcements (suc k) shape le hold present =
+next_carried sizes s views announcements zero le fits present = same_carried sizes s (try_begun s) views (record { height = refl; content = λ place lt. refl; reply = λ o lo. refl; applied = λ o lo. refl })
+next_carried sizes s views announcements (suc k) le fits present =
     let met = next_of k announcements s in
     let unmet = unmet_stay announcements s k k (omega arith) in
-    announcement_holds sizes met views k (announcements k) (is_pending (announcements k) (met.reply k)) shape (omega arith) (next_holds sizes s views announcements k shape (omega arith) hold present)
-    (present_stays s met (announcements k) k (views k).transfer unmet.0 unmet.1 (present k (omega arith))) refl
+    let before = next_carried sizes s views announcements k (omega arith) fits present in
+    carried_on sizes s met (next_of (suc k) announcements s) views before (announcement_carried sizes met views k (announcements k) (is_pending (announcements k) (met.reply k)) (omega arith)
+    (carried_fits sizes s met views before fits) (present_stays s met (announcements k) k (views k).transfer unmet.0 unmet.1 (present k (omega arith))) refl)
+
+pub next_holds : (sizes : Sizes) (s : StackState) (views : ProcessViews) (announcements : ℕ → ℕ) (k : ℕ) → IsShape sizes → k ≤ sizes.processes → BatchesHold sizes s views
+    → ((o : ℕ) → o < sizes.processes → PendingIsPresent s (announcements o) o (views o).transfer) → BatchesHold sizes (next_of k announcements s) views
+next_holds sizes s views announcements k shape le hold present =
+    carried_holds sizes s (next_of k announcements s) views (next_carried sizes s views announcements k le (placed_fit sizes s views shape hold.placed) present) hold
+
+-- so is the state that an exchange installs
+pub planned_carried : (sizes : Sizes) (s t : StackState) (views : ProcessViews) (announcements : ℕ → ℕ) → HeadsFit sizes s views
+    → ((o : ℕ) → o < sizes.processes → PendingIsPresent s (announcements o) o (views o).transfer) → SameStack sizes.processes (next_of sizes.processes announcements s) t → Carried sizes s t views
+planned_carried sizes s t views announcements fits present same =
+    let next = next_of sizes.processes announcements s in
+    carried_on sizes s next t views (next_carried sizes s views announcements sizes.processes (omega arith) fits present) (same_carried sizes next t views same)
 
 -- the state is installed
 exchange_announced : (next : NextStep) → next ≡ ExchangeState → has_announced next ≡ true
@@ -96,5 +106,5 @@ pub installing_holds : (sizes : Sizes) (s t : StackState) (views after : Process
     → MovedProcess i (record (views i) { transfer = installed (views i).transfer; pool = step_counted (views i).pool }) views after → BatchesHold sizes t after
 installing_holds sizes s t views after announcements i shape li hold present e same moved =
     batches_move sizes t views after i (record (views i) { transfer = installed (views i).transfer; pool = step_counted (views i).pool }) li
-    (same_holds sizes (next_of sizes.processes announcements s) t views same (next_holds sizes s views announcements sizes.processes shape (omega arith) hold present)) moved
+    (carried_holds sizes s t views (planned_carried sizes s t views announcements (placed_fit sizes s views shape hold.placed) present same) hold) moved
     (goes_on_keeps t i (views i) (record (views i) { transfer = installed (views i).transfer; pool = step_counted (views i).pool }) (installed_goes_on (views i).transfer (exchange_announced (views i).transfer.next e)) refl refl)

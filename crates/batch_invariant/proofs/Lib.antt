@@ -3,6 +3,7 @@ pub mod Moving
 pub mod Going
 pub mod Steps
 pub mod Heads
+pub mod Transit
 pub mod Apart
 pub mod Applied
 pub mod Installing

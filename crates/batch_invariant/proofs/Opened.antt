@@ -17,7 +17,7 @@ use Rattle.batch_invariant.proofs.Moving.{moving_at_rest, parts_weight}
 use Rattle.batch_invariant.proofs.Steps.{unannounced_matches}
 
 module _ (sizes : Sizes) (s : StackState) (shape : IsShape sizes) where
-  opening_current : (i : ℕ) → current_batch (opening_pool sizes i) ≡ 2 * i * sizes.length ∷ []
+  pub opening_current : (i : ℕ) → current_batch (opening_pool sizes i) ≡ 2 * i * sizes.length ∷ []
   opening_current i =
       let test : (sizes.length == 0) ≡ false = long sizes.length (two_blocks_a_batch sizes shape) in
       let head : (2 * i * sizes.length + 1) - 1 ≡ 2 * i * sizes.length = omega arith in rw (test, head) refl

@@ -90,7 +90,7 @@ either_current : (t : Bool) (x y : schedule.Numbers) (current : ℕ) → x.curre
 either_current true x y current ex ey = ex
 either_current false x y current ex ey = ey
 
-ended_current : (found : Bool) (x : schedule.Numbers) → (schedule.after_end found x).current ≡ x.current
+pub ended_current : (found : Bool) (x : schedule.Numbers) → (schedule.after_end found x).current ≡ x.current
 ended_current found x = either_current (schedule.is_taking x.pending) (record x { pending = Idle; done = 0; spares = if found then schedule.one_more x.spares else x.spares; dry = not found }) (record x { pending = Idle; done = 0 }) x.current refl refl
 
 ended_current_batch : (reply : Reply) (pool : PoolView) → current_batch (pool_ended reply pool) ≡ current_batch pool
@@ -152,19 +152,24 @@ stage_keeps sizes s i v word LoadFinalState e h matches = trying_keeps sizes s i
 stage_keeps sizes s i v word LoadReply e h matches =
     ended_keeps s i v (record v { transfer = met_at sizes v.transfer word LoadReply; pool = pool_met_at word v.pool LoadReply }) (reply_of (value_of word)) e (h.applied e) (ap reply_of (sym (h.reply e))) matches refl refl
 
+-- the exchange of the state keeps them whatever state is there
+pub exchange_keeps_at : (sizes : Sizes) (s : StackState) (i : ℕ) (v : ProcessView) (word : ℕ) (stage : NextStep) → v.transfer.next ≡ stage → stage ≡ ExchangeState
+    → KeepsBatches s i v (record v { transfer = met_at sizes v.transfer word stage; pool = pool_met_at word v.pool stage })
+exchange_keeps_at sizes s i v word stage e is = rw is (trying_keeps sizes s i v word ExchangeState refl (e ∙ is))
+
 pub steps_keep : (sizes : Sizes) (s : StackState) (views after : ProcessViews) (i word : ℕ) → i < sizes.processes → BatchesHold sizes s views → InStep s i (views i).transfer word
     → MovedProcess i (view_met sizes (views i) word) views after → BatchesHold sizes s after
 steps_keep sizes s views after i word li h step moved = batches_move sizes s views after i (view_met sizes (views i) word) li h moved (stage_keeps sizes s i (views i) word (views i).transfer.next refl step (h.replies i li))
 
 -- a beginning: the given batch leaves the spares and is in transit
-spares_parted : (f : ℕ → ℕ) (heads : List ℕ) (head : ℕ) → 1 ≤ length heads → slice_index heads (length heads - 1) ≡ head → weight f (take (length heads - 1) heads) + f head ≡ weight f heads
+pub spares_parted : (f : ℕ → ℕ) (heads : List ℕ) (head : ℕ) → 1 ≤ length heads → slice_index heads (length heads - 1) ≡ head → weight f (take (length heads - 1) heads) + f head ≡ weight f heads
 spares_parted f heads head some e =
     let last : (length heads - 1) + 1 ≡ length heads = omega arith in
     let more = sum_by_more f heads (length heads - 1) 0 (omega arith) in
     let all : take ((length heads - 1) + 1) heads ≡ heads = rw last (take_all (length heads) heads (omega arith)) in
     let whole = rw (all, e) at more in omega (arith, whole)
 
-begun_keeps : (s : StackState) (i : ℕ) (wish : Wish) (v : ProcessView) → v.transfer.next ≡ Rest → MayBegin wish v.pool → KeepsBatches s i v (view_begun wish v)
+pub begun_keeps : (s : StackState) (i : ℕ) (wish : Wish) (v : ProcessView) → v.transfer.next ≡ Rest → MayBegin wish v.pool → KeepsBatches s i v (view_begun wish v)
 begun_keeps s i Take v rest may = record {
   same_weight = λ f. rw (parts_weight f s i (view_begun Take v), parts_weight f s i v, moving_begun s i (begun Take v.transfer) refl, moving_at_rest s i v.transfer rest) refl;
   matches = λ h. unannounced_matches s i (begun Take v.transfer) refl;

@@ -13,6 +13,12 @@ total_more count f = rw add-one refl
 pub total_kept : (count i : ℕ) (f g : ℕ → ℕ) → ((o : ℕ) → o < count → o ≢ i → g o ≡ f o) → g i ≡ f i → total count g ≡ total count f
 total_kept count i f g others here = total_same count f g (λ o lt. elim (cases_eq o i) [ inl e ↦ rw e here | inr ne ↦ others o lt ne ])
 
+-- term by term
+pub total_sums : (count : ℕ) (f g : ℕ → ℕ) → total count (λ i. f i + g i) ≡ total count f + total count g
+unfolding total
+total_sums zero f g = refl
+total_sums (suc count) f g = omega (arith, total_sums count f g)
+
 -- one part after the other, and by pairs
 pub total_parts : (first second : ℕ) (f : ℕ → ℕ) → total (first + second) f ≡ total first f + total second (λ k. f (first + k))
 unfolding total

@@ -1,0 +1,12 @@
+pub mod Weights
+pub mod Pool
+pub mod Lists
+pub mod Places
+pub mod Moves
+pub mod Transfers
+pub mod Own
+pub mod Counts
+pub mod Opened
+pub mod Gives
+pub mod Calls
+pub mod Kept

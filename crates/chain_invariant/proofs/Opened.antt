@@ -1,0 +1,168 @@
+-- at the opening each batch is a run of blocks, one after the other
+use Rattle.std.proofs.Common.{◌≡◌, ℕ, zero, suc, ◌+◌, ◌-◌, ◌*◌, ◌%◌, ◌<◌, ◌≤◌, ◌==◌, true, false, refl, sym, ap, subst, ◌∙◌, inl, inr, List, [], ◌∷◌, length, arith}
+use Rattle.std.specs.Prelude.{if◌then◌else◌}
+use Rattle.std.proofs.lemmas.Bool.{cases_lt}
+use Rattle.std.proofs.lemmas.Bool.Decides.{nat_tests}
+use Rattle.std.proofs.lemmas.List.Sums.{sum_by-cons}
+use Rattle.std.proofs.lemmas.Nat.{mod-mul-add}
+use Rattle.word_layout.specs.Sizes.{Sizes, IsShape, blocks}
+use Rattle.word_layout.specs.declared.name.WordName.TheVariants.{Next}
+use Rattle.word_layout.proofs.Limits.{two_blocks_a_batch, batch_within_blocks}
+use Rattle.transfer_machine.specs.Opening.{opening_next}
+use Rattle.transfer_machine.specs.Pools.{opening_view}
+use Rattle.transfer_machine.specs.States.{StackState}
+use Rattle.transfer_invariant.specs.Memory.{Words}
+use Rattle.transfer_invariant.specs.Tags.{total}
+use Rattle.transfer_invariant.proofs.Installs.{total_same}
+use Rattle.batch_invariant.specs.Places.{current_batch}
+use Rattle.batch_invariant.specs.Batches.{ProcessViews, BatchesHold, weight, is_head, batches_weight}
+use Rattle.batch_invariant.proofs.Sums.{total_parts, total_sums}
+use Rattle.batch_invariant.proofs.Transit.{placed_parts}
+use Rattle.batch_invariant.proofs.Opened.{opening_current}
+use Rattle.chain_invariant.specs.Chains.{IsChain, IsChainOf, BlockLists, ChainsHold, times_pooled, blocks_weight}
+use Rattle.chain_invariant.proofs.Weights.{counts_equal}
+use Rattle.chain_invariant.proofs.Pool.{pool_parts}
+
+-- so many numbers from a first one on
+unfoldable pub run : ℕ → ℕ → List ℕ
+run start zero = []
+run start (suc count) = start ∷ run (start + 1) count
+
+run_length : (start count : ℕ) → length (run start count) ≡ count
+unfolding run
+run_length start zero = refl
+run_length start (suc count) = ap suc (run_length (start + 1) count)
+
+run_weight : (f : ℕ → ℕ) (start count : ℕ) → weight f (run start count) ≡ total count (λ k. f (start + k))
+unfolding run total
+run_weight f start zero = refl
+run_weight f start (suc count) =
+    let rest = run_weight f (start + 1) count in
+    let one : suc count ≡ 1 + count = omega arith in
+    let first : start + 0 ≡ start = omega arith in
+    let parts = total_parts 1 count (λ k. f (start + k)) in
+    let shift = total_same count (λ k. f (start + 1 + k)) (λ k. f (start + (1 + k))) (λ k lt. ap f (shifted start k)) in
+    let whole = ap (λ n. total n (λ k. f (start + k))) one in
+    omega (arith, sum_by-cons f start (run (start + 1) count), whole, rest, parts, shift, ap f first)
+  where
+    shifted : (start k : ℕ) → start + (1 + k) ≡ start + 1 + k
+    shifted start k = omega arith
+
+-- the blocks of all batches
+batch_runs : (f : ℕ → ℕ) (l batches : ℕ) → total batches (λ b. total l (λ k. f (b * l + k))) ≡ total (batches * l) f
+unfolding total
+batch_runs f l zero = let none : 0 * l ≡ 0 = omega arith in rw none refl
+batch_runs f l (suc batches) =
+    let more : suc batches * l ≡ batches * l + l = omega arith in
+    rw more (omega (arith, total_parts (batches * l) l f, batch_runs f l batches))
+
+-- a run whose next words name the following number, and none at its end
+run_chain : (words : Words) (count start : ℕ) → ((j : ℕ) → j < count → words (Next (start + j)) ≡ start + j + 2) → words (Next (start + count)) ≡ 0 → IsChain words (start + 1) (run start (suc count))
+unfolding run IsChain
+run_chain words zero start inner last = let first : start + 0 ≡ start = omega arith in (refl, rw first at last)
+run_chain words (suc count) start inner last =
+    let first : start + 0 ≡ start = omega arith in
+    let second : start + 2 ≡ start + 1 + 1 = omega arith in
+    let next = rw first at (inner 0 (omega arith)) in
+    let rest = run_chain words count (start + 1) (λ j lt. inner_shifted j (inner (j + 1) (omega arith))) (last_shifted last) in
+    (refl, rw (next, second) rest)
+  where
+    inner_shifted : (j : ℕ) → words (Next (start + (j + 1))) ≡ start + (j + 1) + 2 → words (Next (start + 1 + j)) ≡ start + 1 + j + 2
+    inner_shifted j e = let same : start + (j + 1) ≡ start + 1 + j = omega arith in rw same at e
+
+    last_shifted : words (Next (start + suc count)) ≡ 0 → words (Next (start + 1 + count)) ≡ 0
+    last_shifted e = let same : start + suc count ≡ start + 1 + count = omega arith in rw same at e
+
+-- the opening's next words of a batch
+rest_of : (l b j : ℕ) → j < l → (b * l + j) % l ≡ j
+rest_of l b j lt = mod-mul-add b l j lt
+
+next_at : (l block rest : ℕ) → block % l ≡ rest → rest + 1 < l → (if block % l == l - 1 then 0 else block + 2) ≡ block + 2
+next_at l block rest e lt = let test : (block % l == l - 1) ≡ false = rw e (before l rest lt) in rw test refl
+  where
+    before : (l rest : ℕ) → rest + 1 < l → (rest == l - 1) ≡ false
+    before l rest lt = grind (arith, nat_tests)
+
+last_at : (l block : ℕ) → block % l ≡ l - 1 → (if block % l == l - 1 then 0 else block + 2) ≡ 0
+last_at l block e = let test : (block % l == l - 1) ≡ true = rw e (itself (l - 1)) in rw test refl
+  where
+    itself : (n : ℕ) → (n == n) ≡ true
+    itself n = grind (arith, nat_tests)
+
+batch_chain : (sizes : Sizes) (words : Words) (b count : ℕ) → b < sizes.batches → count + 1 ≡ sizes.length → ((block : ℕ) → block < blocks sizes → words (Next block) ≡ opening_next sizes block)
+    → IsChain words (b * sizes.length + 1) (run (b * sizes.length) (suc count))
+batch_chain sizes words b count lb long next =
+    let start = b * sizes.length in
+    let within = batch_within_blocks sizes b lb in
+    run_chain words count start
+    (λ j lt. next (start + j) (omega arith) ∙ next_at sizes.length (start + j) j (rest_of sizes.length b j (omega arith)) (omega arith))
+    (next (start + count) (omega arith) ∙ last_at sizes.length (start + count) (rest_of sizes.length b count (omega arith) ∙ last_of count sizes.length long))
+  where
+    last_of : (count l : ℕ) → count + 1 ≡ l → count ≡ l - 1
+    last_of count l e = omega arith
+
+pub batch_is_chain : (sizes : Sizes) (words : Words) (b : ℕ) → IsShape sizes → b < sizes.batches → ((block : ℕ) → block < blocks sizes → words (Next block) ≡ opening_next sizes block)
+    → IsChainOf words (b * sizes.length + 1) sizes.length (run (b * sizes.length) sizes.length)
+batch_is_chain sizes words b shape lb next = record { leads = leads; size = run_length (b * sizes.length) sizes.length }
+  where
+    count : ℕ
+    count = sizes.length - 1
+
+    more : suc count ≡ sizes.length
+    more = omega (arith, two_blocks_a_batch sizes shape)
+
+    leads : IsChain words (b * sizes.length + 1) (run (b * sizes.length) sizes.length)
+    leads = subst (λ (n : ℕ). IsChain words (b * sizes.length + 1) (run (b * sizes.length) n)) more (batch_chain sizes words b count lb (omega (arith, more)) next)
+
+-- a head that is at a place is that of a batch
+total_some : (count : ℕ) (f : ℕ → ℕ) → 1 ≤ total count f → (k : ℕ) × (k < count) × (1 ≤ f k)
+unfolding total
+total_some zero f some = absurd (omega arith)
+total_some (suc count) f some = elim (cases_lt 0 (f count)) [
+  | inl lt ↦ (count, omega arith, lt)
+  | inr le ↦ let (k, low, here) = total_some count f (omega arith) in (k, omega arith, here)
+]
+
+module _ (sizes : Sizes) (words : Words) (s : StackState) (views : ProcessViews) (held : BlockLists) (shape : IsShape sizes) (next : (block : ℕ) → block < blocks sizes → words (Next block) ≡ opening_next sizes block)
+    (hold : BatchesHold sizes s views) (seats : (i : ℕ) → i < sizes.processes → views i ≡ opening_view sizes i) (none : (i : ℕ) → i < sizes.processes → held i ≡ []) where
+  batch_of : (head : ℕ) → 1 ≤ times_pooled sizes s views head → (b : ℕ) × (b < sizes.batches) × (1 ≤ is_head head (b * sizes.length))
+  unfolding batches_weight
+  batch_of head pooled = total_some sizes.batches (λ b. is_head head (b * sizes.length)) (omega (
+    arith,
+    pooled,
+    hold.placed (is_head head),
+    placed_parts sizes s views (is_head head),
+    pool_parts sizes s views (is_head head),
+    total_sums sizes.processes (λ i. weight (is_head head) (current_batch (views i).pool)) (λ i. weight (is_head head) (views i).pool.heads),
+  ))
+
+  opened_batch : (head : ℕ) → 1 ≤ times_pooled sizes s views head → IsChainOf words (head + 1) sizes.length (run head sizes.length)
+  opened_batch head pooled =
+      let (b, lb, here) = batch_of head pooled in
+      rw (counts_equal head (b * sizes.length) here) at (batch_is_chain sizes words b shape lb next)
+
+  opened_current : (i : ℕ) → i < sizes.processes → IsChainOf words (views i).pool.head (views i).pool.plan.current (run (2 * i * sizes.length) sizes.length)
+  opened_current i li = rw (seats i li) (batch_is_chain sizes words (2 * i) shape (omega (arith, shape.two_batches_each)) next)
+
+  current_run : (f : ℕ → ℕ) (i : ℕ) → i < sizes.processes → weight f (run (2 * i * sizes.length) sizes.length) + weight f (held i) ≡ weight (λ head. weight f (run head sizes.length)) (current_batch (views i).pool)
+  current_run f i li =
+      let g = λ (head : ℕ). weight f (run head sizes.length) in
+      let seat = ap (λ v. weight g (current_batch v.pool)) (seats i li) in
+      let list = ap (weight g) (opening_current sizes s shape i) in
+      omega (arith, seat, list, sum_by-cons g (2 * i * sizes.length) [], ap (weight f) (none i li))
+
+  all_runs : (f : ℕ → ℕ) → total sizes.batches (λ b. weight f (run (b * sizes.length) sizes.length)) ≡ total (blocks sizes) f
+  unfolding blocks
+  all_runs f = sym (total_same sizes.batches (λ b. weight f (run (b * sizes.length) sizes.length)) (λ b. total sizes.length (λ k. f (b * sizes.length + k))) (λ b lt. sym (run_weight f (b * sizes.length) sizes.length)))
+      ∙ batch_runs f sizes.length sizes.batches
+
+  opened_placed : (f : ℕ → ℕ) → blocks_weight sizes s views (λ head. run head sizes.length) (λ i. run (2 * i * sizes.length) sizes.length) held f ≡ total (blocks sizes) f
+  unfolding blocks_weight batches_weight
+  opened_placed f =
+      let g = λ (head : ℕ). weight f (run head sizes.length) in
+      let lists = total_same sizes.processes (λ i. weight g (current_batch (views i).pool)) (λ i. weight f (run (2 * i * sizes.length) sizes.length) + weight f (held i)) (current_run f) in
+      let parts = total_sums sizes.processes (λ i. weight g (current_batch (views i).pool)) (λ i. weight g (views i).pool.heads) in
+      omega (arith, lists, parts, hold.placed g, placed_parts sizes s views g, pool_parts sizes s views g, all_runs f)
+
+  pub opened_chains : ChainsHold sizes words s views (λ head. run head sizes.length) (λ i. run (2 * i * sizes.length) sizes.length) held
+  opened_chains = record { batches = opened_batch; currents = opened_current; placed = opened_placed; replies = hold.replies }

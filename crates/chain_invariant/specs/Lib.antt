@@ -1,0 +1,4 @@
+pub mod Chains
+pub mod Steps
+pub mod Laws
+pub mod Calls
