@@ -1,0 +1,6 @@
+pub mod Standing
+pub mod Begun
+pub mod Moved
+pub mod Owned
+pub mod Alone
+pub mod Uses
