@@ -202,7 +202,7 @@ fn random_moves(rt: HostRuntime) -> Result<(), Fail> {
     let mut run = CoreRun::open(rt.alloc(), &shape)?;
     let mut content = run.stack(rt.alloc())?;
     let mut replies = [0, 0, 0];
-    let mut states = 0;
+    let mut states: u32 = 0;
     let mut seed = 1;
     for count in 0..10000 {
         let state = word(&rt, &run, 0);
@@ -215,7 +215,7 @@ fn random_moves(rt: HostRuntime) -> Result<(), Fail> {
         if word(&rt, &run, 0) == state {
             continue;
         }
-        states += 1;
+        states = states.saturating_add(1);
         for process in 0..3 {
             let reply = reply_of(&rt, &run, process);
             if reply >> 23 != replies[process as usize] >> 23 {

@@ -9,7 +9,7 @@ use Rattle.transfer_machine.specs.declared.call.CallStage.TheVariants.{Between, 
 use Rattle.transfer_machine.specs.declared.stage.NextStep.{NextStep}
 use Rattle.transfer_machine.specs.declared.view.ProcessView.{ProcessView}
 use Rattle.pool_machine.specs.Beginning.{before_call, first_stage, call_begun}
-use Rattle.pool_machine.specs.Steps.{after_move, call_met, call_met_at}
+use Rattle.pool_machine.specs.Steps.{after_move, call_met_at}
 use Rattle.pool_machine.specs.Laws.{CallSteps, most_moves}
 
 -- after k steps of a call that makes at most `most` transfer steps: where it stands, and how many transfer steps it made

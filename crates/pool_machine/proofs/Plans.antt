@@ -1,17 +1,18 @@
 -- what calls make of the plan
-use Rattle.std.proofs.Common.{◌≡◌, ℕ, ◌<◌, ◌==◌, Bool, true, false, Option, None, Some, refl, arith}
-use Rattle.std.specs.Prelude.{if◌then◌else◌, nat_lt}
+use Rattle.std.proofs.Common.{◌≡◌, ℕ, Bool, true, false, Option, None, Some, refl, arith}
 use Rattle.std.proofs.lemmas.Bool.Decides.{nat_tests}
 use Rattle.word_layout.specs.Sizes.{Sizes}
 use Rattle.word_layout.specs.Packing.{value_of, reply_of}
 use Rattle.word_layout.specs.declared.reply.Reply.{Reply}
 use Rattle.word_layout.specs.declared.reply.Reply.TheVariants as reply
+use Rattle.word_layout.specs.declared.announced.Wish.{Wish}
+use Rattle.word_layout.specs.declared.announced.Wish.TheVariants.{Take, Give}
 use Rattle.transfer_schedule.specs.Numbers as schedule
 use Rattle.transfer_schedule.specs.declared.own_step.Source.{Source}
 use Rattle.transfer_schedule.specs.declared.own_step.Target.{Target}
 use Rattle.transfer_schedule.specs.declared.own_step.Source.TheVariants as source
 use Rattle.transfer_schedule.specs.declared.own_step.Target.TheVariants as target
-use Rattle.transfer_machine.specs.Pools.{pool_met_at, pool_ended, step_counted}
+use Rattle.transfer_machine.specs.Pools.{pool_met_at, pool_ended, step_counted, opening_view}
 use Rattle.transfer_machine.specs.declared.call.Call.{Call}
 use Rattle.transfer_machine.specs.declared.call.Call.TheVariants.{Allocate, Free, Read, Write}
 use Rattle.transfer_machine.specs.declared.call.CallStage.{CallStage}
@@ -20,15 +21,20 @@ use Rattle.transfer_machine.specs.declared.stage.NextStep.{NextStep}
 use Rattle.transfer_machine.specs.declared.stage.NextStep.TheVariants.{Rest, Announce, LoadState, LoadRecordWord, LoadCoveredSlot, ExchangeSlot, LoadAnnouncement, LoadPoppedSlot, StoreRecordWord, ExchangeState, LoadFinalState, LoadReply}
 use Rattle.transfer_machine.specs.declared.view.PoolView.{PoolView}
 use Rattle.transfer_machine.specs.declared.view.ProcessView.{ProcessView}
-use Rattle.pool_machine.specs.Beginning.{before_call, call_begun}
-use Rattle.pool_machine.specs.OwnSteps.{allocated, freed, pool_own_met, own_met}
+use Rattle.pool_machine.specs.Beginning.{due, before_call, call_begun}
+use Rattle.pool_machine.specs.OwnSteps.{allocated, freed, pool_own_met}
 use Rattle.pool_machine.specs.Steps.{call_met, call_met_at}
-use Rattle.pool_machine.specs.Ready.{PlanFits}
-use Rattle.pool_machine.specs.Laws.{plan_after}
+use Rattle.pool_machine.specs.Ready.{PlanFits, CanBegin}
+use Rattle.pool_machine.specs.Laws.{plan_after, CanBeginWish}
 
 -- the transfer that is due is the plan's choice
 pub choice_is_the_plans : (v : ProcessView) → (before_call v).pool.plan ≡ schedule.after_choice v.pool.plan
 choice_is_the_plans v = grind (arith, nat_tests)
+
+-- a transfer that is due can begin
+pub due_begins : (v : ProcessView) (wish : Wish) → CanBegin v → due v.pool ≡ Some wish → CanBeginWish v wish
+due_begins v Take h e = grind (arith, nat_tests)
+due_begins v (Give head) h e = grind (arith, nat_tests)
 
 -- the own steps are the schedule's
 allocated_plan : (word : ℕ) (pool : PoolView) (s : Source) → (allocated word pool s).plan ≡ schedule.after_took_one pool.plan
@@ -106,3 +112,7 @@ met_fits_at sizes v word Own h = rw (own_plan word v.pool v.calls.call) (after_f
 
 pub met_fits : (sizes : Sizes) (v : ProcessView) (word : ℕ) → PlanFits sizes v.pool.plan → PlanFits sizes (call_met sizes v word).pool.plan
 met_fits sizes v word h = met_fits_at sizes v word v.calls.stage h
+
+-- the plan of the opening has the shape's sizes
+pub opening_fits : (sizes : Sizes) (process : ℕ) → PlanFits sizes (opening_view sizes process).pool.plan
+opening_fits sizes process = record { length = refl; bound = refl; quantum = refl }

@@ -8,7 +8,7 @@ use Rattle.transfer_machine.specs.declared.call.Call.{Call}
 use Rattle.transfer_machine.specs.declared.call.Call.TheVariants.{Allocate, Free, Read, Write}
 use Rattle.transfer_machine.specs.declared.call.CallStage.{CallStage}
 use Rattle.transfer_machine.specs.declared.call.CallStage.TheVariants.{Moving, Own}
-use Rattle.transfer_machine.specs.declared.call.Way.TheVariants.{Calls}
+use Rattle.transfer_machine.specs.declared.call.Way.TheVariants.{Alone, Calls}
 use Rattle.transfer_machine.specs.declared.view.PoolView.{PoolView}
 use Rattle.transfer_machine.specs.declared.view.ProcessView.{ProcessView}
 
@@ -43,3 +43,7 @@ call_begun Allocate v = entered Allocate (first_stage (before_call v)) (before_c
 call_begun (Free block) v = entered (Free block) (first_stage (before_call v)) (before_call v)
 call_begun (Read block index) v = entered (Read block index) Own v
 call_begun (Write block index value) v = entered (Write block index value) Own v
+
+-- a transfer begins alone, outside any call
+abbrev pub alone_begun : Wish → ProcessView → ProcessView
+alone_begun wish v = record (view_begun wish v) { calls = record v.calls { way = Alone } }

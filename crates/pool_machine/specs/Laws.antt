@@ -1,17 +1,21 @@
 -- what holds of every view, every call and every word
 use Rattle.std.specs.Prelude.{◌≡◌, ◌≢◌, ℕ, ◌+◌, ◌<◌, ◌≤◌, ◌↔◌, Bool, IsTrue, Option, None, Some}
 use Rattle.word_layout.specs.Sizes.{Sizes}
+use Rattle.word_layout.specs.Packing.{FitsWish}
+use Rattle.word_layout.specs.declared.announced.Wish.{Wish}
 use Rattle.transfer_schedule.specs.Numbers as schedule
-use Rattle.transfer_machine.specs.Pools.{opening_view}
+use Rattle.transfer_schedule.specs.declared.pending.Pending.TheVariants.{Idle}
+use Rattle.transfer_machine.specs.Pools.{opening_view, MayBegin}
 use Rattle.transfer_machine.specs.declared.call.Call.{Call}
 use Rattle.transfer_machine.specs.declared.call.Call.TheVariants.{Allocate, Free, Read, Write}
 use Rattle.transfer_machine.specs.declared.call.CallStage.TheVariants.{Between}
+use Rattle.transfer_machine.specs.declared.stage.NextStep.TheVariants.{Rest}
 use Rattle.transfer_machine.specs.declared.view.ProcessView.{ProcessView}
-use Rattle.pool_machine.specs.Beginning.{before_call, call_begun}
+use Rattle.pool_machine.specs.Beginning.{due, before_call, call_begun}
 use Rattle.pool_machine.specs.Conditions.{MayCall, MayMove, may_call, may_move}
 use Rattle.pool_machine.specs.OwnSteps.{own_met}
 use Rattle.pool_machine.specs.Steps.{call_met}
-use Rattle.pool_machine.specs.Ready.{PlanFits}
+use Rattle.pool_machine.specs.Ready.{PlanFits, CanBegin}
 
 -- the tests of the conditions are these conditions
 abbrev pub ConditionsAreTests : Type 0
@@ -23,6 +27,17 @@ MovesAreTests = (v : ProcessView) → IsTrue (may_move v) ↔ MayMove v
 -- the transfer that begins with a call is the one that the plan chooses
 abbrev pub ChoicesAreThePlans : Type 0
 ChoicesAreThePlans = (v : ProcessView) → (before_call v).pool.plan ≡ schedule.after_choice v.pool.plan
+
+-- a transfer with this wish can begin at this view
+pub record CanBeginWish (v : ProcessView) (wish : Wish) : Type 0 where
+  pub rest : v.transfer.next ≡ Rest
+  pub idle : v.pool.plan.pending ≡ Idle
+  pub fits : FitsWish wish
+  pub may : MayBegin wish v.pool
+
+-- and so can the one that is due
+abbrev pub DueTransfersCanBegin : Type 0
+DueTransfersCanBegin = (v : ProcessView) (wish : Wish) → CanBegin v → due v.pool ≡ Some wish → CanBeginWish v wish
 
 -- what the own step of a call makes of the plan
 abbrev pub plan_after : Option Call → schedule.Numbers → schedule.Numbers

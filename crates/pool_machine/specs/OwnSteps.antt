@@ -21,11 +21,19 @@ use Rattle.pool_machine.specs.declared.answer.OwnAnswer.{OwnAnswer}
 use Rattle.pool_machine.specs.declared.answer.OwnAnswer.TheVariants.{Recorded, Loaded, Stored}
 use Rattle.pool_machine.specs.Beginning.{newest}
 
--- an allocate loads the next word of the block that it gets: the first of the current list, or of the newest spare; with no block it loads the state
-abbrev pub allocate_action : PoolView → Source → Action
-allocate_action pool source.Current = Load (Next (pool.head - 1))
-allocate_action pool source.Spare = Load (Next (newest pool))
-allocate_action pool source.Nothing = Load State
+-- the block that an allocate gets: the first of the current list, or of the newest spare where that list is empty
+abbrev pub block_from : PoolView → Source → Option ℕ
+block_from pool source.Current = Some (pool.head - 1)
+block_from pool source.Spare = Some (newest pool)
+block_from pool source.Nothing = None
+
+abbrev pub next_block : PoolView → Option ℕ
+next_block pool = block_from pool (schedule.source_of pool.plan)
+
+-- an allocate loads the next word of its block; with no block it loads the state
+abbrev pub allocate_action : Option ℕ → Action
+allocate_action None = Load State
+allocate_action (Some block) = Load (Next block)
 
 -- the next word that a free gives its block: the current list follows it, or nothing where that list is full
 abbrev pub follower : PoolView → Target → ℕ
@@ -35,7 +43,7 @@ follower pool target.Fresh = 0
 -- what the own step of a call does, and to which word
 abbrev pub own_action_for : PoolView → Option Call → Action
 own_action_for pool None = Load State
-own_action_for pool (Some Allocate) = allocate_action pool (schedule.source_of pool.plan)
+own_action_for pool (Some Allocate) = allocate_action (next_block pool)
 own_action_for pool (Some (Free block)) = Store (Next block) (follower pool (schedule.target_of pool.plan))
 own_action_for pool (Some (Read block index)) = Load (Data block index)
 own_action_for pool (Some (Write block index value)) = Store (Data block index) value
@@ -72,15 +80,14 @@ abbrev pub own_met : ProcessView → ℕ → ProcessView
 own_met v word = record v { pool = pool_own_met word v.pool v.calls.call; calls = call_left v.calls }
 
 -- the entry of an allocate
-abbrev pub allocate_answer : ℕ → PoolView → Source → OwnAnswer
-allocate_answer by pool source.Current = Recorded (Got by (pool.head - 1))
-allocate_answer by pool source.Spare = Recorded (Got by (newest pool))
-allocate_answer by pool source.Nothing = Recorded (Dry by)
+abbrev pub allocate_answer : ℕ → Option ℕ → OwnAnswer
+allocate_answer by None = Recorded (Dry by)
+allocate_answer by (Some block) = Recorded (Got by block)
 
 -- how the own step of a call answers where it met this word
 abbrev pub own_answer_for : ℕ → PoolView → ℕ → Option Call → OwnAnswer
 own_answer_for by pool word None = Loaded word
-own_answer_for by pool word (Some Allocate) = allocate_answer by pool (schedule.source_of pool.plan)
+own_answer_for by pool word (Some Allocate) = allocate_answer by (next_block pool)
 own_answer_for by pool word (Some (Free block)) = Recorded (Back by block)
 own_answer_for by pool word (Some (Read block index)) = Loaded word
 own_answer_for by pool word (Some (Write block index value)) = Stored
@@ -90,15 +97,14 @@ abbrev pub own_answer : ProcessView → ℕ → OwnAnswer
 own_answer v word = own_answer_for v.transfer.number v.pool word v.calls.call
 
 -- the kind of an allocate's own step
-abbrev pub allocate_kind : Source → Kind
-allocate_kind source.Current = K12
-allocate_kind source.Spare = K12
-allocate_kind source.Nothing = K14
+abbrev pub allocate_kind : Option ℕ → Kind
+allocate_kind None = K14
+allocate_kind (Some block) = K12
 
 -- the kind of a call's own step
 abbrev pub own_kind_for : PoolView → Option Call → Kind
 own_kind_for pool None = K19
-own_kind_for pool (Some Allocate) = allocate_kind (schedule.source_of pool.plan)
+own_kind_for pool (Some Allocate) = allocate_kind (next_block pool)
 own_kind_for pool (Some (Free block)) = K13
 own_kind_for pool (Some (Read block index)) = K15
 own_kind_for pool (Some (Write block index value)) = K16

@@ -1,6 +1,10 @@
 // The beginning of a call.
-ghost use Rattle.std.specs.Prelude.{◌≡◌, ◌≤◌, length};
-ghost use Rattle.pool_machine.specs.Beginning.{newest, due, before_call, first_stage, entered, call_begun};
+ghost use Rattle.std.specs.Prelude.{◌≡◌, ◌<◌, ◌≤◌, ◌^◌, length};
+ghost use Rattle.word_layout.specs.Packing.{FitsWish};
+ghost use Rattle.transfer_schedule.specs.declared.pending.Pending.TheVariants.{Idle};
+ghost use Rattle.transfer_machine.specs.declared.stage.NextStep.TheVariants.{Rest};
+ghost use Rattle.transfer_machine.specs.Pools.{MayBegin};
+ghost use Rattle.pool_machine.specs.Beginning.{newest, due, before_call, first_stage, entered, call_begun, alone_begun};
 ghost use Rattle.pool_machine.specs.Ready.{CanBegin};
 
 use transfer_machine::{Call, CallStage, CallView, PoolView, ProcessView, Way, begin_transfer};
@@ -66,6 +70,19 @@ fn first_stage(view: &ProcessView) -> CallStage
     } else {
         CallStage::Moving
     }
+}
+
+/// Begins a transfer alone, outside any call. Its steps are those of `transfer_machine`.
+pub fn begin_alone(view: &mut ProcessView, wish: Wish)
+    requires rest { view.old.transfer.next ≡ Rest }
+    requires idle { view.old.pool.plan.pending ≡ Idle }
+    requires age { view.old.transfer.age < 2 ^ 32 }
+    requires fits { FitsWish wish }
+    requires may { MayBegin wish view.old.pool }
+    ensures { view.new ≡ alone_begun wish view.old }
+{
+    begin_transfer(view, wish);
+    view.calls.way = Way::Alone;
 }
 
 /// Notes the call and its stage.

@@ -1,6 +1,6 @@
 //! What holds of every view, every call and every word. Each law is the contract of a call that does
 //! nothing.
-ghost use Rattle.pool_machine.specs.Laws.{ConditionsAreTests, MovesAreTests, ChoicesAreThePlans, OwnStepsAreThePlans, OpeningFits, BeginningsKeepSizes, StepsKeepSizes, CallsEnd};
+ghost use Rattle.pool_machine.specs.Laws.{ConditionsAreTests, MovesAreTests, ChoicesAreThePlans, DueTransfersCanBegin, OwnStepsAreThePlans, OpeningFits, BeginningsKeepSizes, StepsKeepSizes, CallsEnd};
 
 /// The tests of the conditions on a beginning are these conditions.
 pub fn conditions()
@@ -8,10 +8,11 @@ pub fn conditions()
     ensures transfers { MovesAreTests }
 {}
 
-/// The transfer that begins with a call is the one that the plan chooses, and an own step takes or gives one
-/// block of the plan.
+/// The transfer that begins with a call is the one that the plan chooses, and can begin; an own step takes or
+/// gives one block of the plan.
 pub fn plans()
     ensures choices { ChoicesAreThePlans }
+    ensures due { DueTransfersCanBegin }
     ensures own_steps { OwnStepsAreThePlans }
 {}
 

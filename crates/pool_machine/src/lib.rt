@@ -14,11 +14,13 @@ pub mod laws;
 mod own;
 mod ready;
 mod step;
+#[cfg(test)]
+mod tests;
 
 pub use answer::OwnAnswer;
-pub use begin::{before_call, begin_call};
+pub use begin::{before_call, begin_alone, begin_call};
 pub use conditions::{may_call, may_move};
 pub use event::{Event, Happened};
-pub use own::{own_action, own_answer, own_kind, own_meet};
+pub use own::{next_block, own_action, own_answer, own_kind, own_meet};
 pub use ready::{can_begin, can_step_call};
 pub use step::{call_action, call_answer, call_meet, step_call};

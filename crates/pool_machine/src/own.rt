@@ -1,10 +1,10 @@
 // The own step of a call.
-ghost use Rattle.std.specs.Prelude.{◌≡◌, ◌<◌, ◌≤◌, ◌^◌, length};
+ghost use Rattle.std.specs.Prelude.{◌≡◌, ◌<◌, ◌^◌, IfSome};
 ghost use Rattle.word_layout.specs.Sizes.{blocks};
 ghost use Rattle.word_layout.specs.Names.{InRange};
 ghost use Rattle.transfer_schedule.specs.Numbers.{source_of, target_of};
 ghost use Rattle.transfer_machine.specs.Words.{name_of};
-ghost use Rattle.pool_machine.specs.OwnSteps.{allocate_action, follower, own_action, allocated, freed, call_left, own_met, allocate_answer, own_answer, allocate_kind, own_kind};
+ghost use Rattle.pool_machine.specs.OwnSteps.{next_block, follower, own_action, allocated, freed, call_left, own_met, own_answer, own_kind};
 ghost use Rattle.pool_machine.specs.Ready.{CanAllocate, CanFree, CanFollow, CanOwn, CanMeetOwn};
 
 use crate::answer::OwnAnswer;
@@ -30,6 +30,20 @@ pub fn target_of(plan: &Plan) -> Target
     after.gave_one()
 }
 
+/// The block that an allocate gets: the first of the current list, or of the newest spare where that list is
+/// empty.
+pub fn next_block(pool: &PoolView, shape: &Shape) -> Option<u32>
+    requires { CanAllocate shape.now pool.now (source_of pool.now.plan) }
+    ensures block { result ≡ next_block pool.now }
+    ensures within { IfSome result (λ block. block < blocks shape.now) }
+{
+    match source_of(&pool.plan) {
+        Source::Current => Some(pool.head - 1),
+        Source::Spare => Some(newest(pool)),
+        Source::Nothing => None,
+    }
+}
+
 /// What the own step of the present call does, and to which word.
 pub fn own_action(view: &ProcessView, shape: &Shape) -> Action
     requires { CanOwn shape.now view.now }
@@ -37,51 +51,35 @@ pub fn own_action(view: &ProcessView, shape: &Shape) -> Action
     ensures within { InRange shape.now (name_of result) }
 {
     match view.calls.call {
-        None => Action::Load {
-            name: WordName::State,
+        None => load(WordName::State),
+        Some(Call::Allocate) => match next_block(&view.pool, shape) {
+            None => load(WordName::State),
+            Some(block) => load(WordName::Next { block }),
         },
-        Some(Call::Allocate) => allocate_action(&view.pool, shape),
-        Some(Call::Free { block }) => Action::Store {
-            name: WordName::Next { block },
-            word: follower(&view.pool),
-        },
-        Some(Call::Read { block, index }) => Action::Load {
-            name: WordName::Data { block, index },
-        },
+        Some(Call::Free { block }) => store(WordName::Next { block }, follower(&view.pool)),
+        Some(Call::Read { block, index }) => load(WordName::Data { block, index }),
         Some(
             Call::Write {
                 block,
                 index,
                 value,
             },
-        ) => Action::Store {
-            name: WordName::Data { block, index },
-            word: value,
-        },
+        ) => store(WordName::Data { block, index }, value),
     }
 }
 
-/// What an allocate does: it loads the next word of the block that it gets, or the state where there is none.
-fn allocate_action(pool: &PoolView, shape: &Shape) -> Action
-    requires { CanAllocate shape.now pool.now (source_of pool.now.plan) }
-    ensures action { result ≡ allocate_action pool.now (source_of pool.now.plan) }
-    ensures within { InRange shape.now (name_of result) }
+/// Loads the word.
+fn load(name: WordName) -> Action
+    ensures { result ≡ Action.Load name }
 {
-    match source_of(&pool.plan) {
-        Source::Current => Action::Load {
-            name: WordName::Next {
-                block: pool.head - 1,
-            },
-        },
-        Source::Spare => Action::Load {
-            name: WordName::Next {
-                block: newest(pool),
-            },
-        },
-        Source::Nothing => Action::Load {
-            name: WordName::State,
-        },
-    }
+    Action::Load { name }
+}
+
+/// Stores this word.
+fn store(name: WordName, word: u64) -> Action
+    ensures { result ≡ Action.Store name word }
+{
+    Action::Store { name, word }
 }
 
 /// The next word of a freed block: the current list follows it, or nothing where that list is full.
@@ -155,50 +153,29 @@ pub fn own_answer(view: &ProcessView, shape: &Shape, word: u64) -> OwnAnswer
 {
     let by = view.transfer.number;
     match view.calls.call {
-        Some(Call::Allocate) => allocate_answer(by, &view.pool, shape),
+        Some(Call::Allocate) => OwnAnswer::Recorded(match next_block(&view.pool, shape) {
+            None => Entry::Dry { by },
+            Some(block) => Entry::Got { by, block },
+        }),
         Some(Call::Free { block }) => OwnAnswer::Recorded(Entry::Back { by, block }),
         Some(Call::Read { .. }) | None => OwnAnswer::Loaded(word),
         Some(Call::Write { .. }) => OwnAnswer::Stored,
     }
 }
 
-/// The entry of an allocate.
-fn allocate_answer(by: u32, pool: &PoolView, shape: &Shape) -> OwnAnswer
-    requires { CanAllocate shape.now pool.now (source_of pool.now.plan) }
-    ensures { result ≡ allocate_answer by pool.now (source_of pool.now.plan) }
-{
-    OwnAnswer::Recorded(match source_of(&pool.plan) {
-        Source::Current => Entry::Got {
-            by,
-            block: pool.head - 1,
-        },
-        Source::Spare => Entry::Got {
-            by,
-            block: newest(pool),
-        },
-        Source::Nothing => Entry::Dry { by },
-    })
-}
-
 /// The kind of the own step of the present call.
-pub fn own_kind(view: &ProcessView) -> Kind
+pub fn own_kind(view: &ProcessView, shape: &Shape) -> Kind
+    requires { CanOwn shape.now view.now }
     ensures { result ≡ own_kind view.now }
 {
     match view.calls.call {
         None => Kind::K19,
-        Some(Call::Allocate) => allocate_kind(&view.pool.plan),
+        Some(Call::Allocate) => match next_block(&view.pool, shape) {
+            None => Kind::K14,
+            Some(_) => Kind::K12,
+        },
         Some(Call::Free { .. }) => Kind::K13,
         Some(Call::Read { .. }) => Kind::K15,
         Some(Call::Write { .. }) => Kind::K16,
-    }
-}
-
-/// The kind of an allocate's own step.
-fn allocate_kind(plan: &Plan) -> Kind
-    ensures { result ≡ allocate_kind (source_of plan.now) }
-{
-    match source_of(plan) {
-        Source::Current | Source::Spare => Kind::K12,
-        Source::Nothing => Kind::K14,
     }
 }

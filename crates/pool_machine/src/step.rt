@@ -66,7 +66,7 @@ pub fn call_answer(view: &ProcessView, shape: &Shape, word: u64) -> Happened
     match view.calls.stage {
         CallStage::Between => Happened::Ignored,
         CallStage::Moving => Happened::Step(view.transfer.next.kind()),
-        CallStage::Own => happened(own_kind(view), own_answer(view, shape, word)),
+        CallStage::Own => happened(own_kind(view, shape), own_answer(view, shape, word)),
     }
 }
 
