@@ -1,39 +1,31 @@
 -- a process that makes transfers alone
-use Rattle.std.proofs.Common.{◌≡◌, ◌≢◌, ℕ, ◌+◌, ◌*◌, ◌<◌, ◌≤◌, ◌^◌, Bool, true, false, length, refl, sym, ◌∙◌, ap, arith, rules}
-use Rattle.std.specs.Prelude.{if◌then◌else◌, Option, None, Some}
-use Rattle.std.proofs.lemmas.Bool.Decides.{nat_tests}
+use Rattle.std.proofs.Common.{◌≡◌, ℕ, ◌+◌, ◌*◌, ◌<◌, ◌≤◌, ◌^◌, Bool, true, false, refl, ◌∙◌, ap, arith, rules}
+use Rattle.std.specs.Prelude.{None}
 use Rattle.word_layout.specs.Sizes.{Sizes, transfer_bound}
-use Rattle.word_layout.specs.Packing.{value_of, reply_of}
 use Rattle.word_layout.specs.declared.announced.Wish.{Wish}
-use Rattle.word_layout.specs.declared.announced.Wish.TheVariants.{Take, Give}
-use Rattle.word_layout.specs.declared.reply.Reply.{Reply}
-use Rattle.word_layout.specs.declared.reply.Reply.TheVariants.{Nothing, Took, Gave}
-use Rattle.transfer_schedule.specs.Numbers.{Numbers, is_idle, withheld}
+use Rattle.transfer_schedule.specs.Numbers.{is_idle, withheld}
 use Rattle.transfer_schedule.specs.Table.{InTable}
 use Rattle.transfer_schedule.specs.declared.pending.Pending.{Pending}
-use Rattle.transfer_schedule.specs.declared.pending.Pending.TheVariants.{Idle, Taking, Giving}
+use Rattle.transfer_schedule.specs.declared.pending.Pending.TheVariants.{Taking, Giving}
 use Rattle.transfer_schedule.proofs.Products.{times_le, times_two}
-use Rattle.transfer_machine.specs.Pools.{opening_view, view_begun, view_met, pending_of, MayBegin, CanCount, CanMeetPool, CanEnd}
+use Rattle.transfer_machine.specs.Pools.{opening_view, view_begun, view_met, MayBegin}
 use Rattle.transfer_machine.specs.declared.call.CallStage.TheVariants.{Between}
-use Rattle.transfer_machine.specs.declared.call.CallView.{CallView}
 use Rattle.transfer_machine.specs.declared.call.Way.{Way}
 use Rattle.transfer_machine.specs.declared.call.Way.TheVariants.{Fresh, Alone, Calls}
-use Rattle.transfer_machine.specs.declared.stage.NextStep.TheVariants.{Rest, LoadReply}
+use Rattle.transfer_machine.specs.declared.stage.NextStep.TheVariants.{Rest}
 use Rattle.transfer_machine.specs.declared.view.PoolView.{PoolView}
 use Rattle.transfer_machine.specs.declared.view.ProcessView.{ProcessView}
-use Rattle.pool_machine.specs.Beginning.{due}
+use Rattle.pool_machine.specs.Beginning.{alone_begun}
 use Rattle.pool_machine.specs.Conditions.{MayMove}
-use Rattle.pool_invariant.specs.Kept.{KeptAlone, Answers, GivenToPool}
-use Rattle.pool_invariant.specs.StepCount.{OverlayIsFew}
-use Rattle.pool_invariant.specs.Holds.{PoolRuns, PoolAlone, PoolHolds}
-use Rattle.pool_invariant.proofs.Ending.{moving_unless_rest, step_left}
+use Rattle.pool_invariant.specs.Kept.{KeptAlone, GivenToPool}
+use Rattle.pool_invariant.specs.Holds.{PoolAlone, PoolHolds}
 use Rattle.pool_invariant.proofs.Steps.{step_holds}
 use Rattle.history_invariant.specs.Ledger.{Ledger, opening_ledger}
-use Rattle.call_invariant.specs.InCalls.{Scheduled, NothingEntered, IsFresh, StageFits, InCalls}
-use Rattle.call_invariant.specs.InTransfers.{begun_alone, InTransfers}
-use Rattle.call_invariant.specs.Uses.{UsesPoolBy, PoolKeeps}
-use Rattle.call_invariant.proofs.Standing.{some_quantum, idle_rests, runs_with_calls, in_table, withholds_five}
-use Rattle.call_invariant.proofs.Begun.{due_may_begin, due_rests, runs_begun}
+use Rattle.call_invariant.specs.InCalls.{NothingEntered, IsFresh, InCalls}
+use Rattle.call_invariant.specs.InTransfers.{InTransfers}
+use Rattle.call_invariant.specs.Uses.{UsesPoolBy}
+use Rattle.call_invariant.proofs.Standing.{runs_with_calls}
+use Rattle.call_invariant.proofs.Begun.{runs_begun}
 
 -- the opening
 opened_pool : (sizes : Sizes) (i : ℕ) → PoolHolds sizes i (opening_view sizes i)
@@ -57,8 +49,9 @@ opening_calls sizes i =
 alone_pool : (sizes : Sizes) (i : ℕ) (v : ProcessView) (wish : Wish) → PoolAlone sizes i v.pool → is_idle v.pool.plan.pending ≡ true → MayBegin wish v.pool → PoolAlone sizes i (view_begun wish v).pool
 alone_pool sizes i v wish h idle may = search rules
 
-alone_begins : (sizes : Sizes) (i : ℕ) (v : ProcessView) (wish : Wish) (g : Ledger) → PoolHolds sizes i v → NothingEntered sizes g → v.calls.stage ≡ Between → v.calls.call ≡ None → v.transfer.next ≡ Rest → MayBegin wish v.pool → v.transfer.age < 2 ^ 32
-    → InTransfers sizes i (begun_alone wish v) g
+alone_begins : (sizes : Sizes) (i : ℕ) (v : ProcessView) (wish : Wish) (g : Ledger) → PoolHolds sizes i v → NothingEntered sizes g → v.calls.stage ≡ Between → v.calls.call ≡ None
+    → v.transfer.next ≡ Rest → MayBegin wish v.pool → v.transfer.age < 2 ^ 32
+    → InTransfers sizes i (alone_begun wish v) g
 alone_begins sizes i v wish g pool nothing stage none rest may young = record {
   way = refl;
   stage = stage;
@@ -70,18 +63,21 @@ alone_begins sizes i v wish g pool nothing stage none rest may young = record {
   nothing = nothing;
 }
 
-fresh_begins : (sizes : Sizes) (i : ℕ) (v : ProcessView) (wish : Wish) (g : Ledger) → IsFresh sizes i v g → v.transfer.next ≡ Rest → MayBegin wish v.pool → v.transfer.age < 2 ^ 32 → InTransfers sizes i (begun_alone wish v) g
+fresh_begins : (sizes : Sizes) (i : ℕ) (v : ProcessView) (wish : Wish) (g : Ledger) → IsFresh sizes i v g → v.transfer.next ≡ Rest → MayBegin wish v.pool → v.transfer.age < 2 ^ 32
+    → InTransfers sizes i (alone_begun wish v) g
 fresh_begins sizes i v wish g f rest may young =
     alone_begins sizes i v wish g (rw f.view (opened_pool sizes i)) f.nothing (ap (λ x. x.calls.stage) f.view) (ap (λ x. x.calls.call) f.view) rest may young
 
-pub moves_alone : (sizes : Sizes) (i : ℕ) (v : ProcessView) (wish : Wish) (g : Ledger) (way : Way) → v.calls.way ≡ way → UsesPoolBy way sizes i v g → MayMove v → v.transfer.next ≡ Rest → MayBegin wish v.pool → v.transfer.age < 2 ^ 32
-    → InTransfers sizes i (begun_alone wish v) g
+pub moves_alone : (sizes : Sizes) (i : ℕ) (v : ProcessView) (wish : Wish) (g : Ledger) (way : Way) → v.calls.way ≡ way → UsesPoolBy way sizes i v g → MayMove v → v.transfer.next ≡ Rest
+    → MayBegin wish v.pool → v.transfer.age < 2 ^ 32
+    → InTransfers sizes i (alone_begun wish v) g
 moves_alone sizes i v wish g Fresh e h moves rest may young = fresh_begins sizes i v wish g (h.fresh e) rest may young
 moves_alone sizes i v wish g Alone e h moves rest may young = alone_begins sizes i v wish g h.pool h.nothing h.stage h.none rest may young
 moves_alone sizes i v wish g Calls e h moves rest may young = absurd (moves e)
 
 -- a step of such a transfer
-pub transfers_step : (sizes : Sizes) (i : ℕ) (v : ProcessView) (word : ℕ) (g : Ledger) → InTransfers sizes i v g → 1 ≤ sizes.processes → GivenToPool sizes v.transfer word → InTransfers sizes i (view_met sizes v word) g
+pub transfers_step : (sizes : Sizes) (i : ℕ) (v : ProcessView) (word : ℕ) (g : Ledger) → InTransfers sizes i v g → 1 ≤ sizes.processes → GivenToPool sizes v.transfer word
+    → InTransfers sizes i (view_met sizes v word) g
 transfers_step sizes i v word g h some given = record {
   way = h.way;
   stage = h.stage;

@@ -1,22 +1,20 @@
 -- a process begins a call
-use Rattle.std.proofs.Common.{◌≡◌, ◌≢◌, ℕ, ◌+◌, ◌-◌, ◌<◌, ◌≤◌, ◌^◌, Bool, true, false, List, length, refl, sym, ◌∙◌, ap, arith, rules}
+use Rattle.std.proofs.Common.{◌≡◌, ◌≢◌, ℕ, ◌-◌, ◌<◌, ◌≤◌, ◌^◌, Bool, true, false, List, length, refl, sym, ◌∙◌, ap, arith, rules}
 use Rattle.std.specs.Prelude.{if◌then◌else◌, Option, None, Some, take}
 use Rattle.std.proofs.lemmas.Bool.Decides.{nat_tests}
 use Rattle.std.proofs.lemmas.List.{length-take-le}
-use Rattle.word_layout.specs.Sizes.{Sizes, transfer_bound}
+use Rattle.word_layout.specs.Sizes.{Sizes}
 use Rattle.word_layout.specs.declared.announced.Wish.{Wish}
 use Rattle.word_layout.specs.declared.announced.Wish.TheVariants.{Take, Give}
-use Rattle.transfer_schedule.specs.Numbers.{Numbers, AreSizes, is_idle, after_choice}
+use Rattle.transfer_schedule.specs.Numbers.{is_idle, after_choice}
 use Rattle.transfer_schedule.specs.Account.{Account}
 use Rattle.transfer_schedule.specs.Account as schedule
-use Rattle.transfer_schedule.specs.declared.pending.Pending.{Pending}
-use Rattle.transfer_schedule.specs.declared.pending.Pending.TheVariants.{Idle}
-use Rattle.transfer_schedule.proofs.Operations.{idle_is, choice_busy}
+use Rattle.transfer_schedule.proofs.Operations.{idle_is}
 use Rattle.transfer_machine.specs.Pools.{view_begun, MayBegin}
 use Rattle.transfer_machine.specs.declared.call.Call.{Call}
 use Rattle.transfer_machine.specs.declared.call.Call.TheVariants.{Allocate, Free, Read, Write}
 use Rattle.transfer_machine.specs.declared.call.CallStage.TheVariants.{Between, Moving, Own}
-use Rattle.transfer_machine.specs.declared.call.Way.TheVariants.{Fresh, Alone, Calls}
+use Rattle.transfer_machine.specs.declared.call.Way.TheVariants.{Calls}
 use Rattle.transfer_machine.specs.declared.stage.NextStep.{NextStep}
 use Rattle.transfer_machine.specs.declared.stage.NextStep.TheVariants.{Rest}
 use Rattle.transfer_machine.specs.declared.view.PoolView.{PoolView}
@@ -83,7 +81,8 @@ enters_if_due sizes v (Some wish) e young h =
 begun_pends : (s : NextStep) (t : Bool) → (is_moving s ≡ false → t ≡ true) → (if t then Own else Moving) ≡ Moving → s ≢ Rest
 begun_pends s t idle e = λ rest. grind arith
 
-begun_phase : (call : Call) (t : Bool) → changes_pool (Some call) ≡ true → (if t then schedule.Own else schedule.Moving 0) ≡ call_phase_at (record { stage = if t then Own else Moving; call = Some call; steps = 0; way = Calls }) (if t then Own else Moving)
+begun_phase : (call : Call) (t : Bool) → changes_pool (Some call) ≡ true
+    → (if t then schedule.Own else schedule.Moving 0) ≡ call_phase_at (record { stage = if t then Own else Moving; call = Some call; steps = 0; way = Calls }) (if t then Own else Moving)
 begun_phase Allocate true e = refl
 begun_phase Allocate false e = refl
 begun_phase (Free block) true e = refl
@@ -157,7 +156,8 @@ changing_begun sizes i v g call changes some between young h =
     }
 
 -- a read or a write begins
-keeping_begun : (sizes : Sizes) (i : ℕ) (v : ProcessView) (g : Ledger) (call : Call) → changes_pool (Some call) ≡ false → v.calls.stage ≡ Between → InCalls sizes i v g → InCalls sizes i (entered call Own v) g
+keeping_begun : (sizes : Sizes) (i : ℕ) (v : ProcessView) (g : Ledger) (call : Call) → changes_pool (Some call) ≡ false → v.calls.stage ≡ Between → InCalls sizes i v g
+    → InCalls sizes i (entered call Own v) g
 keeping_begun sizes i v g call keeps between h = record {
   way = λ e. cc;
   plan = h.plan;
@@ -176,14 +176,16 @@ keeping_begun sizes i v g call keeps between h = record {
     kept_phase (Write block index value) e = refl
 
 -- each call begins
-pub changing_call_begins : (sizes : Sizes) (i : ℕ) (v : ProcessView) (g : Ledger) (call : Call) → changes_pool (Some call) ≡ true → 0 < sizes.quantum → v.calls.stage ≡ Between → v.transfer.age < 2 ^ 32
+pub changing_call_begins : (sizes : Sizes) (i : ℕ) (v : ProcessView) (g : Ledger) (call : Call) → changes_pool (Some call) ≡ true → 0 < sizes.quantum → v.calls.stage ≡ Between
+    → v.transfer.age < 2 ^ 32
     → InCalls sizes i v g → CarriesOn sizes i (call_begun call v) g (ledger_begun call g)
 changing_call_begins sizes i v g Allocate changes some between young h = changing_begun sizes i v g Allocate changes some between young h
 changing_call_begins sizes i v g (Free block) changes some between young h = changing_begun sizes i v g (Free block) changes some between young h
 changing_call_begins sizes i v g (Read block index) changes some between young h = grind arith
 changing_call_begins sizes i v g (Write block index value) changes some between young h = grind arith
 
-pub keeping_call_begins : (sizes : Sizes) (i : ℕ) (v : ProcessView) (g : Ledger) (call : Call) → changes_pool (Some call) ≡ false → v.calls.stage ≡ Between → InCalls sizes i v g → InCalls sizes i (call_begun call v) g
+pub keeping_call_begins : (sizes : Sizes) (i : ℕ) (v : ProcessView) (g : Ledger) (call : Call) → changes_pool (Some call) ≡ false → v.calls.stage ≡ Between → InCalls sizes i v g
+    → InCalls sizes i (call_begun call v) g
 keeping_call_begins sizes i v g Allocate keeps between h = grind arith
 keeping_call_begins sizes i v g (Free block) keeps between h = grind arith
 keeping_call_begins sizes i v g (Read block index) keeps between h = keeping_begun sizes i v g (Read block index) keeps between h

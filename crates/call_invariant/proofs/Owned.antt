@@ -1,5 +1,5 @@
 -- a process makes the own step of its call
-use Rattle.std.proofs.Common.{◌≡◌, ◌≢◌, ℕ, ◌+◌, ◌-◌, ◌<◌, ◌≤◌, true, false, List, length, refl, sym, ◌∙◌, ap, [], ◌∷◌, ◌++◌, length-append, arith}
+use Rattle.std.proofs.Common.{◌≢◌, ◌≡◌, ℕ, ◌+◌, ◌-◌, ◌<◌, ◌≤◌, true, false, List, length, refl, sym, ◌∙◌, ap, [], ◌∷◌, length-append, arith}
 use Rattle.std.specs.Prelude.{Option, None, Some, take, Contains}
 use Rattle.std.proofs.lemmas.Bool.Decides.{nat_tests}
 use Rattle.std.proofs.lemmas.List.{length-take-le}
@@ -21,20 +21,18 @@ use Rattle.transfer_schedule.proofs.Operations.{one_more_few}
 use Rattle.transfer_schedule.proofs.Reaching.{reached_stands, stands_table}
 use Rattle.transfer_machine.specs.declared.call.Call.{Call}
 use Rattle.transfer_machine.specs.declared.call.Call.TheVariants.{Allocate, Free, Read, Write}
-use Rattle.transfer_machine.specs.declared.call.CallStage.TheVariants.{Between, Moving, Own}
+use Rattle.transfer_machine.specs.declared.call.CallStage.TheVariants.{Between, Own}
 use Rattle.transfer_machine.specs.declared.call.CallView.{CallView}
-use Rattle.transfer_machine.specs.declared.stage.NextStep.{NextStep}
 use Rattle.transfer_machine.specs.declared.view.PoolView.{PoolView}
 use Rattle.transfer_machine.specs.declared.view.ProcessView.{ProcessView}
-use Rattle.pool_machine.specs.OwnSteps.{allocated, freed, pool_own_met, call_left, own_met}
-use Rattle.pool_invariant.specs.Kept.{PoolKept}
+use Rattle.pool_machine.specs.OwnSteps.{block_from, next_block, allocated, freed, pool_own_met, call_left, own_met}
 use Rattle.pool_invariant.specs.Holds.{PoolRuns}
 use Rattle.history_invariant.specs.Fits.{CountsEntries}
 use Rattle.history_invariant.specs.Grips.{Balances}
 use Rattle.history_invariant.specs.Ledger.{Ledger}
 use Rattle.history_invariant.specs.Steps.{entered, got_one, got_none, gave_back}
 use Rattle.call_invariant.specs.Phases.{changes_pool, own_phase, call_phase_at}
-use Rattle.call_invariant.specs.InCalls.{Scheduled, StageFits, InCalls}
+use Rattle.call_invariant.specs.InCalls.{Scheduled, InCalls}
 use Rattle.call_invariant.proofs.Standing.{in_table}
 use Rattle.call_invariant.proofs.Moved.{not_fresh}
 
@@ -58,7 +56,8 @@ took_room x l e h = grind (arith, nat_tests)
 gave_room : (x : Numbers) (l : ℕ) → x.length ≡ l → 2 ≤ l → x.current ≤ l → (after_gave_one x).current ≤ l
 gave_room x l e long h = grind (arith, nat_tests)
 
-runs_with_pool : (sizes : Sizes) (v : ProcessView) (pool : PoolView) (calls : CallView) → PendsAs v.pool.plan pool.plan → pool.giving ≡ v.pool.giving → pool.plan.current ≤ sizes.length → PoolRuns sizes v
+runs_with_pool : (sizes : Sizes) (v : ProcessView) (pool : PoolView) (calls : CallView) → PendsAs v.pool.plan pool.plan → pool.giving ≡ v.pool.giving → pool.plan.current ≤ sizes.length
+    → PoolRuns sizes v
     → PoolRuns sizes (record v { pool = pool; calls = calls })
 runs_with_pool sizes v pool calls pends giving room h = record {
   kept = record {
@@ -89,7 +88,8 @@ took_heads word pool source.Spare e h = popped pool.heads pool.plan.spares h ∙
     left x e = grind (arith, nat_tests)
 took_heads word pool source.Nothing e h = grind (arith, nat_tests)
 
-gave_heads : (block : ℕ) (pool : PoolView) (t : Target) → target_of pool.plan ≡ t → pool.plan.spares ≤ 3 → length pool.heads ≡ pool.plan.spares → length (freed block pool t).heads ≡ (freed block pool t).plan.spares
+gave_heads : (block : ℕ) (pool : PoolView) (t : Target) → target_of pool.plan ≡ t → pool.plan.spares ≤ 3 → length pool.heads ≡ pool.plan.spares
+    → length (freed block pool t).heads ≡ (freed block pool t).plan.spares
 gave_heads block pool target.Current e few h = grind (arith, nat_tests)
 gave_heads block pool target.Fresh e few h = length-append pool.heads ((pool.head - 1) ∷ []) ∙ more pool.plan (length pool.heads) h e few
   where
@@ -129,8 +129,8 @@ allocate_leaves sizes i v word g new h own call plan phase =
     let s = source_of v.pool.plan in
     let same = allocated_plan word v.pool s in
     rw call (left_calls sizes i v g new (allocated word v.pool s) h own
-        (rw same (took_pends v.pool.plan)) (allocated_giving word v.pool s) (rw same (took_room v.pool.plan sizes.length h.runs.kept.batch h.runs.kept.room)) (took_heads word v.pool s refl h.heads)
-        (plan ∙ ap after_took_one h.plan ∙ sym same) phase)
+    (rw same (took_pends v.pool.plan)) (allocated_giving word v.pool s) (rw same (took_room v.pool.plan sizes.length h.runs.kept.batch h.runs.kept.room)) (took_heads word v.pool s refl h.heads)
+    (plan ∙ ap after_took_one h.plan ∙ sym same) phase)
 
 pub gets_leave : (sizes : Sizes) (i : ℕ) (v : ProcessView) (word : ℕ) (g : Ledger) (history : List Entry) (entry : Entry) → InCalls sizes i v g → v.calls.stage ≡ Own → v.calls.call ≡ Some Allocate
     → InCalls sizes i (own_met v word) (entered history entry (got_one g.account) g)
@@ -175,7 +175,8 @@ few_when_full x fresh few after = grind (arith, nat_tests, one_more_few x.spares
 reached_few : (sizes : Sizes) (a : Account) → Scheduled sizes a → a.plan.spares ≤ 3
 reached_few sizes a s = few_in_table a.plan (stands_table a (reached_stands sizes.length (transfer_bound sizes) sizes.quantum a s.fit s.reached))
 
-pub frees_have_room : (sizes : Sizes) (i : ℕ) (v : ProcessView) (g : Ledger) → InCalls sizes i v g → Scheduled sizes g.account → v.calls.stage ≡ Own → changes_pool v.calls.call ≡ true → g.account.backs < g.account.gots → target_of v.pool.plan ≡ target.Fresh → length v.pool.heads < 3
+pub frees_have_room : (sizes : Sizes) (i : ℕ) (v : ProcessView) (g : Ledger) → InCalls sizes i v g → Scheduled sizes g.account → v.calls.stage ≡ Own → changes_pool v.calls.call ≡ true
+    → g.account.backs < g.account.gots → target_of v.pool.plan ≡ target.Fresh → length v.pool.heads < 3
 frees_have_room sizes i v g h s own changes held fresh =
     let after = reached_few sizes (gave_back g.account) (record { fit = s.fit; reached = follows s.reached (frees (phase_own sizes i v g h own changes) held) }) in
     rw h.heads (few_when_full v.pool.plan fresh (spares_few sizes i v g s h) (rw (sym h.plan) after))
@@ -186,21 +187,33 @@ holders_may_free account entries block counts balance held =
     let (k, lt, at) = at_from_Contains (grip entries) block held in
     omega (arith, counts.gots, counts.backs, balance)
 
+-- an allocate is given a block exactly where the plan has one
+pub block_has_source : (pool : PoolView) (block : ℕ) → next_block pool ≡ Some block → source_of pool.plan ≢ source.Nothing
+block_has_source pool block e = λ none. grind arith
+
+pub no_block_has_none : (pool : PoolView) → next_block pool ≡ None → source_of pool.plan ≡ source.Nothing
+no_block_has_none pool e = by_source (source_of pool.plan) e
+  where
+    by_source : (s : Source) → block_from pool s ≡ None → s ≡ source.Nothing
+    by_source s e = grind arith
+
+-- what an own step finds of spares
 spare_has_head : (x : Numbers) → source_of x ≡ source.Spare → 1 ≤ x.spares
 spare_has_head x e = grind (arith, nat_tests)
 
 pub allocates_have_spare : (sizes : Sizes) (i : ℕ) (v : ProcessView) (g : Ledger) → InCalls sizes i v g → source_of v.pool.plan ≡ source.Spare → 1 ≤ length v.pool.heads
 allocates_have_spare sizes i v g h e = rw h.heads (spare_has_head v.pool.plan e)
 
-pub frees_leave : (sizes : Sizes) (i : ℕ) (v : ProcessView) (word block : ℕ) (g : Ledger) (history : List Entry) (entry : Entry) → InCalls sizes i v g → Scheduled sizes g.account → v.calls.stage ≡ Own → v.calls.call ≡ Some (Free block)
+pub frees_leave : (sizes : Sizes) (i : ℕ) (v : ProcessView) (word block : ℕ) (g : Ledger) (history : List Entry) (entry : Entry) → InCalls sizes i v g → Scheduled sizes g.account
+    → v.calls.stage ≡ Own → v.calls.call ≡ Some (Free block)
     → InCalls sizes i (own_met v word) (entered history entry (gave_back g.account) g)
 frees_leave sizes i v word block g history entry h s own call =
     let t = target_of v.pool.plan in
     let same = freed_plan block v.pool t in
     let few = spares_few sizes i v g s h in
     rw call (left_calls sizes i v g (entered history entry (gave_back g.account) g) (freed block v.pool t) h own
-        (rw same (gave_pends v.pool.plan)) (freed_giving block v.pool t) (rw same (gave_room v.pool.plan sizes.length h.runs.kept.batch s.fit.long h.runs.kept.room)) (gave_heads block v.pool t refl few h.heads)
-        (ap after_gave_one h.plan ∙ sym same) refl)
+    (rw same (gave_pends v.pool.plan)) (freed_giving block v.pool t) (rw same (gave_room v.pool.plan sizes.length h.runs.kept.batch s.fit.long h.runs.kept.room)) (gave_heads block v.pool t refl few h.heads)
+    (ap after_gave_one h.plan ∙ sym same) refl)
 
 -- a read or a write leaves the pool and the ledger as they are
 same_pool : (word : ℕ) (pool : PoolView) (call : Option Call) → changes_pool call ≡ false → pool_own_met word pool call ≡ pool
@@ -216,7 +229,8 @@ kept_phase calls own keeps = rw own (at_own calls.call keeps)
     at_own : (call : Option Call) → changes_pool call ≡ false → own_phase call ≡ schedule.Between
     at_own call e = grind arith
 
-pub keeping_steps_leave : (sizes : Sizes) (i : ℕ) (v : ProcessView) (word : ℕ) (g : Ledger) → InCalls sizes i v g → v.calls.stage ≡ Own → changes_pool v.calls.call ≡ false → InCalls sizes i (own_met v word) g
+pub keeping_steps_leave : (sizes : Sizes) (i : ℕ) (v : ProcessView) (word : ℕ) (g : Ledger) → InCalls sizes i v g → v.calls.stage ≡ Own → changes_pool v.calls.call ≡ false
+    → InCalls sizes i (own_met v word) g
 keeping_steps_leave sizes i v word g h own keeps =
     rw (same_pool word v.pool v.calls.call keeps) (left_calls sizes i v g g v.pool h own
-        (record { length = refl; bound = refl; quantum = refl; pending = refl; done = refl }) refl h.runs.kept.room h.heads h.plan (h.phase ∙ kept_phase v.calls own keeps))
+    (record { length = refl; bound = refl; quantum = refl; pending = refl; done = refl }) refl h.runs.kept.room h.heads h.plan (h.phase ∙ kept_phase v.calls own keeps))

@@ -1,14 +1,13 @@
 -- what the schedule and the pool say of a process at every moment
-use Rattle.std.proofs.Common.{◌≡◌, ◌≢◌, ℕ, ◌+◌, ◌*◌, ◌<◌, ◌≤◌, true, false, refl, sym, ◌∙◌, ap, arith}
-use Rattle.std.proofs.lemmas.Bool.Decides.{nat_tests}
+use Rattle.std.proofs.Common.{◌≡◌, ℕ, ◌*◌, ◌<◌, ◌≤◌, true, sym, ◌∙◌, arith}
 use Rattle.word_layout.specs.Sizes.{Sizes, IsShape, transfer_bound}
 use Rattle.word_layout.proofs.Limits.{two_blocks_a_batch}
-use Rattle.transfer_schedule.specs.Numbers.{Numbers, AreSizes, is_idle, withheld}
 use Rattle.transfer_schedule.specs.Account.{Account}
+use Rattle.transfer_schedule.specs.Numbers.{Numbers, AreSizes, withheld}
 use Rattle.transfer_schedule.specs.Table.{InTable}
 use Rattle.transfer_schedule.specs.declared.pending.Pending.TheVariants.{Idle}
 use Rattle.transfer_schedule.proofs.Products.{quantum_some}
-use Rattle.transfer_schedule.proofs.Reaching.{reached_stands, reached_sizes, stands_table, stands_withholds}
+use Rattle.transfer_schedule.proofs.Reaching.{Stands, reached_stands, reached_sizes, stands_table, stands_withholds}
 use Rattle.word_layout.specs.declared.announced.Wish.{Wish}
 use Rattle.transfer_machine.specs.Pools.{pending_of}
 use Rattle.transfer_machine.specs.declared.stage.NextStep.{NextStep}
@@ -58,12 +57,16 @@ runs_with_calls sizes v calls h = record {
 }
 
 -- the plan of a pool under calls is within the table of spares, and withholds at most five batches
+stands : (sizes : Sizes) (a : Account) → Scheduled sizes a → Stands a
+stands sizes a s = reached_stands sizes.length (transfer_bound sizes) sizes.quantum a s.fit s.reached
+
 pub in_table : (sizes : Sizes) (i : ℕ) (v : ProcessView) (g : Ledger) → Scheduled sizes g.account → InCalls sizes i v g → InTable v.pool.plan
-in_table sizes i v g s h = rw (sym h.plan) (stands_table g.account (reached_stands sizes.length (transfer_bound sizes) sizes.quantum g.account s.fit s.reached))
+in_table sizes i v g s h = rw (sym h.plan) (stands_table g.account (stands sizes g.account s))
 
 pub withholds_five : (sizes : Sizes) (i : ℕ) (v : ProcessView) (g : Ledger) → Scheduled sizes g.account → InCalls sizes i v g → withheld v.pool.plan ≤ 5 * sizes.length
 withholds_five sizes i v g s h =
-    rw (sym h.plan) (within g.account.plan (stands_withholds g.account (reached_stands sizes.length (transfer_bound sizes) sizes.quantum g.account s.fit s.reached)) (reached_sizes sizes.length (transfer_bound sizes) sizes.quantum g.account s.reached).0)
+    let length = (reached_sizes sizes.length (transfer_bound sizes) sizes.quantum g.account s.reached).0 in
+    rw (sym h.plan) (within g.account.plan (stands_withholds g.account (stands sizes g.account s)) length)
   where
     within : (x : Numbers) → withheld x ≤ 5 * x.length → x.length ≡ sizes.length → withheld x ≤ 5 * sizes.length
     within x h e = rw (sym e) h

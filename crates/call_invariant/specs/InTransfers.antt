@@ -1,18 +1,12 @@
 -- what holds of a process that makes transfers alone, outside any call
 use Rattle.std.specs.Prelude.{◌≡◌, ℕ, None}
 use Rattle.word_layout.specs.Sizes.{Sizes}
-use Rattle.word_layout.specs.declared.announced.Wish.{Wish}
-use Rattle.transfer_machine.specs.Pools.{view_begun}
 use Rattle.transfer_machine.specs.declared.call.CallStage.TheVariants.{Between}
 use Rattle.transfer_machine.specs.declared.call.Way.TheVariants.{Alone}
 use Rattle.transfer_machine.specs.declared.view.ProcessView.{ProcessView}
 use Rattle.pool_invariant.specs.Holds.{PoolHolds}
 use Rattle.history_invariant.specs.Ledger.{Ledger}
 use Rattle.call_invariant.specs.InCalls.{NothingEntered}
-
--- a transfer begins alone, outside any call
-abbrev pub begun_alone : Wish → ProcessView → ProcessView
-begun_alone wish v = record (view_begun wish v) { calls = record v.calls { way = Alone } }
 
 -- the process is in no call and has entered nothing; its pool is as transfers alone leave it
 pub record InTransfers (sizes : Sizes) (process : ℕ) (v : ProcessView) (ledger : Ledger) : Type 0 where

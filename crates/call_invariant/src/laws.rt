@@ -1,5 +1,5 @@
 //! Each law is the contract of a call that does nothing.
-ghost use Rattle.call_invariant.specs.Laws.{ShapesFitSchedules, OpeningMeetsCalls, ChangingCallsBegin, KeepingCallsBegin, TransferStepsCarryOn, TransferStepsEnterNothing, OwnStepsAreDue, GotsEndCalls, RefusalsEndCalls, BacksEndCalls, KeepingStepsEndCalls, AllocatesHaveSpares, FreesHaveRoom, HoldersMayFree, TransfersBegin, TransfersStep, CallsAreOneWay, InCallsIsAUse, TransfersAreOneWay, InTransfersIsAUse, SameAccountsKeep, UsesKeepPools, StepsCanCount, RepliesCanEnd, DueTransfersMayBegin, IdlePoolsRest};
+ghost use Rattle.call_invariant.specs.Laws.{ShapesFitSchedules, OpeningMeetsCalls, ChangingCallsBegin, KeepingCallsBegin, TransferStepsCarryOn, TransferStepsEnterNothing, OwnStepsAreDue, GotsEndCalls, RefusalsEndCalls, BacksEndCalls, KeepingStepsEndCalls, BlocksAreThePlans, AllocatesHaveSpares, FreesHaveRoom, HoldersMayFree, TransfersBegin, TransfersStep, CallsAreOneWay, InCallsIsAUse, TransfersAreOneWay, InTransfersIsAUse, SameAccountsKeep, UsesKeepPools, StepsCanCount, RepliesCanEnd, DueTransfersMayBegin, IdlePoolsRest, CallsCanBegin, MovesCanBeMade, EmptyStackLeavesFew};
 
 /// The sizes of a shape are those of a schedule.
 pub fn shapes()
@@ -32,8 +32,9 @@ pub fn own_steps()
     ensures keeping { KeepingStepsEndCalls }
 {}
 
-/// What an own step finds of spares.
+/// Which block an allocate is given, and which spares an own step finds.
 pub fn spares()
+    ensures blocks { BlocksAreThePlans }
     ensures opened { AllocatesHaveSpares }
     ensures room { FreesHaveRoom }
     ensures held { HoldersMayFree }
@@ -62,4 +63,15 @@ pub fn pools()
     ensures end { RepliesCanEnd }
     ensures due { DueTransfersMayBegin }
     ensures rest { IdlePoolsRest }
+{}
+
+/// Calls can begin and make their transfer steps.
+pub fn calls_can_go_on()
+    ensures begin { CallsCanBegin }
+    ensures move_on { MovesCanBeMade }
+{}
+
+/// While the shared stack is empty, few blocks are unheld, whichever way each process uses its pool.
+pub fn empty_stacks()
+    ensures { EmptyStackLeavesFew }
 {}

@@ -1,5 +1,8 @@
-use Rattle.call_invariant.proofs.Owned.{allocates_have_spare, frees_have_room, holders_may_free}
+use Rattle.call_invariant.proofs.Owned.{block_has_source, no_block_has_none, allocates_have_spare, frees_have_room, holders_may_free}
 use Rattle.call_invariant.proofs.laws.spares.Goals as goal
+
+pub returns-clause-blocks : goal.returns-clause-blocks
+returns-clause-blocks c pool = (block_has_source pool, no_block_has_none pool)
 
 pub returns-clause-opened : goal.returns-clause-opened
 returns-clause-opened c sizes i v ledger h spare = allocates_have_spare sizes i v ledger h spare

@@ -1,4 +1,4 @@
-use Rattle.call_invariant.proofs.Moved.{transfer_steps_carry, enters_nothing}
+use Rattle.call_invariant.proofs.Carried.{transfer_steps_carry, enters_nothing}
 use Rattle.call_invariant.proofs.laws.transfer_steps.Goals as goal
 
 pub returns-clause-carry_on : goal.returns-clause-carry_on
