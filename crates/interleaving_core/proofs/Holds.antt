@@ -93,7 +93,7 @@ batch_is_block sizes (Give head) h = h.block
 -- what the pools and batches give for the step of a view
 supplied : (sizes : Sizes) (words : Words) (views : ProcessViews) (states : States) (i : ℕ) → IsShape sizes → i < sizes.processes → Holds sizes words views states → Supplied sizes words states (views i).transfer
 supplied sizes words views states i shape li h = record {
-  age = λ e. (h.pools i li).age.below (rw e refl);
+  age = λ e. (h.pools i li).runs.age.below (rw e refl);
   wish = λ e. batch_is_block sizes (views i).transfer.wish (begun_is_batch sizes (states (state_tag words)) views i shape h.batches.placed li e);
   room = λ e hit. (plan_has_room sizes (states (state_tag words)) views (views i).transfer shape h.batches (installs_next sizes words views states i shape li h e hit)).within;
 }
@@ -136,13 +136,13 @@ some_quantum q (inr (inr (inr (inr e)))) = omega (arith, e)
 can_count : (sizes : Sizes) (i : ℕ) (v : ProcessView) → IsShape sizes → PoolHolds sizes i v → OverlayIsFew sizes v.transfer → v.transfer.next ≢ Rest → CanCount v.pool
 can_count sizes i v shape h few busy =
     let moving = moving_unless_rest v.transfer.next busy in
-    let pending = h.kept.pending moving in
-    let left = step_left sizes v.transfer v.transfer.next h.index few in
-    let counted = h.counted moving in
+    let pending = h.runs.kept.pending moving in
+    let left = step_left sizes v.transfer v.transfer.next h.runs.index few in
+    let counted = h.runs.counted moving in
     record {
       pending = λ idle. wish_pends v.transfer.wish (sym pending ∙ idle);
-      some = rw h.kept.quantum (some_quantum sizes.quantum shape.a_quantum);
-      within = omega (arith, h.kept.bound);
+      some = rw h.runs.kept.quantum (some_quantum sizes.quantum shape.a_quantum);
+      within = omega (arith, h.runs.kept.bound);
     }
   where
     wish_pends : (wish : Wish) → pending_of wish ≡ Idle → ⊥
@@ -150,7 +150,7 @@ can_count sizes i v shape h few busy =
     wish_pends (Give head) e = grind arith
 
 can_end : (sizes : Sizes) (i : ℕ) (v : ProcessView) (word : ℕ) → PoolHolds sizes i v → (v.transfer.next ≡ LoadReply → Answers v.transfer.wish (reply_of (value_of word))) → CanMeetPool word v.pool v.transfer.next
-can_end sizes i v word h answers e = reply_ends v.pool v.transfer.wish (reply_of (value_of word)) (h.kept.pending (rw e refl)) h.spares (answers e)
+can_end sizes i v word h answers e = reply_ends v.pool v.transfer.wish (reply_of (value_of word)) (h.runs.kept.pending (rw e refl)) h.alone.spares (answers e)
   where
     reply_ends : (pool : PoolView) (wish : Wish) (reply : Reply) → pool.plan.pending ≡ pending_of wish → SparesKept pool → Answers wish reply → CanEnd reply pool
     reply_ends pool Take Nothing pending spares h = λ e. grind (arith, sym pending ∙ e)
@@ -162,7 +162,7 @@ can_end sizes i v word h answers e = reply_ends v.pool v.transfer.wish (reply_of
 
 pub step_allowed : (sizes : Sizes) (words : Words) (views : ProcessViews) (states : States) (i : ℕ) → IsShape sizes → i < sizes.processes → Holds sizes words views states → (views i).transfer.next ≢ Rest → StepAllowed sizes words (views i)
 step_allowed sizes words views states i shape li h busy =
-    let (act, meet) = can_be_made sizes words (transfers views) states i shape li h.stack (supplied sizes words views states i shape li h) (λ o lo. (h.pools o lo).age.most) in
+    let (act, meet) = can_be_made sizes words (transfers views) states i shape li h.stack (supplied sizes words views states i shape li h) (λ o lo. (h.pools o lo).runs.age.most) in
     let give = given sizes words views states i li h in
     record {
       act = act;
@@ -195,7 +195,7 @@ step_holds sizes words new views after states i shape li h busy acted moved =
 
 -- a process at rest has nothing pending, and its wish fits
 pub rests_idle : (sizes : Sizes) (words : Words) (views : ProcessViews) (states : States) (i : ℕ) → i < sizes.processes → Holds sizes words views states → (views i).transfer.next ≡ Rest → (views i).pool.plan.pending ≡ Idle
-rests_idle sizes words views states i li h rest = (h.pools i li).kept.idle (rw rest refl)
+rests_idle sizes words views states i li h rest = (h.pools i li).runs.kept.idle (rw rest refl)
 
 pub wish_fits : (sizes : Sizes) (words : Words) (views : ProcessViews) (states : States) (i : ℕ) (wish : Wish) → IsShape sizes → i < sizes.processes → Holds sizes words views states → (views i).transfer.next ≡ Rest → may_wish wish (views i).pool ≡ true → FitsWish wish × MayBegin wish (views i).pool
 wish_fits sizes words views states i wish shape li h rest may = newest wish may
@@ -219,7 +219,7 @@ wish_fits sizes words views states i wish shape li h rest may = newest wish may
         let batch = spare_is_batch sizes (states (state_tag words)) views i shape h.batches.placed li last (omega arith) in
         let block = batch.block in
         let limit = shape.few_blocks in
-        (rw (sym is) (omega arith), (any, rw (sym (h.pools i li).spares.heads) any, is))
+        (rw (sym is) (omega arith), (any, rw (sym (h.pools i li).alone.spares.heads) any, is))
 
 -- both conditions of a move
 pub both_low : (a b : ℕ) (t : Bool) → (nat_lt a b && t) ≡ true → a < b

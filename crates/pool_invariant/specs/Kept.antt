@@ -1,4 +1,4 @@
--- what a process keeps for its pool while it makes transfers alone, outside any call
+-- what a process keeps for its pool, and what of it stays while it makes transfers alone, outside any call
 use Rattle.std.specs.Prelude.{◌≡◌, ℕ, ◌+◌, ◌*◌, ◌^◌, ◌<◌, ◌≤◌, true, false, length}
 use Rattle.word_layout.specs.Sizes.{Sizes, transfer_bound}
 use Rattle.word_layout.specs.Packing.{wish_code, value_of, reply_of}

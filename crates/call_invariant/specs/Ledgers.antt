@@ -1,0 +1,61 @@
+-- what the steps of a process in its calls make of its ledger
+use Rattle.std.specs.Prelude.{ℕ, Bool, true, false}
+use Rattle.word_layout.specs.Packing.{value_of, reply_of}
+use Rattle.word_layout.specs.declared.reply.Reply.{Reply}
+use Rattle.word_layout.specs.declared.reply.Reply.TheVariants.{Nothing, Took, Gave}
+use Rattle.transfer_schedule.specs.Numbers.{is_idle, after_choice}
+use Rattle.transfer_schedule.specs.Account.{Account, Moving, Own}
+use Rattle.transfer_machine.specs.declared.call.Call.{Call}
+use Rattle.transfer_machine.specs.declared.call.Call.TheVariants.{Allocate, Free, Read, Write}
+use Rattle.transfer_machine.specs.declared.stage.NextStep.{NextStep}
+use Rattle.transfer_machine.specs.declared.stage.NextStep.TheVariants.{Rest, Announce, LoadState, LoadRecordWord, LoadCoveredSlot, ExchangeSlot, LoadAnnouncement, LoadPoppedSlot, StoreRecordWord, ExchangeState, LoadFinalState, LoadReply}
+use Rattle.transfer_machine.specs.declared.view.ProcessView.{ProcessView}
+use Rattle.history_invariant.specs.Ledger.{Ledger}
+use Rattle.history_invariant.specs.Steps.{stepped, announced, ended}
+
+-- the account once an allocate or a free is begun, by whether nothing was pending before, and whether nothing is pending in it
+abbrev pub account_begun_by : Bool → Bool → Account → Account
+account_begun_by true true a = record a { plan = after_choice a.plan; phase = Own }
+account_begun_by true false a = record a { plan = after_choice a.plan; phase = Moving 0; begun = a.entries }
+account_begun_by false true a = record a { plan = after_choice a.plan; phase = Own }
+account_begun_by false false a = record a { plan = after_choice a.plan; phase = Moving 0 }
+
+-- the account once an allocate or a free is begun
+abbrev pub account_begun : Account → Account
+account_begun a = account_begun_by (is_idle a.plan.pending) (is_idle (after_choice a.plan).pending) a
+
+-- the ledger once a call is begun
+abbrev pub ledger_begun : Call → Ledger → Ledger
+ledger_begun Allocate ledger = record ledger { account = account_begun ledger.account }
+ledger_begun (Free block) ledger = record ledger { account = account_begun ledger.account }
+ledger_begun (Read block index) ledger = ledger
+ledger_begun (Write block index value) ledger = ledger
+
+-- whether a transfer that ends with this reply is one that found a batch, or gave one
+abbrev pub found_by : Reply → Bool
+found_by Nothing = false
+found_by (Took head) = true
+found_by Gave = true
+
+-- the ledger after a step of the transfer that isn't its first or last
+abbrev pub ledger_stepped : ℕ → Ledger → Ledger
+ledger_stepped made ledger = record ledger { account = stepped made ledger.account }
+
+-- the ledger after a step of the transfer met this word, the present call having made so many before
+abbrev pub ledger_moved_at : ℕ → ℕ → NextStep → Ledger → Ledger
+ledger_moved_at word made Rest ledger = ledger
+ledger_moved_at word made Announce ledger = announced made ledger
+ledger_moved_at word made LoadState ledger = ledger_stepped made ledger
+ledger_moved_at word made (LoadRecordWord index) ledger = ledger_stepped made ledger
+ledger_moved_at word made (LoadCoveredSlot offset) ledger = ledger_stepped made ledger
+ledger_moved_at word made (ExchangeSlot offset) ledger = ledger_stepped made ledger
+ledger_moved_at word made (LoadAnnouncement process) ledger = ledger_stepped made ledger
+ledger_moved_at word made (LoadPoppedSlot process) ledger = ledger_stepped made ledger
+ledger_moved_at word made (StoreRecordWord index) ledger = ledger_stepped made ledger
+ledger_moved_at word made ExchangeState ledger = ledger_stepped made ledger
+ledger_moved_at word made LoadFinalState ledger = ledger_stepped made ledger
+ledger_moved_at word made LoadReply ledger = ended (found_by (reply_of (value_of word))) ledger
+
+-- the ledger after the next step of the transfer met this word
+abbrev pub ledger_moved : ℕ → ProcessView → Ledger → Ledger
+ledger_moved word v ledger = ledger_moved_at word v.calls.steps v.transfer.next ledger
