@@ -37,7 +37,7 @@ taken_fits : (t : Bool) (head : ℕ) → (t ≡ false → head < 2 ^ 22) → Fit
 taken_fits true head h = tt
 taken_fits false head h = h refl
 
-answer_fits : (s : StackState) (wish : Wish) → ((place : ℕ) → place < s.height → s.content place < 2 ^ 22) → FitsReply (answer_to wish s)
+pub answer_fits : (s : StackState) (wish : Wish) → ((place : ℕ) → place < s.height → s.content place < 2 ^ 22) → FitsReply (answer_to wish s)
 answer_fits s Take heads = taken_fits (s.height == 0) (s.content (s.height - 1)) (λ e. heads (s.height - 1) (not_empty s.height e))
   where
     not_empty : (n : ℕ) → (n == 0) ≡ false → n - 1 < n

@@ -25,7 +25,7 @@ use Rattle.batch_invariant.proofs.Transit.{transit_weight, HeadsFit, pending_fit
 use Rattle.batch_invariant.proofs.Applied.{with_granted, granted_carried, same_matches, put_elsewhere}
 
 -- the wish of the present announcement is read back
-wish_read : (number : ℕ) (wish : Wish) → FitsWish wish → announced_wish (announced_word (record { number = number; wish = wish })) ≡ wish
+pub wish_read : (number : ℕ) (wish : Wish) → FitsWish wish → announced_wish (announced_word (record { number = number; wish = wish })) ≡ wish
 wish_read number wish fits = rw (value_of-tagged number (wish_code wish) (wish_code_lt wish fits)) (wish_of-wish_code wish)
 
 -- one announcement is met
@@ -42,12 +42,12 @@ announcement_carried sizes s views k word true lk fits present e = transfer_carr
 announcement_carried sizes s views k word false lk fits present e = record { same_weight = λ f. refl; matches = λ o lo h. h }
 
 -- those who weren't met yet have their replies and applied transfers
-either_state : (t : Bool) (x y : StackState) (o reply applied : ℕ) → (x.reply o ≡ reply) × (x.applied o ≡ applied) → (y.reply o ≡ reply) × (y.applied o ≡ applied)
+pub either_state : (t : Bool) (x y : StackState) (o reply applied : ℕ) → (x.reply o ≡ reply) × (x.applied o ≡ applied) → (y.reply o ≡ reply) × (y.applied o ≡ applied)
     → ((if t then x else y).reply o ≡ reply) × ((if t then x else y).applied o ≡ applied)
 either_state true x y o reply applied hx hy = hx
 either_state false x y o reply applied hx hy = hy
 
-unmet_stay : (announcements : ℕ → ℕ) (s : StackState) (k o : ℕ) → k ≤ o → ((next_of k announcements s).reply o ≡ s.reply o) × ((next_of k announcements s).applied o ≡ s.applied o)
+pub unmet_stay : (announcements : ℕ → ℕ) (s : StackState) (k o : ℕ) → k ≤ o → ((next_of k announcements s).reply o ≡ s.reply o) × ((next_of k announcements s).applied o ≡ s.applied o)
 unfolding next_of
 unmet_stay announcements s zero o le = (refl, refl)
 unmet_stay announcements s (suc k) o le =

@@ -30,7 +30,7 @@ use Rattle.chain_invariant.specs.Laws.{IsFree}
 use Rattle.chain_invariant.specs.Steps.{SameParts}
 use Rattle.chain_invariant.proofs.Gives.{current_lists_are_free, spares_are_free, held_are_apart}
 use Rattle.chain_invariant.proofs.Moves.{beginning_keeps}
-use Rattle.chain_invariant.proofs.Own.{quiet_chains, leaving_chains, spare_chains, coming_chains, starting_chains}
+use Rattle.chain_invariant.proofs.OwnChains.{quiet_chains, leaving_chains, spare_chains, coming_chains, starting_chains}
 use Rattle.chain_invariant.proofs.Transfers.{acts_elsewhere}
 
 -- held blocks by other lists that say the same

@@ -4,9 +4,12 @@ pub mod Lists
 pub mod Places
 pub mod Moves
 pub mod Transfers
+pub mod OwnStep
 pub mod Own
+pub mod OwnChains
 pub mod Counts
 pub mod Opened
 pub mod Gives
 pub mod Calls
 pub mod Kept
+pub mod Empty

@@ -1,74 +1,22 @@
 -- the own steps of a process: a block leaves its lists and is held, or a held block comes to them
 use Rattle.transfer_invariant.specs.Tags.{total}
-use Rattle.std.proofs.Common.{sym, ◌≡◌, ◌≢◌, ℕ, ◌+◌, ◌-◌, ◌*◌, ◌<◌, ◌≤◌, ◌==◌, true, false, refl, ap, inl, inr, List, [], ◌∷◌, length, arith}
-use Rattle.std.specs.Prelude.{if◌then◌else◌, Contains}
+use Rattle.std.proofs.Common.{sym, ◌≡◌, ℕ, ◌+◌, ◌-◌, ◌*◌, ◌<◌, ◌≤◌, ap, inl, inr, List, [], ◌∷◌, length, arith}
+use Rattle.std.specs.Prelude.{Contains}
 use Rattle.std.proofs.lemmas.Bool.{cases_eq, cases_lt}
-use Rattle.std.proofs.lemmas.Bool.Decides.{nat_tests}
 use Rattle.std.proofs.lemmas.List.Sums.{sum_by-cons, sum_by_push}
-use Rattle.word_layout.specs.Sizes.{Sizes, IsShape, blocks}
-use Rattle.word_layout.proofs.Limits.{two_blocks_a_batch}
+use Rattle.word_layout.specs.Sizes.{Sizes, blocks}
 use Rattle.transfer_machine.specs.States.{StackState}
 use Rattle.transfer_machine.specs.declared.view.ProcessView.{ProcessView}
 use Rattle.transfer_invariant.specs.Memory.{Words}
-use Rattle.transfer_invariant.proofs.Installs.{total_moved}
-use Rattle.batch_invariant.specs.Places.{moving}
 use Rattle.batch_invariant.specs.Batches.{ProcessViews, MovedProcess, weight, is_head}
 use Rattle.batch_invariant.proofs.Steps.{spares_parted}
-use Rattle.chain_invariant.specs.Chains.{BlockLists, ChainsHold, Chains, IsChainOf, MovedList, NextsStay, OtherNextsStay, pool_weight, times_pooled, blocks_weight, without}
+use Rattle.chain_invariant.specs.Chains.{BlockLists, ChainsHold, IsChainOf, MovedList, NextsStay, OtherNextsStay, pool_weight, times_pooled, blocks_weight, without}
 use Rattle.chain_invariant.specs.Steps.{FirstLeaves, SpareOpens, FirstComes, ListStarts, KeepsLists}
 use Rattle.chain_invariant.proofs.Weights.{has_weighs, weight_without, counts_no_other}
-use Rattle.chain_invariant.proofs.Pool.{pool_moved, spare_pooled, pool_same}
+use Rattle.chain_invariant.proofs.Pool.{spare_pooled, pool_same}
 use Rattle.chain_invariant.proofs.Lists.{Begins, begins, rest_chain, longer_chain, chain_stays, empty_chain, no_chain}
 use Rattle.chain_invariant.proofs.Places.{batch_stays, current_stays, batch_stays_but, current_stays_but, held_once, begin_weighs, head_weighs, current_in_no_batch}
-
--- lists of blocks with another one at one number
-abbrev pub put_list : ℕ → List ℕ → BlockLists → BlockLists
-put_list number list lists k = if k == number then list else lists k
-
-pub put_list_moved : (number : ℕ) (list : List ℕ) (lists : BlockLists) → MovedList number list lists (put_list number list lists)
-put_list_moved number list lists = record { here = put_here; elsewhere = put_elsewhere }
-  where
-    put_here : put_list number list lists number ≡ list
-    put_here = let test : (number == number) ≡ true = grind (arith, nat_tests) in rw test refl
-
-    put_elsewhere : (other : ℕ) → other ≢ number → put_list number list lists other ≡ lists other
-    put_elsewhere other ne = let test : (other == number) ≡ false = grind (arith, nat_tests) in rw test refl
-
--- the spares of the process change, its transfer stays
-spares_moved : (sizes : Sizes) (s : StackState) (views after : ProcessViews) (i : ℕ) (x : ProcessView) (f : ℕ → ℕ) → i < sizes.processes → MovedProcess i x views after → x.transfer ≡ (views i).transfer
-    → pool_weight sizes s after f + weight f (views i).pool.heads ≡ pool_weight sizes s views f + weight f x.pool.heads
-spares_moved sizes s views after i x f li moved transfer = omega (arith, pool_moved sizes s views after i x f li moved, ap (λ v. weight f (moving s i v)) transfer)
-
--- an own step: the lists of one process change, and its spares
-own_step : (sizes : Sizes) (words new : Words) (s : StackState) (views after : ProcessViews) (batches currents holds batches_after currents_after holds_after : BlockLists) (i : ℕ) (x : ProcessView) (chain held : List ℕ)
-    → i < sizes.processes
-    → ChainsHold sizes words s views batches currents holds
-    → MovedProcess i x views after → x.transfer ≡ (views i).transfer
-    → MovedList i chain currents currents_after → MovedList i held holds holds_after
-    → ((head : ℕ) → 1 ≤ times_pooled sizes s after head → IsChainOf new (head + 1) sizes.length (batches_after head))
-    → IsChainOf new x.pool.head x.pool.plan.current chain
-    → ((o : ℕ) → o < sizes.processes → o ≢ i → IsChainOf new (views o).pool.head (views o).pool.plan.current (currents o))
-    → ((f : ℕ → ℕ) → weight f chain + weight f held + pool_weight sizes s after (λ head. weight f (batches_after head)) ≡ weight f (currents i) + weight f (holds i) + pool_weight sizes s views (λ head. weight f (batches head)))
-    → ChainsHold sizes new s after batches_after currents_after holds_after
-unfolding blocks_weight
-own_step sizes words new s views after batches currents holds batches_after currents_after holds_after i x chain held li hold moved transfer currents_moved holds_moved each own others weights = record {
-  batches = each;
-  currents = λ o lo. elim (cases_eq o i) [
-    | inl e ↦ rw e (rw (moved.here, currents_moved.here) own)
-    | inr ne ↦ rw (moved.elsewhere o ne, currents_moved.elsewhere o ne) (others o lo ne)
-  ];
-  placed = λ f.
-      let lists = λ (o : ℕ). weight f (currents o) + weight f (holds o) in
-      let lists_after = λ (o : ℕ). weight f (currents_after o) + weight f (holds_after o) in
-      let all = total_moved sizes.processes i lists lists_after li (λ o lo ne. rw (currents_moved.elsewhere o ne, holds_moved.elsewhere o ne) refl) in
-      let chains = ap (weight f) currents_moved.here in
-      let held_here = ap (weight f) holds_moved.here in
-      omega (arith, all, chains, held_here, weights f, hold.placed f);
-  replies = λ o lo. elim (cases_eq o i) [
-    | inl e ↦ rw e (rw (moved.here, transfer) (hold.replies i li))
-    | inr ne ↦ rw (moved.elsewhere o ne) (hold.replies o lo)
-  ];
-}
+use Rattle.chain_invariant.proofs.OwnStep.{put_list, put_list_moved, spares_moved, own_step}
 
 module _ (sizes : Sizes) (words new : Words) (s : StackState) (views after : ProcessViews) (batches currents holds holds_after : BlockLists) (i block : ℕ) (x : ProcessView) (li : i < sizes.processes)
     (hold : ChainsHold sizes words s views batches currents holds) (moved : MovedProcess i x views after) (transfer : x.transfer ≡ (views i).transfer) where
@@ -251,45 +199,4 @@ module _ (sizes : Sizes) (words new : Words) (s : StackState) (views after : Pro
       | inl e ↦ rw e (rw (moved.here, transfer) (hold.replies i li))
       | inr ne ↦ rw (moved.elsewhere o ne) (hold.replies o lo)
     ];
-  }
-
--- the same, whatever the blocks of the batches and of the current lists are
-module _ (sizes : Sizes) (words new : Words) (s : StackState) (views after : ProcessViews) (held : BlockLists) where
-  pub quiet_chains : (i : ℕ) (x : ProcessView) → i < sizes.processes → Chains sizes words s views held → KeepsLists (views i) x → MovedProcess i x views after → NextsStay sizes words new
-      → Chains sizes new s after held
-  quiet_chains i x li chains keeps moved stay = record {
-    batch_blocks = chains.batch_blocks;
-    current_blocks = chains.current_blocks;
-    hold = lists_stay sizes words new s views after chains.batch_blocks chains.current_blocks held held i 0 x li chains.hold moved keeps.transfer keeps stay;
-  }
-
-  pub leaving_chains : (held_after : BlockLists) (i block : ℕ) (x : ProcessView) → i < sizes.processes → Chains sizes words s views held → FirstLeaves words block (views i).pool x.pool
-      → x.transfer ≡ (views i).transfer → MovedProcess i x views after → NextsStay sizes words new → MovedList i (block ∷ held i) held held_after → Chains sizes new s after held_after
-  leaving_chains held_after i block x li chains leaves transfer moved stay gains =
-      let (rest, hold) = first_leaves sizes words new s views after chains.batch_blocks chains.current_blocks held held_after i block x li chains.hold moved transfer leaves stay gains in
-      record { batch_blocks = chains.batch_blocks; current_blocks = put_list i rest chains.current_blocks; hold = hold }
-
-  pub spare_chains : (held_after : BlockLists) (i block : ℕ) (x : ProcessView) → i < sizes.processes → Chains sizes words s views held → SpareOpens sizes.length words block (views i).pool x.pool
-      → x.transfer ≡ (views i).transfer → MovedProcess i x views after → NextsStay sizes words new → MovedList i (block ∷ held i) held held_after → Chains sizes new s after held_after
-  spare_chains held_after i block x li chains opens transfer moved stay gains =
-      let (rest, hold) = spare_opens sizes words new s views after chains.batch_blocks chains.current_blocks held held_after i block x li chains.hold moved transfer opens stay gains in
-      record { batch_blocks = chains.batch_blocks; current_blocks = put_list i rest chains.current_blocks; hold = hold }
-
-  pub coming_chains : (held_after : BlockLists) (i block : ℕ) (x : ProcessView) → i < sizes.processes → Chains sizes words s views held → Contains (held i) block
-      → FirstComes sizes.length new block (views i).pool x.pool → x.transfer ≡ (views i).transfer → MovedProcess i x views after → OtherNextsStay sizes block words new
-      → MovedList i (without block (held i)) held held_after → Chains sizes new s after held_after
-  coming_chains held_after i block x li chains has comes transfer moved stay loses = record {
-    batch_blocks = chains.batch_blocks;
-    current_blocks = put_list i (block ∷ chains.current_blocks i) chains.current_blocks;
-    hold = first_comes sizes words new s views after chains.batch_blocks chains.current_blocks held held_after i block x li chains.hold moved transfer has comes stay loses;
-  }
-
-  pub starting_chains : (held_after : BlockLists) (i block : ℕ) (x : ProcessView) → IsShape sizes → i < sizes.processes → Chains sizes words s views held → Contains (held i) block
-      → ListStarts sizes.length new block (views i).pool x.pool → x.transfer ≡ (views i).transfer → MovedProcess i x views after → OtherNextsStay sizes block words new
-      → MovedList i (without block (held i)) held held_after → Chains sizes new s after held_after
-  starting_chains held_after i block x shape li chains has starts transfer moved stay loses = record {
-    batch_blocks = put_list ((views i).pool.head - 1) (chains.current_blocks i) chains.batch_blocks;
-    current_blocks = put_list i (block ∷ []) chains.current_blocks;
-    hold = list_starts sizes words new s views after chains.batch_blocks chains.current_blocks held held_after i block x li chains.hold moved transfer
-        (omega (arith, two_blocks_a_batch sizes shape)) starts has stay loses;
   }

@@ -6,7 +6,7 @@ use Rattle.word_layout.specs.Packing.{value_of, reply_of}
 use Rattle.word_layout.specs.declared.announced.Wish.{Wish}
 use Rattle.word_layout.specs.declared.announced.Wish.TheVariants.{Take, Give}
 use Rattle.word_layout.specs.declared.name.WordName.TheVariants.{State, Next}
-use Rattle.word_layout.specs.declared.reply.Reply.TheVariants.{Gave}
+use Rattle.word_layout.specs.declared.reply.Reply.TheVariants.{Nothing, Gave}
 use Rattle.transfer_schedule.specs.Numbers.{is_idle, withheld}
 use Rattle.transfer_machine.specs.Machine.{action_of}
 use Rattle.transfer_machine.specs.Opening.{opening_base, opening_slot, opening_next}
@@ -18,7 +18,7 @@ use Rattle.transfer_machine.specs.declared.transfer.TransferView.{TransferView}
 use Rattle.transfer_machine.specs.declared.view.ProcessView.{ProcessView}
 use Rattle.transfer_machine.specs.declared.stage.NextStep.TheVariants.{Rest, Announce, ExchangeState, LoadReply}
 use Rattle.transfer_invariant.specs.Progress.{has_announced}
-use Rattle.transfer_invariant.specs.Installing.{states_after}
+use Rattle.transfer_invariant.specs.Installing.{planned_state, states_after}
 use Rattle.transfer_invariant.specs.Memory.{Words, States, Acted, state_tag}
 use Rattle.transfer_invariant.specs.Tags.{total}
 use Rattle.transfer_invariant.specs.Laws.{PlanFits}
@@ -238,3 +238,14 @@ FewAreFree = (sizes : Sizes) (words : Words) (s : StackState) (views : ProcessVi
     → s.height ≡ 0
     → ((i : ℕ) → i < sizes.processes → kept_blocks sizes s i (views i) ≤ 5 * sizes.length)
     → blocks sizes ≤ total sizes.processes (λ i. length (held i)) + slack sizes
+
+-- a take that the installed state applied and answered with nothing met an empty stack, so all blocks but the slack are held
+abbrev pub EmptyTakesFindFew : Type 0
+EmptyTakesFindFew = (sizes : Sizes) (words : Words) (s : StackState) (views : ProcessViews) (held : BlockLists) (v : TransferView) (i : ℕ) → IsShape sizes → i < sizes.processes
+    → Chains sizes words s views held
+    → InstallsNext sizes s views v
+    → is_take (views i).transfer.wish ≡ true
+    → (planned_state s v).applied i ≢ s.applied i
+    → reply_of ((planned_state s v).reply i) ≡ Nothing
+    → ((t : StackState) (o : ℕ) → o < sizes.processes → kept_blocks sizes t o (views o) ≤ 5 * sizes.length)
+    → blocks sizes ≤ total sizes.processes (λ o. length (held o)) + slack sizes

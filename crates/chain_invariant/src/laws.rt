@@ -1,6 +1,6 @@
 //! Each block is at one place. Each law is the contract of a call that does nothing.
 ghost use Rattle.chain_invariant.specs.Calls.{CallsBeginWithChains, OwnStepsKeepChains, GotBlocksAreFree, OwnStepsCanBeMade, SameHeldKeepChains};
-ghost use Rattle.chain_invariant.specs.Laws.{OpeningHasChains, BeginningsKeepChains, StepsKeepChains, NextStatesKeepChains, SameStatesKeepChains, TransfersKeepChains, QuietStepsKeepChains, LeavingKeepsChains, OpeningASpareKeepsChains, ComingKeepsChains, StartingKeepsChains, CurrentListsAreFree, SparesAreFree, HeldAreApart, BlocksAreOnce, StackHasRoom, HeadsAreBlocks, HeadsAreApart, GivesAreBlocks, PlansHaveRoom, EndsAnswerWishes, BlocksAreCounted, KeptIsWithheld, FewAreFree};
+ghost use Rattle.chain_invariant.specs.Laws.{OpeningHasChains, BeginningsKeepChains, StepsKeepChains, NextStatesKeepChains, SameStatesKeepChains, TransfersKeepChains, QuietStepsKeepChains, LeavingKeepsChains, OpeningASpareKeepsChains, ComingKeepsChains, StartingKeepsChains, CurrentListsAreFree, SparesAreFree, HeldAreApart, BlocksAreOnce, StackHasRoom, HeadsAreBlocks, HeadsAreApart, GivesAreBlocks, PlansHaveRoom, EndsAnswerWishes, BlocksAreCounted, KeptIsWithheld, FewAreFree, EmptyTakesFindFew};
 
 /// At the opening each block is at one place.
 pub fn opening()
@@ -72,6 +72,7 @@ pub fn counts()
     ensures all { BlocksAreCounted }
     ensures kept { KeptIsWithheld }
     ensures few { FewAreFree }
+    ensures empty { EmptyTakesFindFew }
 {}
 
 /// The calls of processes keep it as the machine of calls makes them: their beginnings and their own steps.

@@ -1,5 +1,5 @@
 -- the content of the stack, place by place
-use Rattle.std.proofs.Common.{◌≡◌, ℕ, zero, suc, ◌+◌, List, [], ◌∷◌, ◌++◌, refl, arith}
+use Rattle.std.proofs.Common.{◌≡◌, ℕ, suc, ◌+◌, [], ◌∷◌, ◌++◌, refl, arith}
 use Rattle.transfer_machine.specs.Words.{first_of}
 
 pub first_none : (values : ℕ → ℕ) → first_of 0 values ≡ []

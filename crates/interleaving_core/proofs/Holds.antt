@@ -1,298 +1,176 @@
 -- the opening meets the invariant, beginnings and steps keep it, and steps can be made
-use Rattle.std.proofs.Common.{◌≡◌, ◌≢◌, ℕ, ◌+◌, ◌-◌, ◌<◌, ◌≤◌, ◌^◌, ◌==◌, Bool, true, false, List, length, refl, sym, ap, ◌∙◌, inl, inr, arith, rules}
-use Rattle.std.specs.Prelude.{slice_index, nat_lt, nat_le, not, ◌&&◌, ◌||◌}
-use Rattle.std.proofs.lemmas.Bool.{cases_eq}
-use Rattle.std.proofs.lemmas.Bool.Decides.{nat_tests}
-use Rattle.word_layout.specs.Sizes.{Sizes, IsShape, IsQuantum, blocks}
-use Rattle.word_layout.specs.Names.{InRange, records, table_words, word_at}
-use Rattle.word_layout.specs.Packing.{FitsWish, value_of, reply_of}
+use Rattle.std.proofs.Common.{◌≡◌, ◌≢◌, ℕ, ◌<◌, Bool, true, false, List, [], ◌++◌, length, refl, sym, arith}
+use Rattle.word_layout.specs.Sizes.{Sizes, IsShape}
+use Rattle.word_layout.specs.Names.{table_words}
+use Rattle.word_layout.specs.Packing.{FitsWish}
 use Rattle.word_layout.specs.declared.announced.Wish.{Wish}
-use Rattle.word_layout.specs.declared.announced.Wish.TheVariants.{Take, Give}
-use Rattle.word_layout.specs.declared.name.WordName.TheVariants.{State}
+use Rattle.pool_model.specs.declared.entry.Entry.{Entry}
+use Rattle.pool_model.specs.History.{own, grip}
 use Rattle.transfer_schedule.specs.declared.pending.Pending.TheVariants.{Idle}
 use Rattle.transfer_machine.specs.Machine.{action_of, CanAct, CanMeet}
-use Rattle.transfer_machine.specs.Opening.{AreOpening, opening_transfer, opening_base, opening_slot}
-use Rattle.transfer_machine.specs.Pools.{opening_view, view_begun, view_met, pending_of, MayBegin, CanCount, CanMeetPool, CanEnd}
-use Rattle.transfer_machine.specs.States.{StackState}
-use Rattle.transfer_machine.specs.Tries.{is_take}
-use Rattle.transfer_machine.specs.declared.view.PoolView.{PoolView}
-use Rattle.word_layout.specs.declared.reply.Reply.{Reply}
-use Rattle.word_layout.specs.declared.reply.Reply.TheVariants.{Nothing, Took, Gave}
+use Rattle.transfer_machine.specs.Opening.{AreOpening}
+use Rattle.transfer_machine.specs.Phases.{is_rest}
+use Rattle.transfer_machine.specs.Pools.{opening_view, view_met, MayBegin, CanCount, CanMeetPool}
 use Rattle.transfer_machine.specs.Words.{name_of}
-use Rattle.transfer_machine.specs.Words as table
-use Rattle.transfer_machine.specs.declared.transfer.TransferView.{TransferView}
+use Rattle.transfer_machine.specs.declared.call.Call.{Call}
+use Rattle.transfer_machine.specs.declared.call.CallStage.TheVariants.{Between, Moving, Own}
+use Rattle.transfer_machine.specs.declared.call.Way.TheVariants.{Fresh, Alone}
 use Rattle.transfer_machine.specs.declared.view.ProcessView.{ProcessView}
+use Rattle.transfer_machine.specs.declared.stage.NextStep.TheVariants.{Rest}
+use Rattle.transfer_invariant.specs.Memory.{Words, Acted}
+use Rattle.batch_invariant.specs.Batches.{ProcessViews, MovedProcess}
+use Rattle.pool_machine.specs.Beginning.{alone_begun, call_begun}
+use Rattle.pool_machine.specs.Conditions.{may_call}
+use Rattle.pool_machine.specs.Ready.{CanBegin, CanActCall, CanMeetCall, CanActCallAt, CanMeetCallAt}
+use Rattle.pool_machine.specs.Steps.{call_action, call_action_at, call_met, call_met_at, call_answer, call_answer_at}
+use Rattle.std.specs.Prelude.{if◌then◌else◌, not}
+use Rattle.std.proofs.lemmas.List.{append-nil}
+use Rattle.transfer_machine.specs.Stages.{kind_of}
+use Rattle.transfer_machine.specs.declared.call.Way.{Way}
+use Rattle.transfer_machine.specs.declared.call.CallStage.{CallStage}
 use Rattle.transfer_machine.specs.declared.stage.NextStep.{NextStep}
-use Rattle.transfer_machine.specs.declared.stage.NextStep.TheVariants.{Rest, Announce, ExchangeState, LoadReply}
-use Rattle.transfer_invariant.specs.Memory.{Words, Views, States, Acted, Moved, state_tag, current_record}
-use Rattle.transfer_invariant.specs.Records.{StateFits, CurrentRecord}
-use Rattle.transfer_invariant.specs.Installing.{states_after}
-use Rattle.transfer_invariant.specs.OpeningState.{opening_state}
-use Rattle.transfer_invariant.proofs.Keeps.{row_fits}
-use Rattle.helping_invariant.specs.Laws.{PendsNow}
-use Rattle.plan_invariant.specs.Heads.{WishIsBlock}
-use Rattle.stack_invariant.specs.Stack.{StackHolds, Supplied}
-use Rattle.stack_invariant.specs.Gives.{present}
-use Rattle.stack_invariant.specs.Shown.{TableShows}
-use Rattle.stack_invariant.proofs.Tables.{tables_show}
-use Rattle.stack_invariant.proofs.Keeps.{opening_meets, beginnings_keep_stack, steps_keep_stack}
-use Rattle.stack_invariant.proofs.Follows.{can_be_made, installed_next, replies_answer, each_process}
-use Rattle.pool_invariant.specs.Holds.{PoolHolds}
-use Rattle.pool_invariant.specs.Kept.{Answers, GivenToPool, SparesKept}
-use Rattle.pool_invariant.specs.StepCount.{OverlayIsFew}
-use Rattle.pool_invariant.proofs.Steps as pool_steps
-use Rattle.pool_invariant.proofs.Ending.{moving_unless_rest, step_left}
-use Rattle.batch_invariant.specs.Batches.{ProcessViews, MovedProcess, BatchesHold, WishIsBatch}
-use Rattle.batch_invariant.specs.Premises.{InStep, PendingIsPresent, InstallsNext}
-use Rattle.batch_invariant.proofs.Heads.{begun_is_batch, spare_is_batch}
-use Rattle.batch_invariant.proofs.Machine as machine
-use Rattle.batch_invariant.proofs.Opened.{opened_holds}
-use Rattle.batch_invariant.proofs.Plans.{plan_has_room}
-use Rattle.batch_invariant.proofs.Steps.{ends_answer, transfers_move, beginnings_keep}
-use Rattle.interleaving_core.specs.Invariant.{Holds, MeetsInvariant}
+use Rattle.stack_invariant.proofs.Follows.{can_be_made}
+use Rattle.pool_machine.specs.declared.event.Happened.TheVariants.{Step}
+use Rattle.call_invariant.proofs.Standing.{shape_fits, some_quantum}
+use Rattle.call_invariant.proofs.Uses.{steps_can_count, replies_can_end, moves_can_be_made, calls_used}
+use Rattle.interleaving_core.proofs.Joins.{transfers, supplied, keeps, given, scheduled}
+use Rattle.interleaving_core.proofs.TransfersMade.{alone_step_holds, call_step_holds}
+use Rattle.interleaving_core.proofs.OwnSteps.{own_step_holds}
+use Rattle.interleaving_core.proofs.OwnAllowed.{own_step_allowed}
+use Rattle.interleaving_core.specs.Invariant.{Ghosts, Meets, MeetsInvariant, BlockIsHeld, Holds}
+use Rattle.interleaving_core.proofs.Begins as begins
+use Rattle.interleaving_core.proofs.Opens as opens
+use Rattle.interleaving_core.proofs.Standing as standing
 use Rattle.interleaving_core.specs.Content.{SaysContent}
 use Rattle.interleaving_core.specs.Moves.{may_move, may_wish}
+use Rattle.interleaving_core.specs.Runs.{entries_of}
+use Rattle.interleaving_core.specs.Steps.{is_alone, is_busy, is_in_call, next_action, next_met, next_answer}
 
--- the views of the transfers
-abbrev transfers : ProcessViews → Views
-transfers views = λ i. (views i).transfer
+pub opening_holds : (sizes : Sizes) (words : List ℕ) (views : ProcessViews) → IsShape sizes → AreOpening sizes words → ((i : ℕ) → i < sizes.processes → views i ≡ opening_view sizes i) → MeetsInvariant sizes words views []
+opening_holds sizes words views shape opening seats = opens.opening_holds sizes words views shape opening seats
 
 -- the view of a process has its number
-pub number_holds : (sizes : Sizes) (words : Words) (views : ProcessViews) (states : States) (i : ℕ) → i < sizes.processes → Holds sizes words views states → (views i).transfer.number ≡ i
-number_holds sizes words views states i li h = (each_process sizes words (transfers views) states i li h.stack).number
+pub number_holds : (sizes : Sizes) (words : Words) (views : ProcessViews) (history : List Entry) (i : ℕ) → i < sizes.processes → Meets sizes words views history → (views i).transfer.number ≡ i
+number_holds sizes words views history i li h = standing.number_holds sizes words views history i li h
 
--- a step of a process is in step with the present state
-in_step : (sizes : Sizes) (words : Words) (views : ProcessViews) (states : States) (i : ℕ) → i < sizes.processes → Holds sizes words views states → InStep (states (state_tag words)) i (views i).transfer (words (name_of (action_of sizes (views i).transfer)))
-in_step sizes words views states i li h =
-    record {
-      calm = (each_process sizes words (transfers views) states i li h.stack).counts.idle;
-      reply = λ e. rw e (replies_answer sizes words (transfers views) states i li h.stack e).reply;
-      applied = λ e. (replies_answer sizes words (transfers views) states i li h.stack e).applied;
-    }
+-- a process that has begun nothing is at rest, and one that makes transfers alone is in no call
+pub fresh_rests : (sizes : Sizes) (words : Words) (views : ProcessViews) (history : List Entry) (i : ℕ) → i < sizes.processes → Meets sizes words views history → (views i).calls.way ≡ Fresh → is_rest (views i).transfer.next ≡ true
+fresh_rests sizes words views history i li h fresh = standing.fresh_rests sizes words views history i li h fresh
 
--- a view that installs a state installs the next one
-installs_next : (sizes : Sizes) (words : Words) (views : ProcessViews) (states : States) (i : ℕ) → IsShape sizes → i < sizes.processes → Holds sizes words views states → (views i).transfer.next ≡ ExchangeState → words State ≡ (views i).transfer.loaded.state
-    → InstallsNext sizes (states (state_tag words)) views (views i).transfer
-installs_next sizes words views states i shape li h e hit =
-    let gives = installed_next sizes words (transfers views) states i shape li h.stack e hit in
-    record {
-      row = row_fits sizes words i (views i).transfer shape.few_processes li (h.stack.transfers.records.own i li);
-      present = λ o lo. record {
-        announced = λ p. (gives.pending o lo p).announced;
-        word = λ p. (gives.pending o lo p).word;
-        next = λ p. (gives.pending o lo p).next;
-      };
-      planned = record { height = gives.next.height; content = gives.next.content; reply = gives.next.reply; applied = gives.next.applied };
-    }
+pub alone_between : (sizes : Sizes) (words : Words) (views : ProcessViews) (history : List Entry) (i : ℕ) → i < sizes.processes → Meets sizes words views history → (views i).calls.way ≡ Alone → is_in_call (views i).calls.stage ≡ false
+alone_between sizes words views history i li h alone = standing.alone_between sizes words views history i li h alone
 
--- a batch that is wished to be given is a block
-batch_is_block : (sizes : Sizes) (wish : Wish) → WishIsBatch sizes wish → WishIsBlock sizes wish
-batch_is_block sizes Take h = tt
-batch_is_block sizes (Give head) h = h.block
+-- a process at rest outside any call has nothing pending, and its wish fits
+pub rests_idle : (sizes : Sizes) (words : Words) (views : ProcessViews) (history : List Entry) (i : ℕ) → IsShape sizes → i < sizes.processes → Meets sizes words views history → (views i).transfer.next ≡ Rest → (views i).pool.plan.pending ≡ Idle
+rests_idle sizes words views history i shape li h rest = standing.rests_idle sizes words views history i shape li h rest
 
--- what the pools and batches give for the step of a view
-supplied : (sizes : Sizes) (words : Words) (views : ProcessViews) (states : States) (i : ℕ) → IsShape sizes → i < sizes.processes → Holds sizes words views states → Supplied sizes words states (views i).transfer
-supplied sizes words views states i shape li h = record {
-  age = λ e. (h.pools i li).runs.age.below (rw e refl);
-  wish = λ e. batch_is_block sizes (views i).transfer.wish (begun_is_batch sizes (states (state_tag words)) views i shape h.batches.placed li e);
-  room = λ e hit. (plan_has_room sizes (states (state_tag words)) views (views i).transfer shape h.batches (installs_next sizes words views states i shape li h e hit)).within;
-}
+pub wish_fits : (sizes : Sizes) (words : Words) (views : ProcessViews) (history : List Entry) (i : ℕ) (wish : Wish) → IsShape sizes → i < sizes.processes → Meets sizes words views history → (views i).transfer.next ≡ Rest → may_wish wish (views i).pool ≡ true → FitsWish wish × MayBegin wish (views i).pool
+wish_fits sizes words views history i wish shape li h rest may = standing.wish_fits sizes words views history i wish shape li h rest may
 
--- the reply that ends a transfer answers its wish
-answers_wish : (wish : Wish) (reply : Reply) → (is_take wish ≡ false → reply ≡ Gave) → (is_take wish ≡ true → reply ≢ Gave) → Answers wish reply
-answers_wish Take Nothing gave took = tt
-answers_wish Take (Took head) gave took = tt
-answers_wish Take Gave gave took = took refl refl
-answers_wish (Give head) Nothing gave took = let e = gave refl in grind arith
-answers_wish (Give head) (Took batch) gave took = let e = gave refl in grind arith
-answers_wish (Give head) Gave gave took = tt
+-- a process between two calls can begin one
+pub call_can_begin : (sizes : Sizes) (words : Words) (views : ProcessViews) (history : List Entry) (i : ℕ) (call : Call) (holds : Bool) → IsShape sizes → i < sizes.processes → Meets sizes words views history → (views i).calls.stage ≡ Between → may_call sizes holds call (views i) ≡ true → CanBegin (views i)
+call_can_begin sizes words views history i call holds shape li h between may = standing.call_can_begin sizes words views history i call holds shape li h between may
 
--- what the other parts give the pool of a view
-given : (sizes : Sizes) (words : Words) (views : ProcessViews) (states : States) (i : ℕ) → i < sizes.processes → Holds sizes words views states → GivenToPool sizes (views i).transfer (words (name_of (action_of sizes (views i).transfer)))
-given sizes words views states i li h =
-    let word = words (name_of (action_of sizes (views i).transfer)) in
-    let step = in_step sizes words views states i li h in
-    record {
-      few = (each_process sizes words (transfers views) states i li h.stack).overlay;
-      answers = λ e. let (gave, took) = ends_answer (states (state_tag words)) i (views i).transfer word (h.batches.replies i li) step e in answers_wish (views i).transfer.wish (reply_of (value_of word)) gave took;
-    }
+pub alone_begins : (sizes : Sizes) (words : Words) (views after : ProcessViews) (history : List Entry) (i : ℕ) (wish : Wish) → IsShape sizes → i < sizes.processes → Meets sizes words views history → (views i).transfer.next ≡ Rest → may_move wish (views i) ≡ true
+    → MovedProcess i (alone_begun wish (views i)) views after → Meets sizes words after history
+alone_begins sizes words views after history i wish shape li h rest may moved = begins.alone_begins sizes words views after history i wish shape li h rest may moved
 
--- the next step of a view can be made
+pub call_begins : (sizes : Sizes) (words : Words) (views after : ProcessViews) (history : List Entry) (i : ℕ) (call : Call) (holds : Bool) → IsShape sizes → i < sizes.processes → Meets sizes words views history → (views i).calls.stage ≡ Between → may_call sizes holds call (views i) ≡ true
+    → (holds ≡ true → BlockIsHeld (grip (own history i)) call)
+    → MovedProcess i (call_begun call (views i)) views after → Meets sizes words after history
+call_begins sizes words views after history i call holds shape li h between may held moved = begins.call_begins sizes words views after history i call holds shape li h between may held moved
+
+-- ways and stages
+is_alone_way : (way : Way) → is_alone way ≡ true → way ≡ Alone
+is_alone_way way e = grind arith
+
+isnt_alone_way : (way : Way) → is_alone way ≡ false → way ≢ Alone
+isnt_alone_way way e is = grind arith
+
+rest_not : (s : NextStep) → not (is_rest s) ≡ true → s ≢ Rest
+rest_not s e is = grind arith
+
+outside : false ≡ true → ⊥
+outside e = grind arith
+
+-- the step of a call, by its stage
+call_stage_holds : (sizes : Sizes) (words new : Words) (views after : ProcessViews) (history : List Entry) (ghosts : Ghosts) (i : ℕ) (stage : CallStage) → IsShape sizes → i < sizes.processes → Holds sizes words views history ghosts → (views i).calls.way ≢ Alone → (views i).calls.stage ≡ stage → is_in_call stage ≡ true
+    → Acted sizes (call_action_at sizes (views i) stage) words new
+    → MovedProcess i (call_met_at sizes (views i) (words (name_of (call_action_at sizes (views i) stage))) stage) views after
+    → Meets sizes new after (history ++ entries_of (call_answer_at (views i) (words (name_of (call_action_at sizes (views i) stage))) stage))
+call_stage_holds sizes words new views after history ghosts i Between shape li h calls e busy acted moved = absurd (outside busy)
+call_stage_holds sizes words new views after history ghosts i Moving shape li h calls e busy acted moved = rw (append-nil history) (call_step_holds sizes words new views after history ghosts i shape li h calls e acted moved)
+call_stage_holds sizes words new views after history ghosts i Own shape li h calls e busy acted moved = own_step_holds sizes words new views after history ghosts i shape li h calls e acted moved
+
+-- the step of a process, by its way
+way_holds : (sizes : Sizes) (words new : Words) (views after : ProcessViews) (history : List Entry) (ghosts : Ghosts) (i : ℕ) (t : Bool) → IsShape sizes → i < sizes.processes → Holds sizes words views history ghosts → is_alone (views i).calls.way ≡ t → (t ≡ false → is_in_call (views i).calls.stage ≡ true)
+    → Acted sizes (if t then action_of sizes (views i).transfer else call_action sizes (views i)) words new
+    → MovedProcess i (if t then view_met sizes (views i) (words (name_of (if t then action_of sizes (views i).transfer else call_action sizes (views i)))) else call_met sizes (views i) (words (name_of (if t then action_of sizes (views i).transfer else call_action sizes (views i))))) views after
+    → Meets sizes new after (history ++ entries_of (if t then Step (kind_of (views i).transfer.next) else call_answer (views i) (words (name_of (if t then action_of sizes (views i).transfer else call_action sizes (views i))))))
+way_holds sizes words new views after history ghosts i true shape li h alone busy acted moved = rw (append-nil history) (alone_step_holds sizes words new views after history ghosts i shape li h (is_alone_way (views i).calls.way alone) acted moved)
+way_holds sizes words new views after history ghosts i false shape li h alone busy acted moved = call_stage_holds sizes words new views after history ghosts i (views i).calls.stage shape li h (isnt_alone_way (views i).calls.way alone) refl (busy refl) acted moved
+
+-- what a process with a next step is at
+in_its_call : (v : ProcessView) (t : Bool) → is_alone v.calls.way ≡ t → is_busy v ≡ true → t ≡ false → is_in_call v.calls.stage ≡ true
+in_its_call v true alone busy e = absurd (outside (sym e))
+in_its_call v false alone busy e = rw alone at busy
+
+in_its_transfer : (v : ProcessView) → is_busy v ≡ true → is_alone v.calls.way ≡ true → v.transfer.next ≢ Rest
+in_its_transfer v busy alone = rest_not v.transfer.next (rw alone at busy)
+
+-- a process that has a next step makes it
+pub step_holds : (sizes : Sizes) (words new : Words) (views after : ProcessViews) (history : List Entry) (i : ℕ) → IsShape sizes → i < sizes.processes → Meets sizes words views history → is_busy (views i) ≡ true
+    → Acted sizes (next_action sizes (views i)) words new
+    → MovedProcess i (next_met sizes (views i) (words (name_of (next_action sizes (views i))))) views after
+    → Meets sizes new after (history ++ entries_of (next_answer (views i) (words (name_of (next_action sizes (views i))))))
+step_holds sizes words new views after history i shape li (ghosts, h) busy acted moved =
+    way_holds sizes words new views after history ghosts i (is_alone (views i).calls.way) shape li h refl (in_its_call (views i) (is_alone (views i).calls.way) refl busy) acted moved
+
+-- the next step of a process can be made: that of a transfer alone, or that of a call
 pub record StepAllowed (sizes : Sizes) (words : Words) (v : ProcessView) : Type 0 where
-  pub act : CanAct sizes v.transfer
-  pub meet : CanMeet sizes v.transfer (words (name_of (action_of sizes v.transfer)))
-  pub count : CanCount v.pool
-  pub end : CanMeetPool (words (name_of (action_of sizes v.transfer))) v.pool v.transfer.next
+  pub busy : is_alone v.calls.way ≡ true → v.transfer.next ≢ Rest
+  pub act : is_alone v.calls.way ≡ true → CanAct sizes v.transfer
+  pub meet : is_alone v.calls.way ≡ true → CanMeet sizes v.transfer (words (name_of (action_of sizes v.transfer)))
+  pub count : is_alone v.calls.way ≡ true → CanCount v.pool
+  pub end : is_alone v.calls.way ≡ true → CanMeetPool (words (name_of (action_of sizes v.transfer))) v.pool v.transfer.next
+  pub call_act : is_alone v.calls.way ≡ false → CanActCall sizes v
+  pub call_meet : is_alone v.calls.way ≡ false → CanMeetCall sizes v (words (name_of (call_action sizes v)))
 
--- a quantum is at least one step
-some_quantum : (q : ℕ) → IsQuantum q → 1 ≤ q
-some_quantum q (inl e) = omega (arith, e)
-some_quantum q (inr (inl e)) = omega (arith, e)
-some_quantum q (inr (inr (inl e))) = omega (arith, e)
-some_quantum q (inr (inr (inr (inl e)))) = omega (arith, e)
-some_quantum q (inr (inr (inr (inr e)))) = omega (arith, e)
+-- the step of a transfer
+transfer_allowed : (sizes : Sizes) (words : Words) (views : ProcessViews) (history : List Entry) (ghosts : Ghosts) (i : ℕ) → IsShape sizes → i < sizes.processes → Holds sizes words views history ghosts
+    → CanAct sizes (views i).transfer × CanMeet sizes (views i).transfer (words (name_of (action_of sizes (views i).transfer)))
+transfer_allowed sizes words views history ghosts i shape li h =
+    can_be_made sizes words (transfers views) ghosts.states i shape li h.stack (supplied sizes words views history ghosts i shape li h) (λ o lo. (keeps sizes words views history ghosts o shape lo h).runs.age.most)
 
--- the pool of a view can count its step, and end with its reply
-can_count : (sizes : Sizes) (i : ℕ) (v : ProcessView) → IsShape sizes → PoolHolds sizes i v → OverlayIsFew sizes v.transfer → v.transfer.next ≢ Rest → CanCount v.pool
-can_count sizes i v shape h few busy =
-    let moving = moving_unless_rest v.transfer.next busy in
-    let pending = h.runs.kept.pending moving in
-    let left = step_left sizes v.transfer v.transfer.next h.runs.index few in
-    let counted = h.runs.counted moving in
-    record {
-      pending = λ idle. wish_pends v.transfer.wish (sym pending ∙ idle);
-      some = rw h.runs.kept.quantum (some_quantum sizes.quantum shape.a_quantum);
-      within = omega (arith, h.runs.kept.bound);
-    }
-  where
-    wish_pends : (wish : Wish) → pending_of wish ≡ Idle → ⊥
-    wish_pends Take e = grind arith
-    wish_pends (Give head) e = grind arith
+-- the step of a call, by its stage
+call_allowed : (sizes : Sizes) (words : Words) (views : ProcessViews) (history : List Entry) (ghosts : Ghosts) (i : ℕ) (stage : CallStage) → IsShape sizes → i < sizes.processes → Holds sizes words views history ghosts → (views i).calls.way ≢ Alone → (views i).calls.stage ≡ stage
+    → CanActCallAt sizes (views i) stage × CanMeetCallAt sizes (views i) (words (name_of (call_action_at sizes (views i) stage))) stage
+call_allowed sizes words views history ghosts i Between shape li h calls e = (tt, tt)
+call_allowed sizes words views history ghosts i Moving shape li h calls e =
+    let v = views i in
+    let (act, meet) = transfer_allowed sizes words views history ghosts i shape li h in
+    moves_can_be_made sizes i v (words (name_of (action_of sizes v.transfer))) (ghosts.ledgers i) (calls_used sizes i v (ghosts.ledgers i) v.calls.way calls (h.pools i li)) (scheduled sizes words views history ghosts i shape li h) e
+    (given sizes words views history ghosts i li h) act meet
+call_allowed sizes words views history ghosts i Own shape li h calls e = own_step_allowed sizes words views history ghosts i shape li h calls e
 
-can_end : (sizes : Sizes) (i : ℕ) (v : ProcessView) (word : ℕ) → PoolHolds sizes i v → (v.transfer.next ≡ LoadReply → Answers v.transfer.wish (reply_of (value_of word))) → CanMeetPool word v.pool v.transfer.next
-can_end sizes i v word h answers e = reply_ends v.pool v.transfer.wish (reply_of (value_of word)) (h.runs.kept.pending (rw e refl)) h.alone.spares (answers e)
-  where
-    reply_ends : (pool : PoolView) (wish : Wish) (reply : Reply) → pool.plan.pending ≡ pending_of wish → SparesKept pool → Answers wish reply → CanEnd reply pool
-    reply_ends pool Take Nothing pending spares h = λ e. grind (arith, sym pending ∙ e)
-    reply_ends pool Take (Took head) pending spares h = let two = spares.taking pending in omega (arith, spares.heads)
-    reply_ends pool Take Gave pending spares h = absurd h
-    reply_ends pool (Give head) Nothing pending spares h = absurd h
-    reply_ends pool (Give head) (Took batch) pending spares h = absurd h
-    reply_ends pool (Give head) Gave pending spares h = tt
-
-pub step_allowed : (sizes : Sizes) (words : Words) (views : ProcessViews) (states : States) (i : ℕ) → IsShape sizes → i < sizes.processes → Holds sizes words views states → (views i).transfer.next ≢ Rest → StepAllowed sizes words (views i)
-step_allowed sizes words views states i shape li h busy =
-    let (act, meet) = can_be_made sizes words (transfers views) states i shape li h.stack (supplied sizes words views states i shape li h) (λ o lo. (h.pools o lo).runs.age.most) in
-    let give = given sizes words views states i li h in
-    record {
-      act = act;
-      meet = meet;
-      count = can_count sizes i (views i) shape (h.pools i li) give.few busy;
-      end = can_end sizes i (views i) (words (name_of (action_of sizes (views i).transfer))) (h.pools i li) give.answers;
-    }
-
--- a fact of each process, once one has moved
-each_moved : (Fact : ℕ → ProcessView → Type 0) (p i : ℕ) (x : ProcessView) (views after : ProcessViews) → MovedProcess i x views after → Fact i x → ((o : ℕ) → o < p → Fact o (views o)) → (o : ℕ) → o < p → Fact o (after o)
-each_moved Fact p i x views after moved here h o lo = elim (cases_eq o i) [
-  | inl e ↦ rw e (rw moved.here here)
-  | inr ne ↦ rw (moved.elsewhere o ne) (h o lo)
-]
-
-pub step_holds : (sizes : Sizes) (words new : Words) (views after : ProcessViews) (states : States) (i : ℕ) → IsShape sizes → i < sizes.processes → Holds sizes words views states → (views i).transfer.next ≢ Rest
-    → Acted sizes (action_of sizes (views i).transfer) words new
-    → MovedProcess i (view_met sizes (views i) (words (name_of (action_of sizes (views i).transfer)))) views after
-    → Holds sizes new after (states_after words (views i).transfer states)
-step_holds sizes words new views after states i shape li h busy acted moved =
+pub step_allowed : (sizes : Sizes) (words : Words) (views : ProcessViews) (history : List Entry) (i : ℕ) → IsShape sizes → i < sizes.processes → Meets sizes words views history → is_busy (views i) ≡ true → StepAllowed sizes words (views i)
+step_allowed sizes words views history i shape li (ghosts, h) busy =
     let v = views i in
     let word = words (name_of (action_of sizes v.transfer)) in
-    let x = view_met sizes v word in
-    let give = given sizes words views states i li h in
+    let (act, meet) = transfer_allowed sizes words views history ghosts i shape li h in
+    let kept = keeps sizes words views history ghosts i shape li h in
+    let give = given sizes words views history ghosts i li h in
+    let quantum = some_quantum sizes (shape_fits sizes shape) in
     record {
-      stack = steps_keep_stack sizes words new (transfers views) (transfers after) states i shape li h.stack (supplied sizes words views states i shape li h) acted (transfers_move i x views after moved);
-      pools = each_moved (PoolHolds sizes) sizes.processes i x views after moved (pool_steps.step_holds sizes i v word v.transfer.next refl (omega (arith, li)) (h.pools i li) give.few give.answers) h.pools;
-      batches = machine.step_holds sizes words new views after states i v.transfer.next shape li h.batches refl (in_step sizes words views states i li h) (installs_next sizes words views states i shape li h) acted moved;
+      busy = in_its_transfer v busy;
+      act = λ alone. act;
+      meet = λ alone. meet;
+      count = λ alone. steps_can_count sizes v quantum kept give.few (in_its_transfer v busy alone);
+      end = λ alone. replies_can_end sizes v word kept give.answers;
+      call_act = λ calls. (call_allowed sizes words views history ghosts i v.calls.stage shape li h (isnt_alone_way v.calls.way calls) refl).0;
+      call_meet = λ calls. (call_allowed sizes words views history ghosts i v.calls.stage shape li h (isnt_alone_way v.calls.way calls) refl).1;
     }
-
--- a process at rest has nothing pending, and its wish fits
-pub rests_idle : (sizes : Sizes) (words : Words) (views : ProcessViews) (states : States) (i : ℕ) → i < sizes.processes → Holds sizes words views states → (views i).transfer.next ≡ Rest → (views i).pool.plan.pending ≡ Idle
-rests_idle sizes words views states i li h rest = (h.pools i li).runs.kept.idle (rw rest refl)
-
-pub wish_fits : (sizes : Sizes) (words : Words) (views : ProcessViews) (states : States) (i : ℕ) (wish : Wish) → IsShape sizes → i < sizes.processes → Holds sizes words views states → (views i).transfer.next ≡ Rest → may_wish wish (views i).pool ≡ true → FitsWish wish × MayBegin wish (views i).pool
-wish_fits sizes words views states i wish shape li h rest may = newest wish may
-  where
-    few : (a b : ℕ) → nat_le a b ≡ true → a ≤ b
-    few a b t = grind (arith, nat_tests)
-
-    some : (a : ℕ) (t : Bool) → (nat_lt 0 a && t) ≡ true → 1 ≤ a
-    some a t e = grind (arith, nat_tests)
-
-    same : (a b : ℕ) (t : Bool) → (t && (a == b)) ≡ true → a ≡ b
-    same a b t e = grind (arith, nat_tests)
-
-    newest : (wish : Wish) → may_wish wish (views i).pool ≡ true → FitsWish wish × MayBegin wish (views i).pool
-    newest Take may = (tt, few (views i).pool.plan.spares 1 may)
-    newest (Give head) may =
-        let heads = (views i).pool.heads in
-        let last = length heads - 1 in
-        let is : slice_index heads last ≡ head = same (slice_index heads last) head (nat_lt 0 (length heads)) may in
-        let any : 1 ≤ length heads = some (length heads) (slice_index heads last == head) may in
-        let batch = spare_is_batch sizes (states (state_tag words)) views i shape h.batches.placed li last (omega arith) in
-        let block = batch.block in
-        let limit = shape.few_blocks in
-        (rw (sym is) (omega arith), (any, rw (sym (h.pools i li).alone.spares.heads) any, is))
-
--- both conditions of a move
-pub both_low : (a b : ℕ) (t : Bool) → (nat_lt a b && t) ≡ true → a < b
-both_low a b true h = grind (arith, nat_tests)
-both_low a b false h = grind (arith, nat_tests)
-
-pub both_may : (a b : Bool) → (a && b) ≡ true → b ≡ true
-both_may true b h = h
-both_may false b h = grind arith
-
--- the pool of a process that begins a transfer
-begun_holds : (sizes : Sizes) (i : ℕ) (v : ProcessView) (wish : Wish) → PoolHolds sizes i v → v.transfer.next ≡ Rest → MayBegin wish v.pool → v.transfer.age < 2 ^ 32 → PoolHolds sizes i (view_begun wish v)
-begun_holds sizes i v wish h rest may young = search rules
-
-pub beginning_holds : (sizes : Sizes) (words : Words) (views after : ProcessViews) (states : States) (i : ℕ) (wish : Wish) → IsShape sizes → i < sizes.processes → Holds sizes words views states → (views i).transfer.next ≡ Rest → may_move wish (views i) ≡ true
-    → MovedProcess i (view_begun wish (views i)) views after → Holds sizes words after states
-beginning_holds sizes words views after states i wish shape li h rest may moved =
-    let v = views i in
-    let x = view_begun wish v in
-    let (fits, begins) = wish_fits sizes words views states i wish shape li h rest (wishes (rw rest at may)) in
-    record {
-      stack = beginnings_keep_stack sizes words (transfers views) (transfers after) states i wish li h.stack rest (transfers_move i x views after moved);
-      pools = each_moved (PoolHolds sizes) sizes.processes i x views after moved (begun_holds sizes i v wish (h.pools i li) rest begins (young (rw rest at may))) h.pools;
-      batches = beginnings_keep sizes (states (state_tag words)) views after i wish li h.batches rest begins moved;
-    }
-  where
-    young : (nat_lt (views i).transfer.age (2 ^ 32) && may_wish wish (views i).pool) ≡ true → (views i).transfer.age < 2 ^ 32
-    young e = both_low (views i).transfer.age (2 ^ 32) (may_wish wish (views i).pool) e
-
-    wishes : (nat_lt (views i).transfer.age (2 ^ 32) && may_wish wish (views i).pool) ≡ true → may_wish wish (views i).pool ≡ true
-    wishes e = both_may (nat_lt (views i).transfer.age (2 ^ 32)) (may_wish wish (views i).pool) e
-
--- the opening
-opened_height : (sizes : Sizes) → (opening_state sizes).height ≡ opening_base sizes
-unfolding opening_state
-opened_height sizes = refl
-
-opened_content : (sizes : Sizes) (k : ℕ) → (opening_state sizes).content k ≡ opening_slot sizes k
-unfolding opening_state
-opened_content sizes k = refl
-
-opened_pool : (sizes : Sizes) (i : ℕ) → PoolHolds sizes i (opening_view sizes i)
-opened_pool sizes i = search rules
-
-pub opening_holds : (sizes : Sizes) (words : List ℕ) (views : ProcessViews) → IsShape sizes → AreOpening sizes words → ((i : ℕ) → i < sizes.processes → views i ≡ opening_view sizes i) → MeetsInvariant sizes words views
-opening_holds sizes words views shape opening seats = (
-  (λ m. opening_state sizes),
-  record {
-    stack = opening_meets sizes (word_at sizes words) (transfers views) shape opening.each (λ i li. ap (λ v. v.transfer) (seats i li));
-    pools = λ i li. rw (seats i li) (opened_pool sizes i);
-    batches = opened_holds sizes (opening_state sizes) shape views (opened_height sizes) (λ k lt. opened_content sizes k) seats;
-  },
-)
-
--- the current record of a table, and what the words say of the state that they show
-current_low : (sizes : Sizes) (words : Words) (states : States) → CurrentRecord sizes words states → current_record words < records sizes
-current_low sizes words states h = h.row
-
-row_said : (sizes : Sizes) (list : List ℕ) → current_record (word_at sizes list) < records sizes → table.current_record sizes list < records sizes
-unfolding current_record
-row_said sizes list h = h
-
-said : (sizes : Sizes) (list : List ℕ) (s : StackState) → length list ≡ table_words sizes → table.current_record sizes list < records sizes → TableShows sizes list s → StateFits sizes s → SaysContent sizes list
-said sizes list s whole row shows fits =
-    let base = shows.base in
-    let height = shows.height in
-    let over = fits.overlay in
-    let within = fits.within in
-    record { whole = whole; row = row; overlay = omega arith; height = omega arith }
 
 -- the words say the content of the stack
-pub content_said : (sizes : Sizes) (list : List ℕ) (views : ProcessViews) → length list ≡ table_words sizes → MeetsInvariant sizes list views → SaysContent sizes list
-content_said sizes list views whole (states, h) =
-    let shows = tables_show sizes list (transfers views) states h.stack in
-    let fits = h.stack.transfers.records.states_fit (state_tag (word_at sizes list)) (omega arith) in
-    said sizes list (present (word_at sizes list) states) whole (row_said sizes list (current_low sizes (word_at sizes list) states h.stack.transfers.records.current)) shows fits
+pub content_said : (sizes : Sizes) (list : List ℕ) (views : ProcessViews) (history : List Entry) → length list ≡ table_words sizes → MeetsInvariant sizes list views history → SaysContent sizes list
+content_said sizes list views history whole h = opens.content_said sizes list views history whole h

@@ -1,72 +1,93 @@
--- one step of one process, on the words and views of all
-use Rattle.std.specs.Prelude.{ℕ, zero, suc, ◌-◌, ◌^◌, ◌==◌, nat_lt, nat_le, Bool, true, false, not, ◌&&◌, ◌||◌, if◌then◌else◌, List, [], ◌∷◌, ◌++◌, length, slice_index, slice_index_or, slice_set}
+-- one turn of one process, on the words and views of all: a step of a transfer alone, or a step of a call
+use Rattle.std.specs.Prelude.{ℕ, ◌-◌, ◌^◌, ◌==◌, nat_lt, nat_le, Bool, true, false, not, ◌&&◌, ◌||◌, if◌then◌else◌, Option, None, Some, List, length, slice_index, slice_index_or, slice_set}
 use Rattle.word_layout.specs.Sizes.{Sizes}
 use Rattle.word_layout.specs.declared.announced.Wish.{Wish}
 use Rattle.word_layout.specs.declared.announced.Wish.TheVariants.{Take, Give}
-use Rattle.transfer_machine.specs.Machine.{action_of}
-use Rattle.transfer_machine.specs.Pools.{opening_view, view_begun, view_met}
-use Rattle.transfer_machine.specs.Stages.{kind_of}
+use Rattle.pool_model.specs.declared.entry.Entry.{Entry}
+use Rattle.pool_model.specs.declared.entry.Entry.TheVariants.{Got, Back, Dry}
+use Rattle.transfer_machine.specs.Phases.{is_rest}
+use Rattle.transfer_machine.specs.Pools.{opening_view}
 use Rattle.transfer_machine.specs.Words.{acted, met_word}
+use Rattle.transfer_machine.specs.declared.call.Call.{Call}
+use Rattle.transfer_machine.specs.declared.call.Call.TheVariants.{Allocate, Free, Read, Write}
 use Rattle.transfer_machine.specs.declared.view.PoolView.{PoolView}
 use Rattle.transfer_machine.specs.declared.view.ProcessView.{ProcessView}
-use Rattle.transfer_machine.specs.declared.stage.NextStep.{NextStep}
-use Rattle.transfer_machine.specs.declared.stage.NextStep.TheVariants.{Rest, Announce, LoadState, LoadRecordWord, LoadCoveredSlot, ExchangeSlot, LoadAnnouncement, LoadPoppedSlot, StoreRecordWord, ExchangeState, LoadFinalState, LoadReply}
-use Rattle.interleaving_core.specs.declared.happened.Happened.{Happened}
-use Rattle.interleaving_core.specs.declared.happened.Happened.TheVariants.{Step, Ignored}
+use Rattle.pool_machine.specs.Beginning.{call_begun, alone_begun}
+use Rattle.pool_machine.specs.Conditions.{may_call, may_use_transfers}
+use Rattle.pool_machine.specs.declared.event.Happened.{Happened}
+use Rattle.pool_machine.specs.declared.event.Happened.TheVariants.{Step, Ended, Loaded, Stored, Ignored}
+use Rattle.interleaving_core.specs.Steps.{is_in_call, next_action, next_met, next_answer}
 
--- the words of the table and the views of all processes, of one shape
+-- the words of the table, the views of all processes, and who holds each block, of one shape
 pub record CoreState : Type 0 where
   pub sizes : Sizes
   pub words : List ℕ
   pub views : List ProcessView
+  pub holders : List (Option ℕ)
 
 -- the view of a process
 abbrev pub view_at : CoreState → ℕ → ProcessView
 view_at s i = slice_index_or s.views i (opening_view s.sizes i)
 
--- whether no transfer is begun
-abbrev pub is_at_rest : NextStep → Bool
-is_at_rest Rest = true
-is_at_rest Announce = false
-is_at_rest LoadState = false
-is_at_rest (LoadRecordWord index) = false
-is_at_rest (LoadCoveredSlot offset) = false
-is_at_rest (ExchangeSlot offset) = false
-is_at_rest (LoadAnnouncement process) = false
-is_at_rest (LoadPoppedSlot process) = false
-is_at_rest (StoreRecordWord index) = false
-is_at_rest ExchangeState = false
-is_at_rest LoadFinalState = false
-is_at_rest LoadReply = false
+-- who holds a block, if anyone
+abbrev pub holder_of : CoreState → ℕ → Option ℕ
+holder_of s block = slice_index_or s.holders block None
 
--- whether a wish is one that a pool may begin: a take with at most one spare, a give of the newest spare
+-- whether that is this process
+abbrev pub is_holder : ℕ → Option ℕ → Bool
+is_holder by None = false
+is_holder by (Some process) = by == process
+
+-- whether a process holds the block that a call names
+abbrev pub holds_for : List (Option ℕ) → ℕ → Call → Bool
+holds_for holders by Allocate = true
+holds_for holders by (Free block) = is_holder by (slice_index_or holders block None)
+holds_for holders by (Read block index) = is_holder by (slice_index_or holders block None)
+holds_for holders by (Write block index value) = is_holder by (slice_index_or holders block None)
+
+-- who holds each block after an entry
+abbrev pub holders_entered : Entry → List (Option ℕ) → List (Option ℕ)
+holders_entered (Got by block) holders = slice_set holders block (Some by)
+holders_entered (Back by block) holders = slice_set holders block None
+holders_entered (Dry by) holders = holders
+
+-- who holds each block after that happened
+abbrev pub holders_after : Happened → List (Option ℕ) → List (Option ℕ)
+holders_after (Step kind) holders = holders
+holders_after (Ended kind entry) holders = holders_entered entry holders
+holders_after (Loaded word) holders = holders
+holders_after Stored holders = holders
+holders_after Ignored holders = holders
+
+-- what happens where a process makes the next step of this view
+abbrev pub step_answer : ProcessView → CoreState → Happened
+step_answer v s = next_answer v (met_word s.sizes s.words (next_action s.sizes v))
+
+-- the words, views and holders after that
+abbrev pub with_step : ℕ → ProcessView → CoreState → CoreState
+with_step process v s = record s {
+  words = acted s.sizes s.words (next_action s.sizes v);
+  views = slice_set s.views process (next_met s.sizes v (met_word s.sizes s.words (next_action s.sizes v)));
+  holders = holders_after (step_answer v s) s.holders;
+}
+
+-- whether a wish is one that a pool may begin alone: a take with at most one spare, a give of the newest spare
 abbrev pub may_wish : Wish → PoolView → Bool
 may_wish Take pool = nat_le pool.plan.spares 1
 may_wish (Give head) pool = nat_lt 0 (length pool.heads) && (slice_index pool.heads (length pool.heads - 1) == head)
 
--- whether a process moves: it goes on with its transfer, or it may begin one with this wish
+-- whether a process moves alone: it has begun no call, and it goes on with its transfer or may begin one with this wish
 abbrev pub may_move : Wish → ProcessView → Bool
-may_move wish v = not (is_at_rest v.transfer.next) || (nat_lt v.transfer.age (2 ^ 32) && may_wish wish v.pool)
+may_move wish v = may_use_transfers v.calls.way && (not (is_rest v.transfer.next) || (nat_lt v.transfer.age (2 ^ 32) && may_wish wish v.pool))
 
 -- its view before that step: a process at rest first begins a transfer with this wish
 abbrev pub moving_view : Wish → ProcessView → ProcessView
-moving_view wish v = if is_at_rest v.transfer.next then view_begun wish v else v
+moving_view wish v = if is_rest v.transfer.next then alone_begun wish v else v
 
--- a process makes the next step of this view
-abbrev pub with_step : ℕ → ProcessView → CoreState → CoreState
-with_step process v s = record s {
-  words = acted s.sizes s.words (action_of s.sizes v.transfer);
-  views = slice_set s.views process (view_met s.sizes v (met_word s.sizes s.words (action_of s.sizes v.transfer)));
-}
+-- whether a process goes on with its call, or may begin this one
+abbrev pub may_go : Sizes → Bool → Call → ProcessView → Bool
+may_go sizes holds call v = is_in_call v.calls.stage || may_call sizes holds call v
 
--- whether a process is in the shape and moves
-abbrev pub can_move : ℕ → Wish → CoreState → Bool
-can_move by wish s = nat_lt by s.sizes.processes && may_move wish (view_at s by)
-
--- the words and views after one step of a transfer of a process; where it can't move nothing changes
-abbrev pub after_move : ℕ → Wish → CoreState → CoreState
-after_move by wish s = if can_move by wish s then with_step by (moving_view wish (view_at s by)) s else s
-
--- how that is answered
-abbrev pub move_answer : ℕ → Wish → CoreState → Happened
-move_answer by wish s = if can_move by wish s then Step (kind_of (moving_view wish (view_at s by)).transfer.next) else Ignored
+-- its view before that step: a process between two calls first begins this one
+abbrev pub calling_view : Call → ProcessView → ProcessView
+calling_view call v = if is_in_call v.calls.stage then v else call_begun call v

@@ -2,13 +2,13 @@
 #![tactic(auto)]
 
 mod content;
-mod happened;
 mod run;
 mod step;
 #[cfg(test)]
 mod tests;
+mod turn;
 
-pub use happened::Happened;
+pub use pool_machine::{Event, Happened};
 pub use run::CoreRun;
 pub use step::core_step;
 pub use transfer_machine::{

@@ -1,84 +1,120 @@
 // Runs of the machine.
-ghost use Rattle.std.specs.Prelude.{◌≡◌, ◌<◌, true, List, [], ◌∷◌, ◌++◌, length, IfOk, slice_index, slice_index_or, slice_set};
-ghost use Rattle.word_layout.specs.Packing.{FitsWish};
-ghost use Rattle.transfer_schedule.specs.declared.pending.Pending.TheVariants.{Idle};
-ghost use Rattle.transfer_machine.specs.declared.stage.NextStep.TheVariants.{Rest};
-ghost use Rattle.transfer_machine.specs.Machine.{action_of};
-ghost use Rattle.transfer_machine.specs.Pools.{opening_view, view_met, MayBegin};
-ghost use Rattle.transfer_machine.specs.Stages.{kind_of};
-ghost use Rattle.transfer_machine.specs.Words.{acted, met_word, stack};
+ghost use Rattle.std.specs.Prelude.{◌≡◌, ◌<◌, ◌^◌, List, [], ◌∷◌, ◌++◌, IfOk, slice_index};
+ghost use Rattle.word_layout.specs.Sizes.{blocks};
 ghost use Rattle.word_layout.specs.Names.{table_words};
-ghost use Rattle.interleaving_core.specs.Invariant.{IsAmong, MeetsInvariant};
-ghost use Rattle.interleaving_core.specs.Moves.{view_at, after_move, can_move, move_answer, moving_view, may_move, may_wish};
-ghost use Rattle.interleaving_core.specs.Runs.{IsRun, Turn, Moves, opening_views};
+ghost use Rattle.pool_model.specs.declared.entry.Entry.{Entry};
+ghost use Rattle.transfer_machine.specs.Words.{stack};
+ghost use Rattle.interleaving_core.specs.Invariant.{MeetsInvariant};
+ghost use Rattle.interleaving_core.specs.Moves.{view_at, holder_of};
+ghost use Rattle.interleaving_core.specs.Runs.{IsRun, Turn, Moves, Events, is_made, after_turn, turn_answer, entries_of};
 
 use crate::content::stack_of;
-use crate::happened::Happened;
-use crate::step::core_step;
+use crate::turn::{
+    call_process, held_by, may_go, may_move, move_process, no_holders, note, opening_views,
+};
+use pool_machine::{Event, Happened};
 use pool_model::NoMemory;
 use std::alloc::Global;
 use std::marker::Model;
-use transfer_machine::{Kind, NextStep, PoolView, ProcessView, begin_transfer, opening_words};
+use transfer_machine::{ProcessView, opening_words};
 use word_layout::{Shape, Wish};
 
-/// The words of a table and the views of all its processes, at the end of a run from the opening. It stores no
-/// history of the run.
+/// The words of a table, the views of all its processes and who holds each block, at the end of a run from the
+/// opening. It stores no history of the run.
 #[derive(Debug, Drop)]
 pub struct CoreRun {
     shape: Shape,
     words: Vec<u64>,
     views: Vec<ProcessView>,
+    holders: Vec<Option<u32>>,
 }
 
 impl Model for CoreRun {
     ghost use Rattle.std.specs.Prelude.{List};
+    ghost use Rattle.pool_model.specs.declared.entry.Entry.{Entry};
     ghost use Rattle.interleaving_core.specs.Moves.{CoreState};
     ghost use Rattle.interleaving_core.specs.Runs.{IsRun, Turn};
 
     ghost Value = { CoreState };
 
-    ghost view = { λ run. record { sizes = run.shape; words = run.words.items; views = run.views.items } };
+    ghost view = { λ run. record { sizes = run.shape; words = run.words.items; views = run.views.items; holders = run.holders.items } };
 
-    ghost invariant = { λ run. (past : List Turn) × IsRun run.shape past (record { sizes = run.shape; words = run.words.items; views = run.views.items }) };
+    ghost invariant = { λ run. (past : List Turn) × (history : List Entry) × IsRun run.shape past history (record { sizes = run.shape; words = run.words.items; views = run.views.items; holders = run.holders.items }) };
 }
 
 impl CoreRun {
     /// The opening. The only error is want of memory.
     pub fn open(alloc: Global, shape: &Shape) -> Result<CoreRun, NoMemory>
-        ensures run { IfOk result (IsRun shape.now []) }
-        ensures invariant { IfOk result (λ run. MeetsInvariant run.sizes run.words (view_at run)) }
+        ensures run { IfOk result (IsRun shape.now [] []) }
+        ensures invariant { IfOk result (λ run. MeetsInvariant run.sizes run.words (view_at run) []) }
     {
         prove!(shape.processes() >= 1);
         let words = opening_words(alloc, shape)?;
         let views = opening_views(alloc, shape)?;
+        let holders = no_holders(alloc, shape)?;
         Ok(CoreRun {
             shape: *shape,
             words,
             views,
+            holders,
         })
     }
 
     /// One step of a transfer of process `by`, outside any call. Where the process is at rest, it first begins
     /// one with this wish; else the wish isn't looked at. Ignored exactly where no such process is in the shape,
-    /// or where it is at rest and can't begin that: its age is 2^32, or a take has two spares or more, or the head
-    /// of a give isn't the newest spare's; then nothing changes. It takes no memory.
+    /// where it has begun a call, or where it is at rest and can't begin that: its age is 2^32, or a take has two
+    /// spares or more, or the head of a give isn't the newest spare's; then nothing changes. It takes no memory.
     pub fn move_one(&mut self, by: u32, wish: Wish) -> Happened
-        ensures answer { result ≡ move_answer by wish self.old }
-        ensures state { self.new ≡ after_move by wish self.old }
-        ensures run { (past : List Turn) → IsRun self.old.sizes past self.old → IsRun self.new.sizes (past ++ Moves by wish ∷ []) self.new }
-        ensures invariant { MeetsInvariant self.new.sizes self.new.words (view_at self.new) }
+        ensures answer { result ≡ turn_answer (Moves by wish) self.old }
+        ensures state { self.new ≡ after_turn (Moves by wish) self.old }
+        ensures run { (past : List Turn) (history : List Entry) → IsRun self.old.sizes past history self.old → IsRun self.new.sizes (past ++ Moves by wish ∷ []) (history ++ entries_of result) self.new }
+        ensures invariant { (past : List Turn) (history : List Entry) → IsRun self.old.sizes past history self.old → MeetsInvariant self.new.sizes self.new.words (view_at self.new) (history ++ entries_of result) }
     {
         if !self.can_move(by, wish) {
             return Happened::Ignored;
         }
-        Happened::Step(move_process(&mut self.words, &mut self.views, &self.shape, by, wish))
+        let happened = move_process(&mut self.words, &mut self.views, &self.shape, by, wish);
+        note(&mut self.holders, happened);
+        happened
+    }
+
+    /// One step of a call of a process. Where the process is between two calls, it first begins the event's call;
+    /// else that isn't looked at. Ended is answered by the last step of an allocate or a free, Loaded and Stored by
+    /// the one step of a read or a write. Ignored exactly where no such process is in the shape, where it has begun
+    /// a transfer outside any call, or where it is between two calls and the call names a block that it doesn't
+    /// hold or an index that its blocks don't have; then nothing changes. It takes no memory.
+    pub fn event(&mut self, event: &Event) -> Happened
+        requires { event.now.by < self.old.sizes.processes → (view_at self.old event.now.by).transfer.age < 2 ^ 32 }
+        ensures answer { result ≡ turn_answer (Events event.now.by event.now.call) self.old }
+        ensures state { self.new ≡ after_turn (Events event.now.by event.now.call) self.old }
+        ensures run { (past : List Turn) (history : List Entry) → IsRun self.old.sizes past history self.old → IsRun self.new.sizes (past ++ Events event.now.by event.now.call ∷ []) (history ++ entries_of result) self.new }
+        ensures invariant { (past : List Turn) (history : List Entry) → IsRun self.old.sizes past history self.old → MeetsInvariant self.new.sizes self.new.words (view_at self.new) (history ++ entries_of result) }
+    {
+        if !self.can_go(event) {
+            return Happened::Ignored;
+        }
+        let holds = held_by(&self.holders, event);
+        let happened = call_process(&mut self.words, &mut self.views, &self.shape, event, holds);
+        note(&mut self.holders, happened);
+        happened
     }
 
     /// Whether process `by` is in the shape, and goes on with its transfer or may begin one with this wish.
     fn can_move(&self, by: u32, wish: Wish) -> bool
-        ensures { result ≡ can_move by wish self.now }
+        ensures { result ≡ is_made (Moves by wish) self.now }
     {
         by < self.shape.processes() && may_move(&self.views[by as usize], wish)
+    }
+
+    /// Whether the process of an event is in the shape, and goes on with its call or may begin this one.
+    fn can_go(&self, event: &Event) -> bool
+        ensures { result ≡ is_made (Events event.now.by event.now.call) self.now }
+    {
+        if event.by >= self.shape.processes() {
+            return false;
+        }
+        let holds = held_by(&self.holders, event);
+        may_go(&self.views[event.by as usize], &self.shape, event, holds)
     }
 
     /// The shape of the table.
@@ -110,82 +146,12 @@ impl CoreRun {
     {
         &self.views[process as usize]
     }
-}
 
-/// The views of all processes at the opening.
-fn opening_views(alloc: Global, shape: &Shape) -> Result<Vec<ProcessView>, NoMemory>
-    ensures { IfOk result (λ views. views.items ≡ opening_views shape.now shape.now.processes) }
-{
-    let mut views = Vec::with_capacity(alloc, shape.processes() as usize)?;
-    for process in 0..shape.processes() {
-        views.push(ProcessView::open(shape, process))?;
-    }
-    Ok(views)
-}
-
-/// One step of process `by`, which moves. Where it is at rest it first begins a transfer with this wish.
-fn move_process(
-    words: &mut Vec<u64>,
-    views: &mut Vec<ProcessView>,
-    shape: &Shape,
-    by: u32,
-    wish: Wish,
-) -> Kind
-    requires low { by < length views.old.items }
-    requires moves { may_move wish (slice_index_or views.old.items by (opening_view shape.now by)) ≡ true }
-    requires whole { length words.old.items ≡ table_words shape.now }
-    requires invariant { IsAmong shape.now words.old.items (slice_index_or views.old.items by (opening_view shape.now by)) }
-    ensures kind { result ≡ kind_of (moving_view wish (slice_index_or views.old.items by (opening_view shape.now by))).transfer.next }
-    ensures words { words.new.items ≡ acted shape.now words.old.items (action_of shape.now (moving_view wish (slice_index_or views.old.items by (opening_view shape.now by))).transfer) }
-    ensures views { views.new.items ≡ slice_set views.old.items by (view_met shape.now (moving_view wish (slice_index_or views.old.items by (opening_view shape.now by))) (met_word shape.now words.old.items (action_of shape.now (moving_view wish (slice_index_or views.old.items by (opening_view shape.now by))).transfer))) }
-{
-    let view = &mut views[by as usize];
-    move_view(words, view, shape, wish)
-}
-
-/// One step of a process that moves. Where it is at rest it first begins a transfer with this wish.
-fn move_view(words: &mut [u64], view: &mut ProcessView, shape: &Shape, wish: Wish) -> Kind
-    requires moves { may_move wish view.old ≡ true }
-    requires whole { length words.old ≡ table_words shape.now }
-    requires invariant { IsAmong shape.now words.old view.old }
-    ensures kind { result ≡ kind_of (moving_view wish view.old).transfer.next }
-    ensures words { words.new ≡ acted shape.now words.old (action_of shape.now (moving_view wish view.old).transfer) }
-    ensures view { view.new ≡ view_met shape.now (moving_view wish view.old) (met_word shape.now words.old (action_of shape.now (moving_view wish view.old).transfer)) }
-{
-    prove!(shape.processes() >= 1);
-    begin_at_rest(view, wish);
-    core_step(words, view, shape)
-}
-
-/// Begins a transfer where the process is at rest.
-fn begin_at_rest(view: &mut ProcessView, wish: Wish)
-    requires moves { may_move wish view.old ≡ true }
-    requires idle { view.old.transfer.next ≡ Rest → view.old.pool.plan.pending ≡ Idle }
-    requires fits { view.old.transfer.next ≡ Rest → may_wish wish view.old.pool ≡ true → FitsWish wish × MayBegin wish view.old.pool }
-    ensures { view.new ≡ moving_view wish view.old }
-{
-    if view.transfer.next == NextStep::Rest {
-        begin_transfer(view, wish);
-    }
-}
-
-/// Whether a process goes on with its transfer, or may begin one with this wish.
-fn may_move(view: &ProcessView, wish: Wish) -> bool
-    ensures { result ≡ may_move wish view.now }
-{
-    view.transfer.next != NextStep::Rest
-        || view.transfer.age < 1 << 32 && may_wish(&view.pool, wish)
-}
-
-/// Whether a pool may begin a transfer with this wish.
-fn may_wish(pool: &PoolView, wish: Wish) -> bool
-    ensures { result ≡ may_wish wish pool.now }
-{
-    match wish {
-        Wish::Take => pool.plan.spares() <= 1,
-        Wish::Give(head) => {
-            let spares = pool.heads.len();
-            spares > 0 && pool.heads.get(spares - 1) == head
-        }
+    /// Which process holds a block, if any.
+    pub fn holder(&self, block: u32) -> Option<u32>
+        requires { block < blocks self.now.sizes }
+        ensures { result ≡ holder_of self.now block }
+    {
+        self.holders[block as usize]
     }
 }

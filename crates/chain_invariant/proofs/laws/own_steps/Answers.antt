@@ -1,4 +1,4 @@
-use Rattle.chain_invariant.proofs.Own.{quiet_chains, leaving_chains, spare_chains, coming_chains, starting_chains}
+use Rattle.chain_invariant.proofs.OwnChains.{quiet_chains, leaving_chains, spare_chains, coming_chains, starting_chains}
 use Rattle.chain_invariant.proofs.laws.own_steps.Goals as goal
 
 pub returns-clause-quiet : goal.returns-clause-quiet

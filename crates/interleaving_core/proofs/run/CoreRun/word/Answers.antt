@@ -5,10 +5,10 @@ use Rattle.interleaving_core.proofs.run.CoreRun.word.Goals as goal
 
 pub index-requires : goal.index-requires
 index-requires c =
-    let (past, run) = c.self.invariant in
-    omega (arith, c.self.inside.words.ok, word_low _ _ c.args.place c.self.view_is (run_fits _ past _ run) c.requires)
+    let (past, history, run) = c.self.invariant in
+    omega (arith, c.self.inside.words.ok, word_low _ _ history c.args.place c.self.view_is (run_fits _ past history _ run) c.requires)
 
 pub returns : goal.returns
 returns c =
-    let (past, run) = c.self.invariant in
-    rw (sym c.self.view_is) (c.index.ensures ∙ get_or_default c.self.inside.words.items c.args.place _ _ (word_low _ _ c.args.place c.self.view_is (run_fits _ past _ run) c.requires))
+    let (past, history, run) = c.self.invariant in
+    rw (sym c.self.view_is) (c.index.ensures ∙ get_or_default c.self.inside.words.items c.args.place _ _ (word_low _ _ history c.args.place c.self.view_is (run_fits _ past history _ run) c.requires))

@@ -1,7 +1,7 @@
 use Rattle.std.proofs.Common.{ap, sym, ◌∙◌, ◌++◌, ◌∷◌, [], arith}
 use Rattle.interleaving_core.specs.Runs.{opening_views}
 use Rattle.interleaving_core.proofs.Runs.{opening_none, opening_more}
-use Rattle.interleaving_core.proofs.run.opening_views.Goals as goal
+use Rattle.interleaving_core.proofs.turn.opening_views.Goals as goal
 
 pub loop-process-init : goal.loop-process-init
 loop-process-init c = let made = c.in_ok-views.ensures in made.items ∙ sym (opening_none c.args.shape.now)
