@@ -17,3 +17,9 @@ pub mod Holds
 pub mod Tables
 pub mod Holders
 pub mod Runs
+pub mod RunTurns
+pub mod RunSteps
+pub mod RunStates
+pub mod RunShown
+pub mod RunContent
+pub mod RunHeads

@@ -84,7 +84,7 @@ moved_seats sizes xs i v lt = record {
   elsewhere = λ o ne. get_or-set_other xs i o v (opening_view sizes o) ne;
 }
 
-moved_twice : (sizes : Sizes) (xs : List ProcessView) (i : ℕ) (v x : ProcessView) → i < length xs → MovedProcess i x (λ o. get_or (set xs i v) o (opening_view sizes o)) (λ o. get_or (set xs i x) o (opening_view sizes o))
+pub moved_twice : (sizes : Sizes) (xs : List ProcessView) (i : ℕ) (v x : ProcessView) → i < length xs → MovedProcess i x (λ o. get_or (set xs i v) o (opening_view sizes o)) (λ o. get_or (set xs i x) o (opening_view sizes o))
 moved_twice sizes xs i v x lt = record {
   here = get_or-set_same xs i x (opening_view sizes i) lt;
   elsewhere = λ o ne. get_or-set_other xs i o x (opening_view sizes o) ne ∙ sym (get_or-set_other xs i o v (opening_view sizes o) ne);
@@ -147,12 +147,12 @@ calling_busy call v Alone true e alone inside = let h = alone refl in grind arit
 calling_busy call v Calls true e alone inside = rw (e, inside) refl
 calling_busy call v way false e alone inside = begun_inside call v
 
-turn_meets : (s : CoreState) (history : List Entry) (turn : Turn) → RunFits s history → is_made turn s ≡ true → by_of turn < s.sizes.processes
+pub turn_meets : (s : CoreState) (history : List Entry) (turn : Turn) → RunFits s history → is_made turn s ≡ true → by_of turn < s.sizes.processes
     → MeetsInvariant s.sizes s.words (λ o. get_or (set s.views (by_of turn) (turning_view turn s)) o (opening_view s.sizes o)) history
 turn_meets s history (Moves by wish) fits made li = moving_meets s history by wish (is_rest (view_at s by).transfer.next) fits li (both_may (nat_lt by s.sizes.processes) (may_move wish (view_at s by)) made) refl
 turn_meets s history (Events by call) fits made li = calling_meets s history by call (is_in_call (view_at s by).calls.stage) fits li (both_may (nat_lt by s.sizes.processes) _ made) refl
 
-turn_busy : (s : CoreState) (history : List Entry) (turn : Turn) → RunFits s history → is_made turn s ≡ true → by_of turn < s.sizes.processes → is_busy (turning_view turn s) ≡ true
+pub turn_busy : (s : CoreState) (history : List Entry) (turn : Turn) → RunFits s history → is_made turn s ≡ true → by_of turn < s.sizes.processes → is_busy (turning_view turn s) ≡ true
 turn_busy s history (Moves by wish) fits made li =
     let v = view_at s by in
     let may = both_may (nat_lt by s.sizes.processes) (may_move wish v) made in

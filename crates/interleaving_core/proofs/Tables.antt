@@ -40,7 +40,7 @@ use Rattle.interleaving_core.specs.Steps.{is_alone, is_busy, is_in_call, next_ac
 use Rattle.interleaving_core.proofs.Holds.{StepAllowed, step_allowed, step_holds, rests_idle, wish_fits, call_can_begin, alone_begins, call_begins}
 
 -- an action on a table acts on its words by their names
-table_acted : (sizes : Sizes) (table : List ℕ) (action : Action) → length table ≡ table_words sizes → InRange sizes (name_of action) → Acted sizes action (word_at sizes table) (word_at sizes (acted sizes table action))
+pub table_acted : (sizes : Sizes) (table : List ℕ) (action : Action) → length table ≡ table_words sizes → InRange sizes (name_of action) → Acted sizes action (word_at sizes table) (word_at sizes (acted sizes table action))
 table_acted sizes table action whole range =
     let word = left_by action (met_word sizes table action) in
     record {
@@ -81,7 +81,7 @@ call_in_range sizes v Own can = own_in_range sizes v v.calls.call can
     own_in_range sizes v (Some (Read block index)) (low, within) = (low, within)
     own_in_range sizes v (Some (Write block index value)) (low, within) = (low, within)
 
-next_in_range : (sizes : Sizes) (words : Words) (v : ProcessView) (t : Bool) → is_alone v.calls.way ≡ t → StepAllowed sizes words v → InRange sizes (name_of (next_action sizes v))
+pub next_in_range : (sizes : Sizes) (words : Words) (v : ProcessView) (t : Bool) → is_alone v.calls.way ≡ t → StepAllowed sizes words v → InRange sizes (name_of (next_action sizes v))
 next_in_range sizes words v true alone allowed = rw alone (acts_in_range sizes v.transfer v.transfer.next (allowed.act alone))
 next_in_range sizes words v false alone allowed = rw alone (call_in_range sizes v v.calls.stage (allowed.call_act alone))
 

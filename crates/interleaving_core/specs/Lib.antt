@@ -4,3 +4,4 @@ pub mod Runs
 pub mod Turned
 pub mod Invariant
 pub mod Content
+pub mod TransferLaws

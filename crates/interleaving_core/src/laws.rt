@@ -1,0 +1,3 @@
+//! What holds of every run of the machine. Each law is the contract of a call that does nothing.
+
+pub mod transfers;
