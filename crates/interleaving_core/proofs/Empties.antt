@@ -117,7 +117,7 @@ found_empty announcements s (suc k) o lt fits pending take says = elim (cases_eq
 ]
 
 -- the two sums of a number of each process say the same
-same_total : (count : ℕ) (f : ℕ → ℕ) → grips.total count f ≡ total count f
+pub same_total : (count : ℕ) (f : ℕ → ℕ) → grips.total count f ≡ total count f
 unfolding grips.total total
 same_total zero f = refl
 same_total (suc count) f = ap (λ n. n + f count) (same_total count f)

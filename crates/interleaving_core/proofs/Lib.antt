@@ -23,3 +23,6 @@ pub mod RunStates
 pub mod RunShown
 pub mod RunContent
 pub mod RunHeads
+pub mod CallLawsKept
+pub mod CallLaws
+pub mod CallLawsShort

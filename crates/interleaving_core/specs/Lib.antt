@@ -5,3 +5,5 @@ pub mod Turned
 pub mod Invariant
 pub mod Content
 pub mod TransferLaws
+pub mod Kept
+pub mod CallLaws

@@ -57,16 +57,26 @@ fn head_at(words: &[u64], shape: &Shape, place: u32) -> u32
 }
 
 /// The current record.
-fn row_of(words: &[u64], shape: &Shape) -> u32
+pub fn row_of(words: &[u64], shape: &Shape) -> u32
     requires { length words.now ≡ table_words shape.now }
     ensures { result ≡ current_record shape.now words.now }
 {
     value_at(words, shape, WordName::State)
 }
 
+/// The word with that name.
+#[tactic(auto, unfolding(word_layout::specs::Names::word_at))]
+pub fn whole_at(words: &[u64], shape: &Shape, name: WordName) -> u64
+    requires whole { length words.now ≡ table_words shape.now }
+    requires within { InRange shape.now name }
+    ensures { result ≡ word_at shape.now words.now name }
+{
+    words[shape.place(name) as usize]
+}
+
 /// The value of the word with that name.
 #[tactic(auto, unfolding(word_layout::specs::Names::word_at))]
-fn value_at(words: &[u64], shape: &Shape, name: WordName) -> u32
+pub fn value_at(words: &[u64], shape: &Shape, name: WordName) -> u32
     requires whole { length words.now ≡ table_words shape.now }
     requires within { InRange shape.now name }
     ensures value { result ≡ value_of (word_at shape.now words.now name) }

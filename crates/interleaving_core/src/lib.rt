@@ -2,6 +2,7 @@
 #![tactic(auto)]
 
 mod content;
+mod kept;
 pub mod laws;
 mod run;
 mod step;

@@ -1,0 +1,139 @@
+-- the laws of calls, of the state at the end of every run
+use Rattle.std.proofs.Common.{◌≡◌, ◌≢◌, ℕ, ◌+◌, ◌*◌, ◌<◌, ◌≤◌, Bool, true, false, Option, Some, List, length, refl, sym, ap, ◌∙◌, subst, arith}
+use Rattle.std.specs.Prelude.{◌↔◌, Contains, IfSome, slice_get, take, if◌then◌else◌}
+use Rattle.word_layout.specs.Sizes.{Sizes, blocks, slack, transfer_bound}
+use Rattle.word_layout.specs.Names.{word_at}
+use Rattle.pool_model.specs.declared.entry.Entry.{Entry}
+use Rattle.pool_model.specs.declared.entry.Entry.TheVariants.{Dry}
+use Rattle.pool_model.specs.Limits.{Limits}
+use Rattle.pool_model.specs.Legal.{IsLegal, HadFew, MayFollow}
+use Rattle.pool_model.specs.History.{own, held, grip}
+use Rattle.transfer_schedule.specs.declared.pending.Pending.TheVariants.{Idle}
+use Rattle.transfer_schedule.specs.Table.{InTable}
+use Rattle.transfer_schedule.proofs.Reaching.{reached_stands, reached_sizes, stands_in_time}
+use Rattle.transfer_machine.specs.Words.{stack}
+use Rattle.transfer_machine.specs.declared.call.CallStage.{CallStage}
+use Rattle.transfer_machine.specs.declared.call.CallStage.TheVariants.{Moving}
+use Rattle.transfer_machine.specs.declared.call.Way.TheVariants.{Alone}
+use Rattle.transfer_invariant.specs.Tags.{total}
+use Rattle.history_invariant.specs.Grips.{times}
+use Rattle.history_invariant.specs.Fits.{CountsEntries}
+use Rattle.history_invariant.proofs.Holding.{held_shared}
+use Rattle.call_invariant.specs.InCalls.{InCalls}
+use Rattle.call_invariant.proofs.Uses.{calls_used}
+use Rattle.interleaving_core.specs.Invariant.{Ghosts, Holds, limits_of}
+use Rattle.interleaving_core.specs.Kept.{kept}
+use Rattle.interleaving_core.specs.Moves.{CoreState, view_at, holder_of, is_holder}
+use Rattle.interleaving_core.specs.Runs.{Turn, IsRun, opens, turns, is_made, after_turn}
+use Rattle.interleaving_core.specs.Steps.{is_in_call}
+use Rattle.interleaving_core.specs.CallLaws as laws
+use Rattle.interleaving_core.proofs.Holds.{alone_between}
+use Rattle.interleaving_core.proofs.Joins.{scheduled, keeps}
+use Rattle.interleaving_core.proofs.Runs.{RunFits, run_fits}
+use Rattle.interleaving_core.proofs.CallLawsKept.{few_withheld, keeps_five, all_counted}
+
+-- the shape stays
+turn_stays : (t : Bool) (s u : CoreState) → u.sizes ≡ s.sizes → (if t then u else s).sizes ≡ s.sizes
+turn_stays true s u e = e
+turn_stays false s u e = refl
+
+pub shapes_stay : laws.ShapesStay
+shapes_stay sizes past history s (opens words shape opening) = refl
+shapes_stay sizes past history s (turns before made old turn run) = turn_stays (is_made turn old) old _ refl ∙ shapes_stay sizes before made old run
+
+-- what holds at the end of every run is a law of it
+pub every_run : (Fact : Sizes → List Entry → CoreState → Type 0) → ((history : List Entry) (s : CoreState) → RunFits s history → Fact s.sizes history s) → laws.EveryRun Fact
+every_run Fact holds sizes past history s run = subst (λ (shape : Sizes). Fact shape history s) (shapes_stay sizes past history s run) (holds history s (run_fits sizes past history s run))
+
+-- the history
+legal_here : (history : List Entry) (s : CoreState) → RunFits s history → IsLegal (limits_of s.sizes) history
+legal_here history s fits = let (ghosts, h) = fits.meets in h.entries.legal
+
+pub histories_are_legal : laws.HistoriesAreLegal
+histories_are_legal = every_run (λ sizes history s. IsLegal (limits_of sizes) history) legal_here
+
+refusal_follows : (limits : Limits) (past : List Entry) (entry : Option Entry) (by : ℕ) → IfSome entry (MayFollow limits past) → entry ≡ Some (Dry by) → HadFew limits past by
+refusal_follows limits past entry by may e = (rw e at may).1
+
+pub refusals_had_few : laws.RefusalsHadFew
+refusals_had_few sizes past history s run x by e = refusal_follows (limits_of sizes) (take x history) (slice_get history x) by ((histories_are_legal sizes past history s run).follows x) e
+
+once_here : (history : List Entry) (s : CoreState) → RunFits s history → (block : ℕ) → times block (held history) ≤ 1
+once_here history s fits block =
+    let (ghosts, h) = fits.meets in
+    (held_shared (limits_of s.sizes) (transfer_bound s.sizes) s.sizes.quantum history ghosts.ledgers h.entries).grips.once block
+
+pub none_is_held_twice : laws.NoneIsHeldTwice
+none_is_held_twice = every_run (λ sizes history s. (block : ℕ) → times block (held history) ≤ 1) once_here
+
+holders_here : (history : List Entry) (s : CoreState) → RunFits s history → (i block : ℕ) → (is_holder i (holder_of s block) ≡ true) ↔ Contains (grip (own history i)) block
+holders_here history s fits i block = (fits.holders.truly i block, fits.holders.all i block)
+
+pub holders_hold : laws.HoldersHold
+holders_hold = every_run (λ sizes history s. (i block : ℕ) → (is_holder i (holder_of s block) ≡ true) ↔ Contains (grip (own history i)) block) holders_here
+
+-- what is withheld
+few_here : (history : List Entry) (s : CoreState) → RunFits s history → blocks s.sizes ≤ length (held history) + s.sizes.length * length (stack s.sizes s.words) + slack s.sizes
+few_here history s fits = let (ghosts, h) = fits.meets in few_withheld s.sizes s.words (view_at s) history ghosts fits.shape h
+
+pub few_are_withheld : laws.FewAreWithheld
+few_are_withheld = every_run (λ sizes history s. blocks sizes ≤ length (held history) + sizes.length * length (stack sizes s.words) + slack sizes) few_here
+
+five_here : (history : List Entry) (s : CoreState) → RunFits s history → (i : ℕ) → i < s.sizes.processes → kept s i ≤ 5 * s.sizes.length
+five_here history s fits i li = let (ghosts, h) = fits.meets in keeps_five s.sizes s.words (view_at s) history ghosts i fits.shape li h
+
+pub each_keeps_five : laws.EachKeepsFive
+each_keeps_five = every_run (λ sizes history s. (i : ℕ) → i < sizes.processes → kept s i ≤ 5 * sizes.length) five_here
+
+counted_here : (history : List Entry) (s : CoreState) → RunFits s history → total s.sizes.processes (kept s) + length (held history) + s.sizes.length * length (stack s.sizes s.words) ≡ blocks s.sizes
+counted_here history s fits = let (ghosts, h) = fits.meets in all_counted s.sizes s.words (view_at s) history ghosts h
+
+pub all_are_counted : laws.AllAreCounted
+all_are_counted = every_run (λ sizes history s. total sizes.processes (kept s) + length (held history) + sizes.length * length (stack sizes s.words) ≡ blocks sizes) counted_here
+
+-- the schedule
+table_here : (history : List Entry) (s : CoreState) → RunFits s history → (i : ℕ) → i < s.sizes.processes → InTable (view_at s i).pool.plan
+table_here history s fits i li = let (ghosts, h) = fits.meets in (keeps s.sizes (word_at s.sizes s.words) (view_at s) history ghosts i fits.shape li h).table
+
+pub plans_within_table : laws.PlansWithinTable
+plans_within_table = every_run (λ sizes history s. (i : ℕ) → i < sizes.processes → InTable (view_at s i).pool.plan) table_here
+
+entries_young : (begun : ℕ) {entries mine size long : ℕ} → entries < begun + size → entries ≡ mine → size ≡ long → mine < begun + long
+entries_young begun young e f = omega (arith, young, e, f)
+
+account_here : (history : List Entry) (s : CoreState) → RunFits s history → (i : ℕ) → i < s.sizes.processes → (view_at s i).calls.way ≢ Alone → laws.EndsByAccount s.sizes (own history i) (view_at s i)
+account_here history s fits i li calls =
+    let (ghosts, h) = fits.meets in
+    let sizes = s.sizes in
+    let v = view_at s i in
+    let ledger = ghosts.ledgers i in
+    let used = calls_used sizes i v ledger v.calls.way calls (h.pools i li) in
+    let schedule = scheduled sizes (word_at sizes s.words) (view_at s) history ghosts i fits.shape li h in
+    let mine = h.entries.each i li in
+    let same = mine.sees.own_entries in
+    let stands = reached_stands sizes.length (transfer_bound sizes) sizes.quantum ledger.account schedule.fit schedule.reached in
+    record {
+      account = ledger.account;
+      reached = schedule.reached;
+      counts = rw same mine.counts;
+      plan = used.plan;
+      phase = used.phase;
+      young = λ pending. entries_young ledger.account.begun (stands_in_time ledger.account stands (λ e. pending (sym (ap (λ x. x.pending) used.plan) ∙ e))) (mine.counts.entries ∙ sym (ap (λ xs. length xs) same))
+          (reached_sizes sizes.length (transfer_bound sizes) sizes.quantum ledger.account schedule.reached).0;
+    }
+
+pub transfers_end_in_time : laws.TransfersEndInTime
+transfers_end_in_time = every_run (λ sizes history s. (i : ℕ) → i < sizes.processes → (view_at s i).calls.way ≢ Alone → laws.EndsByAccount sizes (own history i) (view_at s i)) account_here
+
+pub quanta_here : (history : List Entry) (s : CoreState) → RunFits s history → (i : ℕ) → i < s.sizes.processes → (view_at s i).calls.stage ≡ Moving → (view_at s i).calls.steps < s.sizes.quantum
+quanta_here history s fits i li moving =
+    let (ghosts, h) = fits.meets in
+    let v = view_at s i in
+    let calls : v.calls.way ≢ Alone = λ alone. in_no_call v.calls.stage (alone_between s.sizes (word_at s.sizes s.words) (view_at s) history i li fits.meets alone) moving in
+    (calls_used s.sizes i v (ghosts.ledgers i) v.calls.way calls (h.pools i li)).stage.few moving
+  where
+    in_no_call : (stage : CallStage) → is_in_call stage ≡ false → stage ≡ Moving → ⊥
+    in_no_call stage outside e = grind arith
+
+pub quanta_are_kept : laws.QuantaAreKept
+quanta_are_kept = every_run (λ sizes history s. (i : ℕ) → i < sizes.processes → (view_at s i).calls.stage ≡ Moving → (view_at s i).calls.steps < sizes.quantum) quanta_here

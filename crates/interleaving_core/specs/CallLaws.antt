@@ -1,0 +1,106 @@
+-- laws of calls over every run
+use Rattle.std.specs.Prelude.{◌≡◌, ◌≢◌, ℕ, ◌+◌, ◌*◌, ◌-◌, ◌<◌, ◌≤◌, ◌↔◌, true, false, Some, List, length, slice_get, take, Contains}
+use Rattle.word_layout.specs.Sizes.{Sizes, blocks, slack, transfer_bound}
+use Rattle.pool_model.specs.declared.entry.Entry.{Entry}
+use Rattle.pool_model.specs.declared.entry.Entry.TheVariants.{Dry}
+use Rattle.pool_model.specs.History.{own, held, grip, is_got, is_back}
+use Rattle.pool_model.specs.Legal.{IsLegal, HadFew}
+use Rattle.history_invariant.specs.Fits.{CountsEntries}
+use Rattle.history_invariant.specs.Grips.{times}
+use Rattle.transfer_schedule.specs.declared.pending.Pending.TheVariants.{Idle}
+use Rattle.transfer_schedule.specs.Account.{Account, Reached}
+use Rattle.transfer_schedule.specs.Table.{InTable, calls_of}
+use Rattle.transfer_machine.specs.Words.{stack}
+use Rattle.transfer_invariant.specs.Tags.{total}
+use Rattle.transfer_machine.specs.declared.call.Call.{Call}
+use Rattle.transfer_machine.specs.declared.call.CallStage.{CallStage}
+use Rattle.transfer_machine.specs.declared.call.CallStage.TheVariants.{Between, Moving, Own}
+use Rattle.transfer_machine.specs.declared.call.CallView.{CallView}
+use Rattle.transfer_machine.specs.declared.call.Way.TheVariants.{Alone}
+use Rattle.transfer_machine.specs.declared.view.ProcessView.{ProcessView}
+use Rattle.pool_machine.specs.Laws.{most_moves}
+use Rattle.call_invariant.specs.Phases.{call_phase}
+use Rattle.interleaving_core.specs.Invariant.{limits_of}
+use Rattle.interleaving_core.specs.Kept.{kept}
+use Rattle.interleaving_core.specs.Moves.{CoreState, view_at, holder_of, is_holder}
+use Rattle.interleaving_core.specs.Runs.{Turn, Events, by_of, is_made, after_turn, IsRun}
+use Rattle.interleaving_core.specs.Steps.{is_in_call}
+
+-- a fact of the shape, the history and the state at the end of every run
+abbrev pub EveryRun : (Sizes → List Entry → CoreState → Type 0) → Type 0
+EveryRun Fact = (sizes : Sizes) (past : List Turn) (history : List Entry) (s : CoreState) → IsRun sizes past history s → Fact sizes history s
+
+-- the shape stays
+abbrev pub ShapesStay : Type 0
+ShapesStay = EveryRun (λ sizes history s. s.sizes ≡ sizes)
+
+-- the history is legal
+abbrev pub HistoriesAreLegal : Type 0
+HistoriesAreLegal = EveryRun (λ sizes history s. IsLegal (limits_of sizes) history)
+
+-- so each refusal has a place in its window, within the caller's last `2 * length` entries, where at most the slack was unheld
+abbrev pub RefusalsHadFew : Type 0
+RefusalsHadFew = EveryRun (λ sizes history s. (x by : ℕ) → slice_get history x ≡ Some (Dry by) → HadFew (limits_of sizes) (take x history) by)
+
+-- and no block is held twice
+abbrev pub NoneIsHeldTwice : Type 0
+NoneIsHeldTwice = EveryRun (λ sizes history s. (block : ℕ) → times block (held history) ≤ 1)
+
+-- the holder of a block is the process whose entries got it and didn't give it back
+abbrev pub HoldersHold : Type 0
+HoldersHold = EveryRun (λ sizes history s. (i block : ℕ) → (is_holder i (holder_of s block) ≡ true) ↔ Contains (grip (own history i)) block)
+
+-- all blocks but the slack are held or in the shared stack
+abbrev pub FewAreWithheld : Type 0
+FewAreWithheld = EveryRun (λ sizes history s. blocks sizes ≤ length (held history) + sizes.length * length (stack sizes s.words) + slack sizes)
+
+-- wherever a process stands, it keeps at most five batches of blocks
+abbrev pub EachKeepsFive : Type 0
+EachKeepsFive = EveryRun (λ sizes history s. (i : ℕ) → i < sizes.processes → kept s i ≤ 5 * sizes.length)
+
+-- each block is kept by a process, held, or in the shared stack
+abbrev pub AllAreCounted : Type 0
+AllAreCounted = EveryRun (λ sizes history s. total sizes.processes (kept s) + length (held history) + sizes.length * length (stack sizes s.words) ≡ blocks sizes)
+
+-- how many steps a call makes at most from a stage on: those left of its quantum, and its own one
+abbrev pub steps_left_at : ℕ → ℕ → CallStage → ℕ
+steps_left_at quantum steps Between = 0
+steps_left_at quantum steps Moving = quantum - steps + 1
+steps_left_at quantum steps Own = 1
+
+abbrev pub steps_left : ℕ → CallView → ℕ
+steps_left quantum calls = steps_left_at quantum calls.steps calls.stage
+
+-- process i goes on with one call from one state to another, in any turns of all processes, of which so many are steps of that call
+pub data GoesOnWith (i : ℕ) : ℕ → CoreState → CoreState → Type 0 where
+  starts : (s : CoreState) → GoesOnWith i 0 s s
+  steps : (n : ℕ) (s t : CoreState) (call : Call) → GoesOnWith i n s t → is_in_call (view_at t i).calls.stage ≡ true → GoesOnWith i (n + 1) s (after_turn (Events i call) t)
+  others : (n : ℕ) (s t : CoreState) (turn : Turn) → GoesOnWith i n s t → by_of turn ≢ i → GoesOnWith i n s (after_turn turn t)
+  ignored : (n : ℕ) (s t : CoreState) (turn : Turn) → GoesOnWith i n s t → is_made turn t ≡ false → GoesOnWith i n s (after_turn turn t)
+
+-- after its first step a call makes at most so many more: an allocate or a free a quantum, so that both take `quantum + 1` at most, a read or a write none
+abbrev pub CallsAreShort : Type 0
+CallsAreShort = EveryRun (λ sizes history s. (i n : ℕ) (call : Call) (t : CoreState) → (view_at s i).calls.stage ≡ Between → is_made (Events i call) s ≡ true
+    → GoesOnWith i n (after_turn (Events i call) s) t
+    → n ≤ most_moves sizes call)
+
+-- at its transfer steps a call has made fewer than a quantum of them
+abbrev pub QuantaAreKept : Type 0
+QuantaAreKept = EveryRun (λ sizes history s. (i : ℕ) → i < sizes.processes → (view_at s i).calls.stage ≡ Moving → (view_at s i).calls.steps < sizes.quantum)
+
+-- an account of the schedule that goes with a process and its entries: by it a pending transfer began fewer than `length` own entries ago
+pub record EndsByAccount (sizes : Sizes) (mine : List Entry) (v : ProcessView) : Type 0 where
+  pub account : Account
+  pub reached : Reached sizes.length (transfer_bound sizes) sizes.quantum account
+  pub counts : CountsEntries account mine
+  pub plan : account.plan ≡ v.pool.plan
+  pub phase : account.phase ≡ call_phase v
+  pub young : v.pool.plan.pending ≢ Idle → length mine < account.begun + sizes.length
+
+-- a transfer of a process that makes calls is pending in fewer than `length` calls after the one that began it
+abbrev pub TransfersEndInTime : Type 0
+TransfersEndInTime = EveryRun (λ sizes history s. (i : ℕ) → i < sizes.processes → (view_at s i).calls.way ≢ Alone → EndsByAccount sizes (own history i) (view_at s i))
+
+-- each plan is within the table of spares
+abbrev pub PlansWithinTable : Type 0
+PlansWithinTable = EveryRun (λ sizes history s. (i : ℕ) → i < sizes.processes → InTable (view_at s i).pool.plan)

@@ -1,0 +1,48 @@
+//! Laws of calls, over every run: the histories, who holds a block, what is withheld, and how long a call is.
+ghost use Rattle.interleaving_core.specs.CallLaws.{ShapesStay, HistoriesAreLegal, RefusalsHadFew, NoneIsHeldTwice, HoldersHold, FewAreWithheld, EachKeepsFive, AllAreCounted, CallsAreShort, QuantaAreKept, TransfersEndInTime, PlansWithinTable};
+
+/// The shape of a run stays.
+pub fn shapes_stay()
+    ensures { ShapesStay }
+{}
+
+/// The history of every run is legal: each refusal had a moment in its window with few unheld blocks, and no block
+/// is held twice.
+pub fn histories_are_legal()
+    ensures legal { HistoriesAreLegal }
+    ensures refusals { RefusalsHadFew }
+    ensures once { NoneIsHeldTwice }
+{}
+
+/// Whoever a run names as the holder of a block holds it by the history, and nobody else does.
+pub fn holders_hold()
+    ensures { HoldersHold }
+{}
+
+/// All blocks but the slack are held or in the shared stack, at every moment.
+pub fn few_are_withheld()
+    ensures { FewAreWithheld }
+{}
+
+/// A process keeps at most five batches of blocks, wherever it stands, and so wherever it stopped. Each block is
+/// kept by a process, held, or in the shared stack.
+pub fn kept_are_few()
+    ensures five { EachKeepsFive }
+    ensures all { AllAreCounted }
+{}
+
+/// An allocate or a free takes at most a quantum of steps and its own one, whatever the other processes do.
+pub fn calls_are_short()
+    ensures short { CallsAreShort }
+    ensures quanta { QuantaAreKept }
+{}
+
+/// A transfer of a process that makes calls ends within as many calls as a batch has blocks.
+pub fn transfers_end_in_time()
+    ensures { TransfersEndInTime }
+{}
+
+/// Each plan is within the schedule's table of spares.
+pub fn plans_within_table()
+    ensures { PlansWithinTable }
+{}
