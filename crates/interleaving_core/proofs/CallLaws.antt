@@ -1,8 +1,9 @@
 -- the laws of calls, of the state at the end of every run
-use Rattle.std.proofs.Common.{◌≡◌, ◌≢◌, ℕ, ◌+◌, ◌*◌, ◌<◌, ◌≤◌, Bool, true, false, Option, Some, List, length, refl, sym, ap, ◌∙◌, subst, arith}
+use Rattle.std.proofs.Common.{◌≡◌, ◌≢◌, ℕ, ◌+◌, ◌*◌, ◌<◌, ◌≤◌, ◌^◌, Bool, true, false, Option, Some, List, length, refl, sym, ap, ◌∙◌, subst, arith}
 use Rattle.std.specs.Prelude.{◌↔◌, Contains, IfSome, slice_get, take, if◌then◌else◌}
 use Rattle.word_layout.specs.Sizes.{Sizes, blocks, slack, transfer_bound}
 use Rattle.word_layout.specs.Names.{word_at}
+use Rattle.word_layout.proofs.Limits.{length_le_blocks}
 use Rattle.pool_model.specs.declared.entry.Entry.{Entry}
 use Rattle.pool_model.specs.declared.entry.Entry.TheVariants.{Dry}
 use Rattle.pool_model.specs.Limits.{Limits}
@@ -15,6 +16,7 @@ use Rattle.transfer_machine.specs.Words.{stack}
 use Rattle.transfer_machine.specs.declared.call.CallStage.{CallStage}
 use Rattle.transfer_machine.specs.declared.call.CallStage.TheVariants.{Moving}
 use Rattle.transfer_machine.specs.declared.call.Way.TheVariants.{Alone}
+use Rattle.transfer_machine.specs.declared.view.ProcessView.{ProcessView}
 use Rattle.transfer_invariant.specs.Tags.{total}
 use Rattle.history_invariant.specs.Grips.{times}
 use Rattle.history_invariant.specs.Fits.{CountsEntries}
@@ -22,7 +24,7 @@ use Rattle.history_invariant.proofs.Holding.{held_shared}
 use Rattle.call_invariant.specs.InCalls.{InCalls}
 use Rattle.call_invariant.proofs.Uses.{calls_used}
 use Rattle.interleaving_core.specs.Invariant.{Ghosts, Holds, limits_of}
-use Rattle.interleaving_core.specs.Kept.{kept}
+use Rattle.interleaving_core.specs.Kept.{kept_by, kept}
 use Rattle.interleaving_core.specs.Moves.{CoreState, view_at, holder_of, is_holder}
 use Rattle.interleaving_core.specs.Runs.{Turn, IsRun, opens, turns, is_made, after_turn}
 use Rattle.interleaving_core.specs.Steps.{is_in_call}
@@ -79,11 +81,31 @@ few_here history s fits = let (ghosts, h) = fits.meets in few_withheld s.sizes s
 pub few_are_withheld : laws.FewAreWithheld
 few_are_withheld = every_run (λ sizes history s. blocks sizes ≤ length (held history) + sizes.length * length (stack sizes s.words) + slack sizes) few_here
 
-five_here : (history : List Entry) (s : CoreState) → RunFits s history → (i : ℕ) → i < s.sizes.processes → kept s i ≤ 5 * s.sizes.length
+pub five_here : (history : List Entry) (s : CoreState) → RunFits s history → (i : ℕ) → i < s.sizes.processes → kept s i ≤ 5 * s.sizes.length
 five_here history s fits i li = let (ghosts, h) = fits.meets in keeps_five s.sizes s.words (view_at s) history ghosts i fits.shape li h
 
 pub each_keeps_five : laws.EachKeepsFive
 each_keeps_five = every_run (λ sizes history s. (i : ℕ) → i < sizes.processes → kept s i ≤ 5 * sizes.length) five_here
+
+-- what is read off the words and the view of a process is what it keeps, a number of 32 bits
+pub kept_read : (s now : CoreState) (i : ℕ) (words : List ℕ) (v : ProcessView) → s ≡ now → words ≡ s.words → v ≡ view_at now i → kept_by s.sizes words i v ≡ kept now i
+kept_read s now i words v e f g = rw (f, g, sym e) refl
+
+pub kept_five : (s now : CoreState) (history : List Entry) (i : ℕ) → s ≡ now → RunFits s history → i < now.sizes.processes → kept now i ≤ 5 * now.sizes.length
+kept_five s now history i e fits li =
+    let low : i < s.sizes.processes = rw e li in
+    rw (sym e) (five_here history s fits i low)
+
+pub kept_small : (s now : CoreState) (history : List Entry) (i : ℕ) → s ≡ now → RunFits s history → i < now.sizes.processes → kept now i < 2 ^ 32
+kept_small s now history i e fits li =
+    let low : i < s.sizes.processes = rw e li in
+    rw (sym e) (small s.sizes.length (five_here history s fits i low) (length_le_blocks s.sizes fits.shape) fits.shape.few_blocks)
+  where
+    small : (long : ℕ) {n all : ℕ} → n ≤ 5 * long → 2 * long ≤ all → all ≤ 2 ^ 22 → n < 2 ^ 32
+    small long five two few = omega (arith, five, two, few)
+
+pub process_low : (s now : CoreState) (i : ℕ) → s ≡ now → i < now.sizes.processes → i < s.sizes.processes
+process_low s now i e li = rw e li
 
 counted_here : (history : List Entry) (s : CoreState) → RunFits s history → total s.sizes.processes (kept s) + length (held history) + s.sizes.length * length (stack s.sizes s.words) ≡ blocks s.sizes
 counted_here history s fits = let (ghosts, h) = fits.meets in all_counted s.sizes s.words (view_at s) history ghosts h

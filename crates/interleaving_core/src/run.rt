@@ -1,14 +1,16 @@
 // Runs of the machine.
-ghost use Rattle.std.specs.Prelude.{◌≡◌, ◌<◌, ◌^◌, List, [], ◌∷◌, ◌++◌, IfOk, slice_index};
+ghost use Rattle.std.specs.Prelude.{◌≡◌, ◌*◌, ◌<◌, ◌≤◌, ◌^◌, List, [], ◌∷◌, ◌++◌, IfOk, slice_index};
 ghost use Rattle.word_layout.specs.Sizes.{blocks};
 ghost use Rattle.word_layout.specs.Names.{table_words};
 ghost use Rattle.pool_model.specs.declared.entry.Entry.{Entry};
 ghost use Rattle.transfer_machine.specs.Words.{stack};
 ghost use Rattle.interleaving_core.specs.Invariant.{MeetsInvariant};
+ghost use Rattle.interleaving_core.specs.Kept.{kept};
 ghost use Rattle.interleaving_core.specs.Moves.{view_at, holder_of};
 ghost use Rattle.interleaving_core.specs.Runs.{IsRun, Turn, Moves, Events, is_made, after_turn, turn_answer, entries_of};
 
 use crate::content::stack_of;
+use crate::kept::kept_by;
 use crate::turn::{
     call_process, held_by, may_go, may_move, move_process, no_holders, note, opening_views,
 };
@@ -145,6 +147,17 @@ impl CoreRun {
         ensures { result.now ≡ view_at self.now process }
     {
         &self.views[process as usize]
+    }
+
+    /// How many blocks a process keeps: those of its current list and its spares, the batch of a give that isn't
+    /// applied, and the batch that an applied take was answered. They are at most five batches, wherever the process
+    /// stands, and with those of the other processes, the held ones and those of the stack they are all blocks.
+    pub fn kept(&self, process: u32) -> u32
+        requires { process < self.now.sizes.processes }
+        ensures value { result ≡ kept self.now process }
+        ensures few { result ≤ 5 * self.now.sizes.length }
+    {
+        kept_by(&self.words, self.view(process), &self.shape, process)
     }
 
     /// Which process holds a block, if any.
