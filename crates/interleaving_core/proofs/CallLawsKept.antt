@@ -90,7 +90,7 @@ moving_many : (s : StackState) (i : ℕ) (v : TransferView) (pends : Bool) (valu
 unfolding moving
 moving_many s i v pends value e f =
     rw (e, f) (either_many (has_only_begun v.next) (has_announced v.next) (given_batches v.wish) (announced_batches (not (s.applied i == v.age)) v.wish (reply_of (s.reply i))) (given v.wish) (announced_batch s i v) (given_many v.wish)
-        (announced_many (s.applied i == v.age) v.wish (reply_of (s.reply i))))
+    (announced_many (s.applied i == v.age) v.wish (reply_of (s.reply i))))
 
 -- the reply that the words of a table say
 value_said : (sizes : Sizes) (table : List ℕ) (s : StackState) (i : ℕ) → Shows sizes.processes (word_at sizes table) s → i < sizes.processes → reply_value_at sizes table i ≡ s.reply i
@@ -165,8 +165,8 @@ all_counted sizes table views history ghosts h =
     let counted = blocks_counted sizes words s views h.chains.batch_blocks h.chains.current_blocks mine h.chains.hold in
     let shared = held_shared (limits_of sizes) (transfer_bound sizes) sizes.quantum history ghosts.ledgers h.entries in
     joined sizes.length (blocks sizes) counted (total_same sizes.processes (λ i. kept_by sizes table i (views i)) (λ i. kept_blocks sizes s i (views i)) (λ i li. kept_said sizes table views history ghosts i li h))
-        (shared.grips.count ∙ same_total sizes.processes (λ i. length (grip (ghosts.ledgers i).entries)))
-        (stack_many sizes table views history ghosts h)
+    (shared.grips.count ∙ same_total sizes.processes (λ i. length (grip (ghosts.ledgers i).entries)))
+    (stack_many sizes table views history ghosts h)
 
 few : (processes l kept mine height all : ℕ) → kept + mine + l * height ≡ all → kept ≤ 5 * l * processes → all ≤ mine + l * height + 5 * (processes * l)
 few processes l kept mine height all counted least = omega (arith, counted, least, five_times l processes)
@@ -179,4 +179,4 @@ pub few_withheld : (sizes : Sizes) (table : List ℕ) (views : ProcessViews) (hi
 unfolding slack
 few_withheld sizes table views history ghosts shape h =
     few sizes.processes sizes.length (total sizes.processes (λ i. kept_by sizes table i (views i))) (length (held history)) (length (stack sizes table)) (blocks sizes) (all_counted sizes table views history ghosts h)
-        (at_most refl (total_le sizes.processes (λ i. kept_by sizes table i (views i)) (λ i. 5 * sizes.length) (λ i li. keeps_five sizes table views history ghosts i shape li h)) (omega (arith, total_each (5 * sizes.length) sizes.processes)))
+    (at_most refl (total_le sizes.processes (λ i. kept_by sizes table i (views i)) (λ i. 5 * sizes.length) (λ i li. keeps_five sizes table views history ghosts i shape li h)) (omega (arith, total_each (5 * sizes.length) sizes.processes)))

@@ -116,7 +116,6 @@ inside_view : (call : Call) (v : ProcessView) (t : Bool) → is_in_call v.calls.
 inside_view call v true inside e = rw inside refl
 inside_view call v false inside e = absurd (grind arith)
 
-
 -- after each turn of a run the steps that were made and those that are left are at most as many as at first
 made_left : (s : CoreState) (history : List Entry) (turn : Turn) (bound : ℕ) → RunFits s history → is_made turn s ≡ true
     → steps_left s.sizes.quantum (next_met s.sizes (turning_view turn s) (met_word s.sizes s.words (next_action s.sizes (turning_view turn s)))).calls + 1 ≤ bound
@@ -149,7 +148,7 @@ later_left history s fits i call li inside =
     let word = met_word s.sizes s.words (next_action s.sizes v) in
     let calls = not_alone v.calls.way v.calls.stage (alone_between s.sizes (word_at s.sizes s.words) (view_at s) history i li fits.meets) inside in
     made_left s history (Events i call) (steps_left s.sizes.quantum v.calls) fits (in_call_made s i call li inside)
-        (rw (inside_view call v true inside refl) (next_left s.sizes v word calls inside (quanta_here history s fits i li)))
+    (rw (inside_view call v true inside refl) (next_left s.sizes v word calls inside (quanta_here history s fits i li)))
 
 -- so in a row of turns
 pub record Spent (sizes : Sizes) (i n most : ℕ) (t : CoreState) : Type 0 where
