@@ -1,13 +1,14 @@
 use super::{event, holder, next_number};
 use crate::{CoreRun, Event, Happened};
 use pool_model::Entry;
+use std::alloc::Global;
 use std::process::Abort;
 use std::test::Fail;
 use transfer_machine::{Call, CallStage};
 use word_layout::Shape;
 
-/// How many blocks the pool has.
-const BLOCKS: u32 = 96;
+/// No pool here has more blocks.
+const MOST_BLOCKS: u32 = 96;
 
 /// A plain set of held blocks: who holds each block, and the data word that was last written to it since.
 #[derive(Debug, Drop)]
@@ -114,9 +115,9 @@ fn agree(rt: &impl Abort, run: &CoreRun, held: &Held) -> bool {
 
 /// A block that a process holds, the first from a random one on; or that random one.
 fn some_block(held: &Held, by: u32, seed: &mut u32) -> u32 {
-    let first = next_number(seed) % BLOCKS;
-    for offset in 0..BLOCKS {
-        let block = (first + offset) % BLOCKS;
+    let first = next_number(seed) % MOST_BLOCKS;
+    for offset in 0..MOST_BLOCKS {
+        let block = (first + offset) % MOST_BLOCKS;
         if held_by(held, block) == Some(by) {
             return block;
         }
@@ -137,7 +138,7 @@ fn some_event(held: &Held, frees: bool, seed: &mut u32) -> Event {
             value: u64::from(*seed),
         },
         2 => Call::Free {
-            block: next_number(seed) % BLOCKS,
+            block: next_number(seed) % MOST_BLOCKS,
         },
         number if (number < 6) != frees => Call::Free { block },
         _ => Call::Allocate,
@@ -163,26 +164,27 @@ fn note(counts: &mut [u32; 6], happened: Happened) {
 
 /// Three processes make calls at random, for a while mostly allocates and for a while mostly frees, and each
 /// answer is held against a plain set of held blocks.
-#[test]
-fn random_events(rt: HostRuntime) -> Result<(), Fail> {
-    let shape = Shape::new(3, 12, 1)?;
-    assert_eq!(rt; shape.blocks(), BLOCKS);
-    let mut run = CoreRun::open(rt.alloc(), &shape)?;
+fn make_events(
+    rt: &impl Abort,
+    alloc: Global,
+    shape: &Shape,
+    counts: &mut [u32; 6],
+) -> Result<(), Fail> {
+    let mut run = CoreRun::open(alloc, shape)?;
     let mut held = Held {
-        holders: vec![in rt.alloc(); None; BLOCKS as usize]?,
-        values: vec![in rt.alloc(); None; BLOCKS as usize]?,
+        holders: vec![in alloc; None; shape.blocks() as usize]?,
+        values: vec![in alloc; None; shape.blocks() as usize]?,
     };
     let mut begun = [Call::Allocate; 3];
     let mut seed = 1;
-    let mut counts = [0; 6];
-    for count in 0..20000 {
+    for count in 0..10000 {
         let next = some_event(&held, (count >> 11) % 2 == 1, &mut seed);
         assert!(rt; next.by < 3 && next.by < run.shape().processes());
         let between = run.view(next.by).calls.stage == CallStage::Between;
-        let happened = event(&rt, &mut run, next.by, next.call);
+        let happened = event(rt, &mut run, next.by, next.call);
+        note(counts, happened);
         if between && !may_begin(&held, next) {
-            assert_eq!(rt; happened, Happened::Ignored, "{count} {next:?}");
-            note(&mut counts, happened);
+            assert_eq!(rt; happened, Happened::Ignored, "{shape:?} {count} {next:?}");
             continue;
         }
         if between {
@@ -192,12 +194,21 @@ fn random_events(rt: HostRuntime) -> Result<(), Fail> {
             by: next.by,
             call: begun[next.by as usize],
         };
-        let allowed = enter(&rt, &mut held, shape.length(), made, happened);
+        let allowed = enter(rt, &mut held, shape.length(), made, happened);
         assert!(rt;
-            allowed && agree(&rt, &run, &held),
-            "{count} {made:?}: {happened:?}"
+            allowed && agree(rt, &run, &held),
+            "{shape:?} {count} {made:?}: {happened:?}"
         );
-        note(&mut counts, happened);
+    }
+    Ok(())
+}
+
+#[test]
+fn random_events(rt: HostRuntime) -> Result<(), Fail> {
+    let mut counts = [0; 6];
+    for (batches, quantum) in [(6, 8), (12, 8), (12, 16)] {
+        let shape = Shape::with_quantum(3, batches, 1, quantum)?;
+        make_events(&rt, rt.alloc(), &shape, &mut counts)?;
     }
     assert!(rt; counts.iter().all(|count| *count >= 100), "{counts:?}");
     Ok(())
