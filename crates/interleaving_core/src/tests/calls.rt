@@ -75,10 +75,11 @@ fn beside_a_stopped_process(rt: HostRuntime) -> Result<(), Fail> {
         for _ in 0..steps {
             run.move_one(0, Wish::Take);
         }
-        let expected = if steps == 0 { 24 } else { 18 };
+        let kept = if steps == 0 { 12 } else { 18 };
         let got = gets(&rt, &mut run, 1);
         let left = run.stack(rt.alloc())?.len();
-        assert_eq!(rt; (got, left), (expected, 0), "{steps}");
+        assert!(rt; run.shape().processes() > 0);
+        assert_eq!(rt; (got, left, run.kept(0)), (36 - kept, 0, kept), "{steps}");
     }
     Ok(())
 }
