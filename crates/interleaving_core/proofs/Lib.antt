@@ -18,7 +18,9 @@ pub mod Tables
 pub mod Holders
 pub mod Runs
 pub mod RunTurns
+pub mod RunCounts
 pub mod RunSteps
+pub mod RunMade
 pub mod RunStates
 pub mod RunShown
 pub mod RunContent

@@ -125,6 +125,15 @@ BusyProcessesGoOn = (s : CoreState) (process : ℕ) → process < s.sizes.proces
     → (is_alone (view_at s process).calls.way ≡ true → (wish : Wish) → is_made (Moves process wish) s ≡ true)
     × (is_alone (view_at s process).calls.way ≡ false → (call : Call) → is_made (Events process call) s ≡ true)
 
+-- a move that is made is a step of its process's transfer; so is an event where the process's call makes these, and the own step of a call is none
+pub record TurnsAreSteps (s : CoreState) (by : ℕ) : Type 0 where
+  pub moves : (wish : Wish) → is_made (Moves by wish) s ≡ true → is_step (Moves by wish) s ≡ true
+  pub events : (view_at s by).calls.stage ≡ Moving → (call : Call) → is_step (Events by call) s ≡ true
+  pub own : (view_at s by).calls.stage ≡ Own → (call : Call) → is_step (Events by call) s ≡ false
+
+abbrev pub RunsMakeSteps : Type 0
+RunsMakeSteps = (sizes : Sizes) (past : List Turn) (history : List Entry) (s : CoreState) (by : ℕ) → IsRun sizes past history s → by < s.sizes.processes → TurnsAreSteps s by
+
 -- a transfer has made no more steps than its bound, and as long as it hasn't ended there is one left
 pub record StepsBounded (s : CoreState) (process : ℕ) : Type 0 where
   pub most : steps_made s process ≤ transfer_bound s.sizes

@@ -1,5 +1,5 @@
 //! Transfers in every run: they end, they are applied, and each changes the content of the stack once.
-ghost use Rattle.interleaving_core.specs.TransferLaws.{RunsMeetInvariant, RunsGoOn, RunsAreMade, BusyProcessesGoOn, TransfersAreBounded, StepsCount, OthersLeaveViews, TransfersEnd, WholeTransfersEnd, TwoTriesApply, RunsShowStates, ContentMoves, HeadsStayApart};
+ghost use Rattle.interleaving_core.specs.TransferLaws.{RunsMeetInvariant, RunsGoOn, RunsAreMade, BusyProcessesGoOn, RunsMakeSteps, TransfersAreBounded, StepsCount, OthersLeaveViews, TransfersEnd, WholeTransfersEnd, TwoTriesApply, RunsShowStates, ContentMoves, HeadsStayApart};
 
 /// Every run meets the invariant with its history, and is of the shape that it was opened with.
 pub fn runs_keep_invariant()
@@ -19,9 +19,10 @@ pub fn transfers_are_bounded()
     ensures { TransfersAreBounded }
 {}
 
-/// A step of a process's transfer counts one, or ends it; no other turn counts, and one of another process leaves
-/// its view.
+/// A move that is made is a step of its process's transfer, and so is an event where the process's call makes these.
+/// Such a step counts one, or ends the transfer; no other turn counts, and one of another process leaves its view.
 pub fn steps_count()
+    ensures made { RunsMakeSteps }
     ensures own { StepsCount }
     ensures others { OthersLeaveViews }
 {}
