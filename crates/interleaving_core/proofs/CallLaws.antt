@@ -1,5 +1,5 @@
 -- the laws of calls, of the state at the end of every run
-use Rattle.std.proofs.Common.{◌≡◌, ◌≢◌, ℕ, ◌+◌, ◌*◌, ◌<◌, ◌≤◌, ◌^◌, Bool, true, false, Option, Some, List, length, refl, sym, ap, ◌∙◌, subst, arith}
+use Rattle.std.proofs.Common.{◌≡◌, ◌≢◌, ℕ, ◌+◌, ◌-◌, ◌*◌, ◌<◌, ◌≤◌, ◌^◌, Bool, true, false, Option, Some, List, length, refl, sym, ap, ◌∙◌, subst, arith}
 use Rattle.std.specs.Prelude.{◌↔◌, Contains, IfSome, slice_get, take, if◌then◌else◌}
 use Rattle.word_layout.specs.Sizes.{Sizes, blocks, slack, transfer_bound}
 use Rattle.word_layout.specs.Names.{word_at}
@@ -11,9 +11,13 @@ use Rattle.pool_model.specs.Legal.{IsLegal, HadFew, MayFollow}
 use Rattle.pool_model.specs.History.{own, held, grip}
 use Rattle.transfer_schedule.specs.declared.pending.Pending.TheVariants.{Idle}
 use Rattle.transfer_schedule.specs.Table.{InTable}
-use Rattle.transfer_schedule.proofs.Reaching.{reached_stands, reached_sizes, stands_in_time}
+use Rattle.transfer_schedule.specs.Account.{Account}
+use Rattle.transfer_schedule.specs.Account as schedule
+use Rattle.transfer_schedule.specs.Laws.{CountsSteps}
+use Rattle.transfer_schedule.proofs.Reaching.{reached_stands, reached_sizes, stands_in_time, stands_counts}
 use Rattle.transfer_machine.specs.Words.{stack}
 use Rattle.transfer_machine.specs.declared.call.CallStage.{CallStage}
+use Rattle.transfer_machine.specs.declared.call.CallView.{CallView}
 use Rattle.transfer_machine.specs.declared.call.CallStage.TheVariants.{Moving}
 use Rattle.transfer_machine.specs.declared.call.Way.TheVariants.{Alone}
 use Rattle.transfer_machine.specs.declared.view.ProcessView.{ProcessView}
@@ -22,6 +26,7 @@ use Rattle.history_invariant.specs.Grips.{times}
 use Rattle.history_invariant.specs.Fits.{CountsEntries}
 use Rattle.history_invariant.proofs.Holding.{held_shared}
 use Rattle.call_invariant.specs.InCalls.{InCalls}
+use Rattle.call_invariant.specs.Phases.{call_phase_at}
 use Rattle.call_invariant.proofs.Uses.{calls_used}
 use Rattle.interleaving_core.specs.Invariant.{Ghosts, Holds, limits_of}
 use Rattle.interleaving_core.specs.Kept.{kept_by, kept}
@@ -120,8 +125,18 @@ table_here history s fits i li = let (ghosts, h) = fits.meets in (keeps s.sizes 
 pub plans_within_table : laws.PlansWithinTable
 plans_within_table = every_run (λ sizes history s. (i : ℕ) → i < sizes.processes → InTable (view_at s i).pool.plan) table_here
 
+done_since : (begun made : ℕ) {done quantum entries mine rate : ℕ} → done ≡ rate * (entries - begun) + made → entries ≡ mine → rate ≡ quantum → done ≡ quantum * (mine - begun) + made
+done_since begun made counted e f = rw (e, f) at counted
+
 entries_young : (begun : ℕ) {entries mine size long : ℕ} → entries < begun + size → entries ≡ mine → size ≡ long → mine < begun + long
 entries_young begun young e f = omega (arith, young, e, f)
+
+moving_phase : (calls : CallView) (stage : CallStage) → stage ≡ Moving → call_phase_at calls stage ≡ schedule.Moving calls.steps
+moving_phase calls stage e = rw e refl
+
+done_here : (a : Account) (v : ProcessView) (quantum mine : ℕ) → a.plan ≡ v.pool.plan → CountsSteps a → a.phase ≡ schedule.Moving v.calls.steps → a.entries ≡ mine → a.plan.quantum ≡ quantum
+    → v.pool.plan.done ≡ quantum * (mine - a.begun) + v.calls.steps
+done_here a v quantum mine plan counts phase entries same = sym (ap (λ x. x.done) plan) ∙ done_since a.begun v.calls.steps (counts.done v.calls.steps phase) entries same
 
 account_here : (history : List Entry) (s : CoreState) → RunFits s history → (i : ℕ) → i < s.sizes.processes → (view_at s i).calls.way ≢ Alone → laws.EndsByAccount s.sizes (own history i) (view_at s i)
 account_here history s fits i li calls =
@@ -140,6 +155,8 @@ account_here history s fits i li calls =
       counts = rw same mine.counts;
       plan = used.plan;
       phase = used.phase;
+      since = λ moving. done_here ledger.account v sizes.quantum (length (own history i)) used.plan (stands_counts ledger.account stands) (used.phase ∙ moving_phase v.calls v.calls.stage moving) (mine.counts.entries ∙ sym (ap (λ xs. length xs) same))
+          (reached_sizes sizes.length (transfer_bound sizes) sizes.quantum ledger.account schedule.reached).2;
       young = λ pending. entries_young ledger.account.begun (stands_in_time ledger.account stands (λ e. pending (sym (ap (λ x. x.pending) used.plan) ∙ e))) (mine.counts.entries ∙ sym (ap (λ xs. length xs) same))
           (reached_sizes sizes.length (transfer_bound sizes) sizes.quantum ledger.account schedule.reached).0;
     }

@@ -28,3 +28,4 @@ pub mod RunHeads
 pub mod CallLawsKept
 pub mod CallLaws
 pub mod CallLawsShort
+pub mod CallLawsData

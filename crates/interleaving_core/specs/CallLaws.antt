@@ -1,6 +1,8 @@
 -- laws of calls over every run
 use Rattle.std.specs.Prelude.{◌≡◌, ◌≢◌, ℕ, ◌+◌, ◌*◌, ◌-◌, ◌<◌, ◌≤◌, ◌↔◌, true, false, Some, List, length, slice_get, take, Contains}
 use Rattle.word_layout.specs.Sizes.{Sizes, blocks, slack, transfer_bound}
+use Rattle.word_layout.specs.Names.{word_at}
+use Rattle.word_layout.specs.declared.name.WordName.TheVariants.{Data}
 use Rattle.pool_model.specs.declared.entry.Entry.{Entry}
 use Rattle.pool_model.specs.declared.entry.Entry.TheVariants.{Dry}
 use Rattle.pool_model.specs.History.{own, held, grip, is_got, is_back}
@@ -13,17 +15,19 @@ use Rattle.transfer_schedule.specs.Table.{InTable, calls_of}
 use Rattle.transfer_machine.specs.Words.{stack}
 use Rattle.transfer_invariant.specs.Tags.{total}
 use Rattle.transfer_machine.specs.declared.call.Call.{Call}
+use Rattle.transfer_machine.specs.declared.call.Call.TheVariants.{Read, Write}
 use Rattle.transfer_machine.specs.declared.call.CallStage.{CallStage}
 use Rattle.transfer_machine.specs.declared.call.CallStage.TheVariants.{Between, Moving, Own}
 use Rattle.transfer_machine.specs.declared.call.CallView.{CallView}
 use Rattle.transfer_machine.specs.declared.call.Way.TheVariants.{Alone}
 use Rattle.transfer_machine.specs.declared.view.ProcessView.{ProcessView}
 use Rattle.pool_machine.specs.Laws.{most_moves}
+use Rattle.pool_machine.specs.declared.event.Happened.TheVariants.{Loaded, Stored}
 use Rattle.call_invariant.specs.Phases.{call_phase}
 use Rattle.interleaving_core.specs.Invariant.{limits_of}
 use Rattle.interleaving_core.specs.Kept.{kept}
 use Rattle.interleaving_core.specs.Moves.{CoreState, view_at, holder_of, is_holder}
-use Rattle.interleaving_core.specs.Runs.{Turn, Events, by_of, is_made, after_turn, IsRun}
+use Rattle.interleaving_core.specs.Runs.{Turn, Events, by_of, is_made, turning_view, after_turn, turn_answer, IsRun}
 use Rattle.interleaving_core.specs.Steps.{is_in_call}
 
 -- a fact of the shape, the history and the state at the end of every run
@@ -88,13 +92,14 @@ CallsAreShort = EveryRun (λ sizes history s. (i n : ℕ) (call : Call) (t : Cor
 abbrev pub QuantaAreKept : Type 0
 QuantaAreKept = EveryRun (λ sizes history s. (i : ℕ) → i < sizes.processes → (view_at s i).calls.stage ≡ Moving → (view_at s i).calls.steps < sizes.quantum)
 
--- an account of the schedule that goes with a process and its entries: by it a pending transfer began fewer than `length` own entries ago
+-- an account of the schedule that goes with a process and its entries: in each call since its transfer began the process made a whole quantum of steps of it, and a pending one began fewer than `length` own entries ago
 pub record EndsByAccount (sizes : Sizes) (mine : List Entry) (v : ProcessView) : Type 0 where
   pub account : Account
   pub reached : Reached sizes.length (transfer_bound sizes) sizes.quantum account
   pub counts : CountsEntries account mine
   pub plan : account.plan ≡ v.pool.plan
   pub phase : account.phase ≡ call_phase v
+  pub since : v.calls.stage ≡ Moving → v.pool.plan.done ≡ sizes.quantum * (length mine - account.begun) + v.calls.steps
   pub young : v.pool.plan.pending ≢ Idle → length mine < account.begun + sizes.length
 
 -- a transfer of a process that makes calls is pending in fewer than `length` calls after the one that began it
@@ -104,3 +109,23 @@ TransfersEndInTime = EveryRun (λ sizes history s. (i : ℕ) → i < sizes.proce
 -- each plan is within the table of spares
 abbrev pub PlansWithinTable : Type 0
 PlansWithinTable = EveryRun (λ sizes history s. (i : ℕ) → i < sizes.processes → InTable (view_at s i).pool.plan)
+
+-- a read is answered with the data word as it stands, and a write leaves its value there
+abbrev pub ReadsLoad : Type 0
+ReadsLoad = EveryRun (λ sizes history s. (i block index : ℕ) → (view_at s i).calls.stage ≡ Between → is_made (Events i (Read block index)) s ≡ true
+    → turn_answer (Events i (Read block index)) s ≡ Loaded (word_at sizes s.words (Data block index)))
+
+abbrev pub WritesStore : Type 0
+WritesStore = EveryRun (λ sizes history s. (i block index value : ℕ) → (view_at s i).calls.stage ≡ Between → is_made (Events i (Write block index value)) s ≡ true
+    → (turn_answer (Events i (Write block index value)) s ≡ Stored)
+    × (word_at sizes (after_turn (Events i (Write block index value)) s).words (Data block index) ≡ value))
+
+-- the turn is not one of process i in a call that writes this data word
+abbrev pub WritesNot : ℕ → ℕ → ℕ → Turn → CoreState → Type 0
+WritesNot i block index turn s = by_of turn ≡ i → (value : ℕ) → (turning_view turn s).calls.call ≢ Some (Write block index value)
+
+-- nothing else changes a data word of a block while a process holds it, whatever the other processes do
+abbrev pub DataIsKept : Type 0
+DataIsKept = EveryRun (λ sizes history s. (i block index : ℕ) (turn : Turn) → is_holder i (holder_of s block) ≡ true → index < sizes.words
+    → WritesNot i block index turn s
+    → word_at sizes (after_turn turn s).words (Data block index) ≡ word_at sizes s.words (Data block index))

@@ -1,5 +1,5 @@
 //! Laws of calls, over every run: the histories, who holds a block, what is withheld, and how long a call is.
-ghost use Rattle.interleaving_core.specs.CallLaws.{ShapesStay, HistoriesAreLegal, RefusalsHadFew, NoneIsHeldTwice, HoldersHold, FewAreWithheld, EachKeepsFive, AllAreCounted, CallsAreShort, QuantaAreKept, TransfersEndInTime, PlansWithinTable};
+ghost use Rattle.interleaving_core.specs.CallLaws.{ShapesStay, HistoriesAreLegal, RefusalsHadFew, NoneIsHeldTwice, HoldersHold, FewAreWithheld, EachKeepsFive, AllAreCounted, CallsAreShort, QuantaAreKept, TransfersEndInTime, PlansWithinTable, ReadsLoad, WritesStore, DataIsKept};
 
 /// The shape of a run stays.
 pub fn shapes_stay()
@@ -45,4 +45,12 @@ pub fn transfers_end_in_time()
 /// Each plan is within the schedule's table of spares.
 pub fn plans_within_table()
     ensures { PlansWithinTable }
+{}
+
+/// A data word of a block keeps its value while a process holds the block, but for that process's writes to it. A
+/// read is answered with it, and a write leaves its value there.
+pub fn data_is_kept()
+    ensures kept { DataIsKept }
+    ensures reads { ReadsLoad }
+    ensures writes { WritesStore }
 {}
