@@ -51,9 +51,9 @@ allocate_leaves sizes words new b k (Some block) low a = a.elsewhere (Data b k) 
 load_leaves : (sizes : Sizes) (words new : Words) (b k block index : ℕ) → InRange sizes (Data b k) → Acted sizes (Load (Data block index)) words new → new (Data b k) ≡ words (Data b k)
 load_leaves sizes words new b k block index low a = elim (cases_eq b block) [
   | inl eb ↦ elim (cases_eq k index) [
-      | inl ek ↦ rw (eb, ek) a.here
-      | inr ne ↦ a.elsewhere (Data b k) low (λ e. ne (same_index b k block index e))
-    ]
+    | inl ek ↦ rw (eb, ek) a.here
+    | inr ne ↦ a.elsewhere (Data b k) low (λ e. ne (same_index b k block index e))
+  ]
   | inr ne ↦ a.elsewhere (Data b k) low (λ e. ne (same_block b k block index e))
 ]
 
@@ -65,9 +65,9 @@ own_leaves sizes words new pool b k (Some (Free block)) low not a = a.elsewhere 
 own_leaves sizes words new pool b k (Some (Read block index)) low not a = load_leaves sizes words new b k block index low a
 own_leaves sizes words new pool b k (Some (Write block index value)) low not a = elim (cases_eq b block) [
   | inl eb ↦ elim (cases_eq k index) [
-      | inl ek ↦ absurd (not value (rw (eb, ek) refl))
-      | inr ne ↦ a.elsewhere (Data b k) low (λ e. ne (same_index b k block index e))
-    ]
+    | inl ek ↦ absurd (not value (rw (eb, ek) refl))
+    | inr ne ↦ a.elsewhere (Data b k) low (λ e. ne (same_index b k block index e))
+  ]
   | inr ne ↦ a.elsewhere (Data b k) low (λ e. ne (same_block b k block index e))
 ]
 
@@ -116,11 +116,13 @@ writes_not s history i block index turn fits made holds not =
     let words = word_at s.sizes s.words in
     let has : Contains (held_in ghosts.ledgers i) block = rw (sym (h.entries.each i low).sees.own_entries) (fits.holders.truly i block holds) in
     let (below, apart) = held_are_apart s.sizes words (ghosts.states (state_tag words)) views (held_in ghosts.ledgers) i block low h.chains has in
-    let names = h.names by li in
-    (below, λ value e. elim (cases_eq by i) [
-      | inl same ↦ not same value e
-      | inr ne ↦ apart by li ne (names_written s.sizes (held_in ghosts.ledgers by) v.calls.call block index value (rw here at names) e)
-    ])
+    let names = h.names by li in (
+      below,
+      λ value e. elim (cases_eq by i) [
+        | inl same ↦ not same value e
+        | inr ne ↦ apart by li ne (names_written s.sizes (held_in ghosts.ledgers by) v.calls.call block index value (rw here at names) e)
+      ],
+    )
 
 kept_turn : (s : CoreState) (history : List Entry) (i block index : ℕ) (turn : Turn) (t : Bool) → RunFits s history → is_made turn s ≡ t → is_holder i (holder_of s block) ≡ true → index < s.sizes.words → laws.WritesNot i block index turn s
     → word_at s.sizes (if t then with_step (by_of turn) (turning_view turn s) s else s).words (Data block index) ≡ word_at s.sizes s.words (Data block index)
@@ -165,8 +167,7 @@ stored_word sizes words new v w block index value e a = let acts = rw e at a in 
 stores_here : (history : List Entry) (s : CoreState) → RunFits s history → StoresData s.sizes history s
 stores_here history s fits i block index value between made =
     let turn = Events i (Write block index value) in
-    let first = begun_first (Write block index value) (view_at s i) between in
-    (
+    let first = begun_first (Write block index value) (view_at s i) between in (
       rw made (ap (λ v. step_answer v s) first),
       rw made (stored_word s.sizes (word_at s.sizes s.words) (word_at s.sizes (acted s.sizes s.words (next_action s.sizes (turning_view turn s)))) (turning_view turn s) (view_at s i) block index value first (turn_acts s history turn fits made)),
     )
