@@ -112,17 +112,14 @@ own_counts word pool (Some (Read block index)) = refl
 own_counts word pool (Some (Write block index value)) = refl
 
 -- so a step counts where it is one of the transfer
+plus_none : (n : ℕ) → n ≡ n + 0
+plus_none n = omega arith
+
 stage_counts : (sizes : Sizes) (v : ProcessView) (word : ℕ) (stage : CallStage) → (moves_at stage ≡ true → is_rest v.transfer.next ≡ false) → is_rest (call_met_at sizes v word stage).transfer.next ≡ false
     → (call_met_at sizes v word stage).pool.plan.done ≡ v.pool.plan.done + (if moves_at stage then 1 else 0)
 stage_counts sizes v word Between busy goes = plus_none v.pool.plan.done
-  where
-    plus_none : (n : ℕ) → n ≡ n + 0
-    plus_none n = omega arith
 stage_counts sizes v word Moving busy goes = step_counts sizes v word v.transfer.next (busy refl) goes
 stage_counts sizes v word Own busy goes = own_counts word v.pool v.calls.call ∙ plus_none v.pool.plan.done
-  where
-    plus_none : (n : ℕ) → n ≡ n + 0
-    plus_none n = omega arith
 
 next_counts : (sizes : Sizes) (v : ProcessView) (word : ℕ) (t : Bool) → is_alone v.calls.way ≡ t → (moves_transfer v ≡ true → is_rest v.transfer.next ≡ false) → is_rest (next_met sizes v word).transfer.next ≡ false
     → (next_met sizes v word).pool.plan.done ≡ v.pool.plan.done + (if moves_transfer v then 1 else 0)
@@ -205,9 +202,6 @@ own_turn_counts : (s : CoreState) (history : List Entry) (turn : Turn) (t : Bool
     → steps_made (if t then with_step (by_of turn) (turning_view turn s) s else s) (by_of turn) ≡ steps_made s (by_of turn) + (if t && moves_transfer (turning_view turn s) then 1 else 0)
 own_turn_counts s history turn true fits made goes = made_counts s history turn fits made goes
 own_turn_counts s history turn false fits made goes = plus_none (steps_made s (by_of turn))
-  where
-    plus_none : (n : ℕ) → n ≡ n + 0
-    plus_none n = omega arith
 
 is_same : (a b : ℕ) → a ≡ b → (a == b) ≡ true
 is_same a b e = grind (arith, nat_tests)
@@ -228,9 +222,6 @@ turn_counts process turn s history fits goes = elim (cases_eq (by_of turn) proce
       let same : view_at (after_turn turn s) process ≡ view_at s process = others_leave s turn process (λ e. ne (sym e)) in
       rw test (ap (λ v. v.pool.plan.done) same ∙ plus_none (steps_made s process))
 ]
-  where
-    plus_none : (n : ℕ) → n ≡ n + 0
-    plus_none n = omega arith
 
 pub steps_count : StepsCount
 steps_count sizes past history s turn process run low goes = turn_counts process turn s history (run_fits sizes past history s run) goes
