@@ -9,7 +9,6 @@ use Rattle.pool_model.specs.declared.entry.Entry.TheVariants.{Dry}
 use Rattle.pool_model.specs.Limits.{Limits}
 use Rattle.pool_model.specs.Legal.{IsLegal, HadFew, MayFollow}
 use Rattle.pool_model.specs.History.{own, held, grip}
-use Rattle.transfer_schedule.specs.declared.pending.Pending.TheVariants.{Idle}
 use Rattle.transfer_schedule.specs.Table.{InTable}
 use Rattle.transfer_schedule.specs.Account.{Account}
 use Rattle.transfer_schedule.specs.Account as schedule
@@ -23,15 +22,13 @@ use Rattle.transfer_machine.specs.declared.call.Way.TheVariants.{Alone}
 use Rattle.transfer_machine.specs.declared.view.ProcessView.{ProcessView}
 use Rattle.transfer_invariant.specs.Tags.{total}
 use Rattle.history_invariant.specs.Grips.{times}
-use Rattle.history_invariant.specs.Fits.{CountsEntries}
 use Rattle.history_invariant.proofs.Holding.{held_shared}
-use Rattle.call_invariant.specs.InCalls.{InCalls}
 use Rattle.call_invariant.specs.Phases.{call_phase_at}
 use Rattle.call_invariant.proofs.Uses.{calls_used}
-use Rattle.interleaving_core.specs.Invariant.{Ghosts, Holds, limits_of}
+use Rattle.interleaving_core.specs.Invariant.{limits_of}
 use Rattle.interleaving_core.specs.Kept.{kept_by, kept}
 use Rattle.interleaving_core.specs.Moves.{CoreState, view_at, holder_of, is_holder}
-use Rattle.interleaving_core.specs.Runs.{Turn, IsRun, opens, turns, is_made, after_turn}
+use Rattle.interleaving_core.specs.Runs.{opens, turns, is_made}
 use Rattle.interleaving_core.specs.Steps.{is_in_call}
 use Rattle.interleaving_core.specs.CallLaws as laws
 use Rattle.interleaving_core.proofs.Holds.{alone_between}

@@ -1,17 +1,14 @@
 -- the data words of held blocks
-use Rattle.std.proofs.Common.{◌≡◌, ◌≢◌, ℕ, ◌<◌, Bool, true, false, Option, None, Some, List, ◌++◌, length, refl, sym, ap, ◌∙◌, inl, inr, ◌⊎◌, arith, get_or, set, get_or-set_same}
-use Rattle.std.specs.Prelude.{nat_lt, if◌then◌else◌, Contains}
+use Rattle.std.proofs.Common.{◌≡◌, ◌≢◌, ℕ, ◌<◌, Bool, true, false, Option, None, Some, List, refl, sym, ap, inl, inr, get_or, set, get_or-set_same}
+use Rattle.std.specs.Prelude.{if◌then◌else◌, Contains}
 use Rattle.std.proofs.lemmas.Bool.{cases_eq}
 use Rattle.word_layout.specs.Sizes.{Sizes, blocks}
 use Rattle.word_layout.specs.Names.{InRange, word_at}
-use Rattle.word_layout.specs.declared.name.WordName.TheVariants.{State, Next, Data}
+use Rattle.word_layout.specs.declared.name.WordName.TheVariants.{Data}
 use Rattle.pool_model.specs.declared.entry.Entry.{Entry}
-use Rattle.pool_model.specs.History.{own, grip}
-use Rattle.transfer_machine.specs.Machine.{action_of}
 use Rattle.transfer_machine.specs.Pools.{opening_view}
-use Rattle.transfer_machine.specs.Words.{name_of, acted}
-use Rattle.transfer_machine.specs.declared.action.Action.{Action}
-use Rattle.transfer_machine.specs.declared.action.Action.TheVariants.{Load, Store}
+use Rattle.transfer_machine.specs.Words.{acted}
+use Rattle.transfer_machine.specs.declared.action.Action.TheVariants.{Load}
 use Rattle.transfer_machine.specs.declared.call.Call.{Call}
 use Rattle.transfer_machine.specs.declared.call.Call.TheVariants.{Allocate, Free, Read, Write}
 use Rattle.transfer_machine.specs.declared.call.CallStage.{CallStage}
@@ -26,7 +23,7 @@ use Rattle.pool_machine.specs.Beginning.{call_begun}
 use Rattle.pool_machine.specs.OwnSteps.{own_action_for, allocate_action, next_block}
 use Rattle.pool_machine.specs.Steps.{call_action_at}
 use Rattle.pool_machine.specs.declared.event.Happened.TheVariants.{Loaded, Stored}
-use Rattle.interleaving_core.specs.Invariant.{Ghosts, Holds, MeetsInvariant, held_in}
+use Rattle.interleaving_core.specs.Invariant.{held_in}
 use Rattle.interleaving_core.specs.Moves.{CoreState, view_at, holder_of, is_holder, calling_view, with_step, step_answer}
 use Rattle.interleaving_core.specs.Runs.{Turn, Events, by_of, is_made, turning_view, after_turn, turn_answer}
 use Rattle.interleaving_core.specs.Steps.{is_alone, next_action}

@@ -1,5 +1,5 @@
 -- what each process keeps, and where all blocks are
-use Rattle.std.proofs.Common.{◌≡◌, ◌≢◌, ℕ, zero, suc, ◌+◌, ◌*◌, ◌%◌, ◌<◌, ◌≤◌, ◌==◌, Bool, true, false, List, [], ◌∷◌, ◌++◌, length, refl, sym, ap, ◌∙◌, inl, inr, arith}
+use Rattle.std.proofs.Common.{◌≡◌, ◌≢◌, ℕ, zero, suc, ◌+◌, ◌*◌, ◌%◌, ◌<◌, ◌≤◌, ◌==◌, Bool, true, false, List, [], ◌∷◌, length, refl, sym, ap, ◌∙◌, inl, inr, arith}
 use Rattle.std.specs.Prelude.{if◌then◌else◌, not}
 use Rattle.std.proofs.lemmas.Bool.{cases_eq}
 use Rattle.std.proofs.lemmas.Bool.Decides.{nat_tests}
@@ -22,7 +22,7 @@ use Rattle.transfer_machine.specs.Tries.{is_pending}
 use Rattle.transfer_machine.specs.Words.{first_of, stack}
 use Rattle.transfer_machine.specs.declared.transfer.TransferView.{TransferView}
 use Rattle.transfer_machine.specs.declared.view.ProcessView.{ProcessView}
-use Rattle.transfer_invariant.specs.Memory.{Words, state_tag, current_record, word_value}
+use Rattle.transfer_invariant.specs.Memory.{state_tag, current_record, word_value}
 use Rattle.transfer_invariant.specs.Tags.{total}
 use Rattle.transfer_invariant.specs.Progress.{has_announced}
 use Rattle.stack_invariant.specs.Shown.{Shows}
@@ -38,7 +38,7 @@ use Rattle.history_invariant.proofs.Holding.{held_shared}
 use Rattle.call_invariant.specs.Uses.{PoolKeeps}
 use Rattle.call_invariant.proofs.Uses.{idle_pool_rests}
 use Rattle.interleaving_core.specs.Invariant.{Ghosts, Holds, held_in, limits_of}
-use Rattle.interleaving_core.specs.Kept.{reply_value_at, pends_at, given_batches, brought_batches, taken_batches, announced_batches, in_transit, kept_by}
+use Rattle.interleaving_core.specs.Kept.{reply_value_at, pends_at, given_batches, taken_batches, announced_batches, in_transit, kept_by}
 use Rattle.interleaving_core.proofs.Joins.{transfers, keeps}
 use Rattle.interleaving_core.proofs.Empties.{same_total}
 

@@ -1,5 +1,5 @@
 -- a call takes a quantum of steps and its own one at most
-use Rattle.std.proofs.Common.{◌≡◌, ◌≢◌, ℕ, ◌+◌, ◌-◌, ◌<◌, ◌≤◌, ◌==◌, Bool, true, false, List, ◌∷◌, [], ◌++◌, length, refl, sym, ap, ◌∙◌, arith, get_or, set, get_or-set_same, get_or-set_other}
+use Rattle.std.proofs.Common.{◌≡◌, ◌≢◌, ℕ, ◌+◌, ◌-◌, ◌<◌, ◌≤◌, ◌==◌, Bool, true, false, List, ◌∷◌, [], ◌++◌, length, refl, sym, arith, get_or-set_same, get_or-set_other}
 use Rattle.std.specs.Prelude.{nat_lt, ◌&&◌, ◌||◌, if◌then◌else◌}
 use Rattle.std.proofs.lemmas.Bool.Decides.{nat_tests}
 use Rattle.word_layout.specs.Sizes.{Sizes}
@@ -19,13 +19,13 @@ use Rattle.transfer_schedule.specs.Numbers.{is_idle}
 use Rattle.pool_machine.specs.Beginning.{before_call, call_begun}
 use Rattle.pool_machine.specs.Laws.{most_moves}
 use Rattle.call_invariant.proofs.Standing.{shape_fits, some_quantum}
-use Rattle.pool_machine.specs.Steps.{call_met, call_met_at, after_move}
-use Rattle.interleaving_core.specs.CallLaws.{EveryRun, steps_left_at, steps_left, GoesOnWith, starts, steps, others, ignored, CallsAreShort}
-use Rattle.interleaving_core.specs.Moves.{CoreState, view_at, may_go, holds_for, calling_view, with_step}
-use Rattle.interleaving_core.specs.Runs.{Turn, Moves, Events, IsRun, turns, by_of, is_made, turning_view, after_turn}
+use Rattle.pool_machine.specs.Steps.{call_met_at}
+use Rattle.interleaving_core.specs.CallLaws.{steps_left_at, steps_left, GoesOnWith, starts, steps, others, ignored, CallsAreShort}
+use Rattle.interleaving_core.specs.Moves.{CoreState, view_at, calling_view, with_step}
+use Rattle.interleaving_core.specs.Runs.{Turn, Events, IsRun, turns, by_of, is_made, turning_view, after_turn}
 use Rattle.interleaving_core.specs.Steps.{is_alone, is_in_call, next_action, next_met}
 use Rattle.interleaving_core.proofs.Holds.{alone_between}
-use Rattle.interleaving_core.proofs.Runs.{RunFits, run_fits, turn_low}
+use Rattle.interleaving_core.proofs.Runs.{RunFits, turn_low}
 use Rattle.interleaving_core.proofs.CallLaws.{shapes_stay, every_run, quanta_here}
 
 -- a step of a call leaves one step fewer
@@ -56,7 +56,7 @@ begun_steps (Free block) v = refl
 begun_steps (Read block index) v = refl
 begun_steps (Write block index value) v = refl
 
-begun_calls : (call : Call) (v : ProcessView) → is_alone (call_begun call v).calls.way ≡ false
+pub begun_calls : (call : Call) (v : ProcessView) → is_alone (call_begun call v).calls.way ≡ false
 begun_calls Allocate v = refl
 begun_calls (Free block) v = refl
 begun_calls (Read block index) v = refl
@@ -81,15 +81,15 @@ next_left sizes v word calls inside few = rw calls (step_left sizes v word v.cal
 stepped_view : (s : CoreState) (i : ℕ) (v : ProcessView) → i < length s.views → view_at (with_step i v s) i ≡ next_met s.sizes v (met_word s.sizes s.words (next_action s.sizes v))
 stepped_view s i v lt = get_or-set_same s.views i (next_met s.sizes v (met_word s.sizes s.words (next_action s.sizes v))) (opening_view s.sizes i) lt
 
-made_view : (s : CoreState) (turn : Turn) → is_made turn s ≡ true → by_of turn < length s.views
+pub made_view : (s : CoreState) (turn : Turn) → is_made turn s ≡ true → by_of turn < length s.views
     → view_at (after_turn turn s) (by_of turn) ≡ next_met s.sizes (turning_view turn s) (met_word s.sizes s.words (next_action s.sizes (turning_view turn s)))
 made_view s turn made lt = rw made (stepped_view s (by_of turn) (turning_view turn s) lt)
 
-other_view : (s : CoreState) (turn : Turn) (i : ℕ) (t : Bool) → by_of turn ≢ i → view_at (if t then with_step (by_of turn) (turning_view turn s) s else s) i ≡ view_at s i
+pub other_view : (s : CoreState) (turn : Turn) (i : ℕ) (t : Bool) → by_of turn ≢ i → view_at (if t then with_step (by_of turn) (turning_view turn s) s else s) i ≡ view_at s i
 other_view s turn i true ne = get_or-set_other s.views (by_of turn) i _ (opening_view s.sizes i) (λ e. ne (sym e))
 other_view s turn i false ne = refl
 
-ignored_state : (s : CoreState) (turn : Turn) → is_made turn s ≡ false → after_turn turn s ≡ s
+pub ignored_state : (s : CoreState) (turn : Turn) → is_made turn s ≡ false → after_turn turn s ≡ s
 ignored_state s turn off = rw off refl
 
 -- a process in a call goes on with it
@@ -104,7 +104,7 @@ goes_on false b c e f = grind arith
 in_call_made : (s : CoreState) (i : ℕ) (call : Call) → i < s.sizes.processes → is_in_call (view_at s i).calls.stage ≡ true → is_made (Events i call) s ≡ true
 in_call_made s i call li inside = goes_on (nat_lt i s.sizes.processes) (is_in_call (view_at s i).calls.stage) _ (low_test i s.sizes.processes li) inside
 
-not_alone : (way : Way) (stage : CallStage) → (way ≡ Alone → is_in_call stage ≡ false) → is_in_call stage ≡ true → is_alone way ≡ false
+pub not_alone : (way : Way) (stage : CallStage) → (way ≡ Alone → is_in_call stage ≡ false) → is_in_call stage ≡ true → is_alone way ≡ false
 not_alone Fresh stage alone inside = refl
 not_alone Alone stage alone inside = absurd (both_ways (alone refl) inside)
   where
@@ -176,7 +176,7 @@ spent sizes past history i n most s t li run le (ignored m first old turn goes o
     let r = spent sizes past history i m most s old li run le goes in
     record { past = _; history = _; run = turns r.past r.history old turn r.run; left = rw (ignored_state old turn off) r.left }
 
-low_here : (sizes : Sizes) (s : CoreState) (i : ℕ) → s.sizes ≡ sizes → i < s.sizes.processes → i < sizes.processes
+pub low_here : (sizes : Sizes) (s : CoreState) (i : ℕ) → s.sizes ≡ sizes → i < s.sizes.processes → i < sizes.processes
 low_here sizes s i e li = rw e at li
 
 pub calls_are_short : CallsAreShort

@@ -29,3 +29,6 @@ pub mod CallLawsKept
 pub mod CallLaws
 pub mod CallLawsShort
 pub mod CallLawsData
+pub mod CallLawsPending
+pub mod CallLawsTurns
+pub mod CallLawsAges

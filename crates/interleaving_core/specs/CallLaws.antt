@@ -2,16 +2,17 @@
 use Rattle.std.specs.Prelude.{◌≡◌, ◌≢◌, ℕ, ◌+◌, ◌*◌, ◌-◌, ◌<◌, ◌≤◌, ◌↔◌, true, false, Some, List, length, slice_get, take, Contains}
 use Rattle.word_layout.specs.Sizes.{Sizes, blocks, slack, transfer_bound}
 use Rattle.word_layout.specs.Names.{word_at}
+use Rattle.word_layout.specs.declared.announced.Wish.{Wish}
 use Rattle.word_layout.specs.declared.name.WordName.TheVariants.{Data}
 use Rattle.pool_model.specs.declared.entry.Entry.{Entry}
 use Rattle.pool_model.specs.declared.entry.Entry.TheVariants.{Dry}
-use Rattle.pool_model.specs.History.{own, held, grip, is_got, is_back}
+use Rattle.pool_model.specs.History.{own, held, grip}
 use Rattle.pool_model.specs.Legal.{IsLegal, HadFew}
 use Rattle.history_invariant.specs.Fits.{CountsEntries}
 use Rattle.history_invariant.specs.Grips.{times}
 use Rattle.transfer_schedule.specs.declared.pending.Pending.TheVariants.{Idle}
 use Rattle.transfer_schedule.specs.Account.{Account, Reached}
-use Rattle.transfer_schedule.specs.Table.{InTable, calls_of}
+use Rattle.transfer_schedule.specs.Table.{InTable}
 use Rattle.transfer_machine.specs.Words.{stack}
 use Rattle.transfer_invariant.specs.Tags.{total}
 use Rattle.transfer_machine.specs.declared.call.Call.{Call}
@@ -27,7 +28,7 @@ use Rattle.call_invariant.specs.Phases.{call_phase}
 use Rattle.interleaving_core.specs.Invariant.{limits_of}
 use Rattle.interleaving_core.specs.Kept.{kept}
 use Rattle.interleaving_core.specs.Moves.{CoreState, view_at, holder_of, is_holder}
-use Rattle.interleaving_core.specs.Runs.{Turn, Events, by_of, is_made, turning_view, after_turn, turn_answer, IsRun}
+use Rattle.interleaving_core.specs.Runs.{Turn, Moves, Events, by_of, is_made, turning_view, after_turn, turn_answer, entries_of, IsRun}
 use Rattle.interleaving_core.specs.Steps.{is_in_call}
 
 -- a fact of the shape, the history and the state at the end of every run
@@ -91,6 +92,24 @@ CallsAreShort = EveryRun (λ sizes history s. (i n : ℕ) (call : Call) (t : Cor
 -- at its transfer steps a call has made fewer than a quantum of them
 abbrev pub QuantaAreKept : Type 0
 QuantaAreKept = EveryRun (λ sizes history s. (i : ℕ) → i < sizes.processes → (view_at s i).calls.stage ≡ Moving → (view_at s i).calls.steps < sizes.quantum)
+
+-- nothing of process i is pending, or a transfer is
+abbrev pub Rests : ℕ → CoreState → Type 0
+Rests i s = (view_at s i).pool.plan.pending ≡ Idle
+
+abbrev pub Pends : ℕ → CoreState → Type 0
+Pends i s = (view_at s i).pool.plan.pending ≢ Idle
+
+-- a transfer that a call of process i begins at a state is pending from then on up to another state, in any turns of all processes, in which process i makes so many entries
+pub data PendsSince (i : ℕ) (s : CoreState) : ℕ → CoreState → Type 0 where
+  pends_first : (call : Call) → Rests i s → Pends i (after_turn (Events i call) s) → PendsSince i s (length (entries_of (turn_answer (Events i call) s))) (after_turn (Events i call) s)
+  pends_on : (n : ℕ) (t : CoreState) (call : Call) → PendsSince i s n t → Pends i (after_turn (Events i call) t) → PendsSince i s (n + length (entries_of (turn_answer (Events i call) t))) (after_turn (Events i call) t)
+  pends_still : (n : ℕ) (t : CoreState) (wish : Wish) → PendsSince i s n t → PendsSince i s n (after_turn (Moves i wish) t)
+  pends_too : (n : ℕ) (t : CoreState) (turn : Turn) → PendsSince i s n t → by_of turn ≢ i → PendsSince i s n (after_turn turn t)
+
+-- while it is pending its process makes fewer than `length` entries, so that it ends within `length` calls
+abbrev pub TransfersAreShort : Type 0
+TransfersAreShort = EveryRun (λ sizes history s. (i n : ℕ) (t : CoreState) → i < sizes.processes → PendsSince i s n t → n < sizes.length)
 
 -- an account of the schedule that goes with a process and its entries: in each call since its transfer began the process made a whole quantum of steps of it, and a pending one began fewer than `length` own entries ago
 pub record EndsByAccount (sizes : Sizes) (mine : List Entry) (v : ProcessView) : Type 0 where

@@ -3,15 +3,14 @@ use Rattle.std.specs.Prelude.{◌≡◌, ◌≢◌, ℕ, ◌+◌, ◌<◌, ◌�
 use Rattle.std.specs.List.{All}
 use Rattle.word_layout.specs.Sizes.{Sizes, IsShape, blocks, transfer_bound}
 use Rattle.word_layout.specs.Names.{word_at, table_words}
-use Rattle.word_layout.specs.Packing.{value_of}
 use Rattle.word_layout.specs.declared.announced.Wish.{Wish}
-use Rattle.word_layout.specs.declared.name.WordName.TheVariants.{Announcement, RecordWord}
+use Rattle.word_layout.specs.declared.name.WordName.TheVariants.{Announcement}
 use Rattle.pool_model.specs.declared.entry.Entry.{Entry}
 use Rattle.transfer_machine.specs.Opening.{AreOpening}
 use Rattle.transfer_machine.specs.Phases.{is_rest}
 use Rattle.transfer_machine.specs.States.{StackState, next_of}
 use Rattle.transfer_machine.specs.Tries.{is_pending}
-use Rattle.transfer_machine.specs.Words.{current_record, stack}
+use Rattle.transfer_machine.specs.Words.{stack}
 use Rattle.transfer_machine.specs.declared.call.Call.{Call}
 use Rattle.transfer_machine.specs.declared.call.CallStage.{CallStage}
 use Rattle.transfer_machine.specs.declared.call.CallStage.TheVariants.{Between, Moving, Own}
@@ -25,6 +24,7 @@ use Rattle.batch_invariant.specs.Places.{moving}
 use Rattle.chain_invariant.specs.Chains.{times_pooled}
 use Rattle.interleaving_core.specs.Invariant.{MeetsInvariant}
 use Rattle.interleaving_core.specs.Steps.{is_alone, is_busy}
+use Rattle.interleaving_core.specs.Kept.{reply_value_at, pends_at}
 use Rattle.interleaving_core.specs.Moves.{CoreState, view_at}
 use Rattle.interleaving_core.specs.Runs.{IsRun, Turn, Moves, Events, by_of, is_made, turning_view, after_turn, turn_answer, entries_of, opened}
 
@@ -54,11 +54,11 @@ announcement_of s process = word_at s.sizes s.words (Announcement process)
 
 -- the reply to a process in the current record
 abbrev pub reply_to : CoreState → ℕ → ℕ
-reply_to s process = value_of (word_at s.sizes s.words (RecordWord (current_record s.sizes s.words) (s.sizes.processes + 2 + process)))
+reply_to s process = reply_value_at s.sizes s.words process
 
 -- whether the announcement of a process is pending against that reply
 abbrev pub pends : CoreState → ℕ → Bool
-pends s process = is_pending (announcement_of s process) (reply_to s process)
+pends s process = pends_at s.sizes s.words process
 
 -- the words, views and holders after these turns, and the history that they make
 unfoldable pub after_turns : List Turn → CoreState → CoreState

@@ -1,5 +1,5 @@
 //! Laws of calls, over every run: the histories, who holds a block, what is withheld, and how long a call is.
-ghost use Rattle.interleaving_core.specs.CallLaws.{ShapesStay, HistoriesAreLegal, RefusalsHadFew, NoneIsHeldTwice, HoldersHold, FewAreWithheld, EachKeepsFive, AllAreCounted, CallsAreShort, QuantaAreKept, TransfersEndInTime, PlansWithinTable, ReadsLoad, WritesStore, DataIsKept};
+ghost use Rattle.interleaving_core.specs.CallLaws.{ShapesStay, HistoriesAreLegal, RefusalsHadFew, NoneIsHeldTwice, HoldersHold, FewAreWithheld, EachKeepsFive, AllAreCounted, CallsAreShort, QuantaAreKept, TransfersAreShort, TransfersEndInTime, PlansWithinTable, ReadsLoad, WritesStore, DataIsKept};
 
 /// The shape of a run stays.
 pub fn shapes_stay()
@@ -37,9 +37,11 @@ pub fn calls_are_short()
     ensures quanta { QuantaAreKept }
 {}
 
-/// A transfer of a process that makes calls ends within as many calls as a batch has blocks.
+/// A transfer that a call begins ends within as many calls of its process as a batch has blocks, whatever the other
+/// processes do.
 pub fn transfers_end_in_time()
-    ensures { TransfersEndInTime }
+    ensures short { TransfersAreShort }
+    ensures account { TransfersEndInTime }
 {}
 
 /// Each plan is within the schedule's table of spares.

@@ -1,6 +1,6 @@
 use Rattle.std.proofs.Common.{◌∙◌, sym, subst}
 use Rattle.interleaving_core.specs.Moves.{CoreState}
-use Rattle.interleaving_core.specs.Runs.{IsRun, Turn, Events}
+use Rattle.interleaving_core.specs.Runs.{IsRun, Events}
 use Rattle.interleaving_core.proofs.Runs.{run_fits, run_holding, run_ignores, run_made, run_turned, turn_low, turned_state, turned_answer}
 use Rattle.interleaving_core.proofs.run.CoreRun.event.Goals as goal
 

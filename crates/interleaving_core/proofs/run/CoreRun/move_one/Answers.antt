@@ -1,6 +1,6 @@
 use Rattle.std.proofs.Common.{◌∙◌, sym, subst}
 use Rattle.interleaving_core.specs.Moves.{CoreState}
-use Rattle.interleaving_core.specs.Runs.{IsRun, Turn, Moves}
+use Rattle.interleaving_core.specs.Runs.{IsRun, Moves}
 use Rattle.interleaving_core.proofs.Runs.{run_fits, run_among, run_ignores, run_made, run_turned, turn_low, turned_state, turned_answer}
 use Rattle.interleaving_core.proofs.run.CoreRun.move_one.Goals as goal
 

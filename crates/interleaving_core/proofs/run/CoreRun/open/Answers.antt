@@ -1,4 +1,4 @@
-use Rattle.std.proofs.Common.{[], List}
+use Rattle.std.proofs.Common.{[]}
 use Rattle.interleaving_core.specs.Runs.{opens, IsRun}
 use Rattle.interleaving_core.proofs.Runs.{run_fits}
 use Rattle.interleaving_core.proofs.run.CoreRun.open.Goals as goal

@@ -1,0 +1,168 @@
+-- the age of a transfer that a call begins, from turn to turn of a run
+use Rattle.std.proofs.Common.{◌≡◌, ◌≢◌, ℕ, ◌+◌, ◌*◌, ◌<◌, Bool, true, false, List, length, refl, ap, ◌∙◌, inl, inr, ◌⊎◌, arith}
+use Rattle.std.specs.Prelude.{nat_lt, ◌&&◌, if◌then◌else◌}
+use Rattle.word_layout.specs.Sizes.{Sizes}
+use Rattle.word_layout.specs.Names.{word_at}
+use Rattle.pool_model.specs.declared.entry.Entry.{Entry}
+use Rattle.transfer_schedule.specs.Numbers.{is_idle}
+use Rattle.transfer_schedule.specs.declared.pending.Pending.{Pending}
+use Rattle.transfer_schedule.specs.declared.pending.Pending.TheVariants.{Idle}
+use Rattle.transfer_schedule.proofs.Products.{less_of_times}
+use Rattle.transfer_machine.specs.Words.{met_word}
+use Rattle.transfer_machine.specs.declared.call.Call.{Call}
+use Rattle.transfer_machine.specs.declared.call.CallStage.{CallStage}
+use Rattle.transfer_machine.specs.declared.call.CallStage.TheVariants.{Between, Moving, Own}
+use Rattle.transfer_machine.specs.declared.call.Way.TheVariants.{Calls}
+use Rattle.transfer_machine.specs.declared.view.ProcessView.{ProcessView}
+use Rattle.transfer_machine.specs.declared.stage.NextStep.{NextStep}
+use Rattle.transfer_machine.specs.declared.stage.NextStep.TheVariants.{Rest}
+use Rattle.pool_invariant.specs.Stages.{is_moving}
+use Rattle.pool_machine.specs.Beginning.{call_begun}
+use Rattle.pool_machine.specs.Conditions.{may_use_transfers}
+use Rattle.pool_machine.specs.Steps.{call_met_at}
+use Rattle.pool_machine.specs.declared.event.Happened.{Happened}
+use Rattle.pool_machine.specs.declared.event.Happened.TheVariants.{Ignored}
+use Rattle.call_invariant.proofs.Uses.{idle_pool_rests}
+use Rattle.interleaving_core.specs.Moves.{CoreState, view_at}
+use Rattle.interleaving_core.specs.Runs.{Turn, Moves, Events, IsRun, turns, is_made, turning_view, after_turn, turn_answer, entries_of}
+use Rattle.interleaving_core.specs.Steps.{is_in_call, next_action}
+use Rattle.interleaving_core.specs.CallLaws.{Rests, Pends, PendsSince, pends_first, pends_on, pends_still, pends_too, TransfersAreShort}
+use Rattle.interleaving_core.proofs.Joins.{keeps}
+use Rattle.interleaving_core.proofs.Tables.{between_calls}
+use Rattle.interleaving_core.proofs.Runs.{RunFits}
+use Rattle.interleaving_core.proofs.CallLaws.{every_run}
+use Rattle.interleaving_core.proofs.CallLawsShort.{other_view, ignored_state}
+use Rattle.interleaving_core.proofs.CallLawsPending.{Aged, own_step_pending, begun_ages, first_ages}
+use Rattle.interleaving_core.proofs.CallLawsTurns.{Calling, turn_calls, after_is, TurnsAge, turns_age, PendingMoves, pending_moves}
+
+-- the view with which a process turns has the age of its pending transfer
+turning_ages : (quantum n : ℕ) (v : ProcessView) (call : Call) (t : Bool) → is_in_call v.calls.stage ≡ t → is_idle v.pool.plan.pending ≡ false → Aged quantum n v → Aged quantum n (if t then v else call_begun call v)
+turning_ages quantum n v call true inside busy aged = aged
+turning_ages quantum n v call false inside busy aged = begun_ages quantum v n call (between_calls v.calls.stage inside) busy aged
+
+not_idle : (p : Pending) → p ≢ Idle → is_idle p ≡ false
+not_idle p pends = elim (cases (is_idle p) refl) [
+  | inl e ↦ absurd (pends (idle_is p e))
+  | inr e ↦ e
+]
+  where
+    cases : (t : Bool) {u : Bool} → u ≡ t → (u ≡ true) ⊎ (u ≡ false)
+    cases true e = inl e
+    cases false e = inr e
+
+    idle_is : (p : Pending) → is_idle p ≡ true → p ≡ Idle
+    idle_is p e = grind arith
+
+-- a turn with nothing pending leaves nothing pending, unless it begins a transfer
+idle_stays : (sizes : Sizes) (v : ProcessView) (word : ℕ) (stage : CallStage) → Calling v → v.calls.stage ≡ stage → v.pool.plan.pending ≡ Idle → (call_met_at sizes v word stage).pool.plan.pending ≡ Idle
+idle_stays sizes v word Between k e idle = idle
+idle_stays sizes v word Moving k e idle = absurd (k.busy e (k.rest idle))
+idle_stays sizes v word Own k e idle = own_step_pending sizes v word Own refl ∙ idle
+
+first_turn_ages : (quantum : ℕ) (v : ProcessView) (call : Call) (t : Bool) → is_in_call v.calls.stage ≡ t → v.pool.plan.pending ≡ Idle → v.pool.plan.done ≡ 0
+    → Aged quantum 0 (if t then v else call_begun call v) ⊎ ((if t then v else call_begun call v).pool.plan.pending ≡ Idle)
+first_turn_ages quantum v call true inside idle none = inr idle
+first_turn_ages quantum v call false inside idle none = elim (first_ages quantum v call idle none) [
+  | inl aged ↦ inl aged
+  | inr rest ↦ inr rest.0
+]
+
+-- with nothing pending no step is counted
+abbrev pub RestCounts : Sizes → List Entry → CoreState → Type 0
+RestCounts sizes history s = (i : ℕ) → i < sizes.processes → Rests i s → (view_at s i).pool.plan.done ≡ 0
+
+rest_counts : (history : List Entry) (s : CoreState) → RunFits s history → RestCounts s.sizes history s
+rest_counts history s fits i li idle =
+    let (ghosts, h) = fits.meets in
+    let v = view_at s i in
+    let kept = keeps s.sizes (word_at s.sizes s.words) (view_at s) history ghosts i fits.shape li h in
+    kept.runs.kept.none (at_rest v.transfer.next (idle_pool_rests s.sizes v kept idle))
+  where
+    at_rest : (s : NextStep) → s ≡ Rest → is_moving s ≡ false
+    at_rest s e = rw e refl
+
+-- the turn that begins a transfer
+abbrev pub FirstTurnsAge : Sizes → List Entry → CoreState → Type 0
+FirstTurnsAge sizes history s = (i : ℕ) (call : Call) → i < sizes.processes → is_made (Events i call) s ≡ true → Rests i s → Pends i (after_turn (Events i call) s) → Aged sizes.quantum 0 (turning_view (Events i call) s)
+
+first_turns_age : (history : List Entry) (s : CoreState) → RunFits s history → FirstTurnsAge s.sizes history s
+first_turns_age history s fits i call li made idle pends =
+    let v = view_at s i in
+    let x = turning_view (Events i call) s in
+    let word = met_word s.sizes s.words (next_action s.sizes x) in
+    let k = turn_calls history s i call fits made in
+    elim (first_turn_ages s.sizes.quantum v call (is_in_call v.calls.stage) refl idle (rest_counts history s fits i li idle)) [
+      | inl aged ↦ aged
+      | inr rest ↦ absurd (pends (ap (λ y. y.pool.plan.pending) (after_is s history i call fits made k.calls) ∙ idle_stays s.sizes x word x.calls.stage k refl rest))
+    ]
+
+-- a run in which process i has its transfer pending, of this age
+pub record AgedRun (sizes : Sizes) (i n : ℕ) (t : CoreState) : Type 0 where
+  pub past : List Turn
+  pub history : List Entry
+  pub run : IsRun sizes past history t
+  pub way : (view_at t i).calls.way ≡ Calls
+  pub pends : Pends i t
+  pub aged : Aged sizes.quantum n (view_at t i)
+
+-- what a made turn of the process leads to
+made_ages : (sizes : Sizes) (past : List Turn) (history : List Entry) (s : CoreState) (i n : ℕ) (call : Call) → i < sizes.processes → IsRun sizes past history s → is_made (Events i call) s ≡ true → Aged sizes.quantum n (turning_view (Events i call) s) → Pends i (after_turn (Events i call) s)
+    → AgedRun sizes i (n + length (entries_of (turn_answer (Events i call) s))) (after_turn (Events i call) s)
+made_ages sizes past history s i n call li run made aged pends =
+    let next = turns past history s (Events i call) run in
+    let (goes, few) = every_run PendingMoves pending_moves sizes _ _ (after_turn (Events i call) s) next i li pends in
+    let (ages, way) = every_run TurnsAge turns_age sizes past history s run i n call made aged goes pends in
+    record { past = _; history = _; run = next; way = way; pends = pends; aged = ages }
+
+either : (t : Bool) {u : Bool} → u ≡ t → (u ≡ true) ⊎ (u ≡ false)
+either true e = inl e
+either false e = inr e
+
+-- one that isn't made leaves it
+ignored_answer : (s : CoreState) (turn : Turn) → is_made turn s ≡ false → turn_answer turn s ≡ Ignored
+ignored_answer s turn off = rw off refl
+
+no_entry : (sizes : Sizes) (i n : ℕ) (t : CoreState) (answer : Happened) → answer ≡ Ignored → AgedRun sizes i n t → AgedRun sizes i (n + length (entries_of answer)) t
+no_entry sizes i n t answer e r = record { past = r.past; history = r.history; run = r.run; way = r.way; pends = r.pends; aged = rw e (same sizes.quantum n (view_at t i).pool.plan.done _ r.aged) }
+  where
+    same : (quantum n done made : ℕ) → done ≡ quantum * n + made → done ≡ quantum * (n + 0) + made
+    same quantum n done made aged = omega (arith, aged)
+
+still_there : (sizes : Sizes) (i n : ℕ) (t u : CoreState) → u ≡ t → AgedRun sizes i n t → AgedRun sizes i n u
+still_there sizes i n t u e r = rw e r
+
+calls_no_transfer : (a b : Bool) (v : ProcessView) → v.calls.way ≡ Calls → (a && (may_use_transfers v.calls.way && b)) ≡ false
+calls_no_transfer true b v e = rw e refl
+calls_no_transfer false b v e = refl
+
+from_none : (sizes : Sizes) (i n : ℕ) (t : CoreState) → AgedRun sizes i (0 + n) t → AgedRun sizes i n t
+from_none sizes i n t r = let none : 0 + n ≡ n = omega arith in rw none at r
+
+-- so in any turns
+aged_run : (sizes : Sizes) (past : List Turn) (history : List Entry) (i : ℕ) (s : CoreState) (n : ℕ) (t : CoreState) → i < sizes.processes → IsRun sizes past history s → PendsSince i s n t → AgedRun sizes i n t
+aged_run sizes past history i s n t li run (pends_first call idle pends) = elim (either (is_made (Events i call) s) refl) [
+  | inl made ↦ from_none sizes i (length (entries_of (turn_answer (Events i call) s))) (after_turn (Events i call) s) (made_ages sizes past history s i 0 call li run made (every_run FirstTurnsAge first_turns_age sizes past history s run i call li made idle pends) pends)
+  | inr off ↦ absurd (pends (ap (λ u. (view_at u i).pool.plan.pending) (ignored_state s (Events i call) off) ∙ idle))
+]
+aged_run sizes past history i s n t li run (pends_on m old call since pends) =
+    let r = aged_run sizes past history i s m old li run since in
+    elim (either (is_made (Events i call) old) refl) [
+      | inl made ↦ made_ages sizes r.past r.history old i m call li r.run made (turning_ages sizes.quantum m (view_at old i) call (is_in_call (view_at old i).calls.stage) refl (not_idle (view_at old i).pool.plan.pending r.pends) r.aged) pends
+      | inr off ↦ no_entry sizes i m (after_turn (Events i call) old) (turn_answer (Events i call) old) (ignored_answer old (Events i call) off) (still_there sizes i m old (after_turn (Events i call) old) (ignored_state old (Events i call) off) r)
+    ]
+aged_run sizes past history i s n t li run (pends_still m old wish since) =
+    let r = aged_run sizes past history i s m old li run since in
+    still_there sizes i m old (after_turn (Moves i wish) old) (ignored_state old (Moves i wish) (calls_no_transfer (nat_lt i old.sizes.processes) _ (view_at old i) r.way)) r
+aged_run sizes past history i s n t li run (pends_too m old turn since ne) =
+    let r = aged_run sizes past history i s m old li run since in
+    let same = other_view old turn i (is_made turn old) ne in
+    record { past = _; history = _; run = turns r.past r.history old turn r.run; way = rw same r.way; pends = rw same r.pends; aged = rw same r.aged }
+
+pub transfers_are_short : TransfersAreShort
+transfers_are_short sizes past history s run i n t li since =
+    let r = aged_run sizes past history i s n t li run since in
+    let (goes, few) = every_run PendingMoves pending_moves sizes r.past r.history t r.run i li r.pends in
+    less_of_times sizes.quantum n sizes.length (below sizes.quantum n (view_at t i).pool.plan.done _ r.aged few)
+  where
+    below : (quantum n done made : ℕ) {all : ℕ} → done ≡ quantum * n + made → done < all → quantum * n < all
+    below quantum n done made aged few = omega (arith, aged, few)

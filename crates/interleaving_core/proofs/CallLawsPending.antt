@@ -1,0 +1,197 @@
+-- a transfer that a call begins ends within `length` calls
+use Rattle.std.proofs.Common.{◌≡◌, ◌≢◌, ℕ, ◌+◌, ◌*◌, ◌==◌, Bool, true, false, Option, None, Some, length, refl, inl, inr, ◌⊎◌, arith}
+use Rattle.std.specs.Prelude.{◌||◌, if◌then◌else◌}
+use Rattle.std.proofs.lemmas.Bool.Decides.{nat_tests}
+use Rattle.word_layout.specs.Sizes.{Sizes}
+use Rattle.word_layout.specs.Packing.{value_of, reply_of}
+use Rattle.word_layout.specs.declared.reply.Reply.{Reply}
+use Rattle.word_layout.specs.declared.reply.Reply.TheVariants.{Nothing, Took, Gave}
+use Rattle.word_layout.specs.declared.announced.Wish.{Wish}
+use Rattle.word_layout.specs.declared.announced.Wish.TheVariants.{Take, Give}
+use Rattle.transfer_schedule.specs.Numbers.{Numbers, is_idle, after_end, after_took_one, after_gave_one, source_of, target_of}
+use Rattle.transfer_schedule.specs.declared.own_step.Source.{Source}
+use Rattle.transfer_schedule.specs.declared.own_step.Source.TheVariants as source
+use Rattle.transfer_schedule.specs.declared.own_step.Target.{Target}
+use Rattle.transfer_schedule.specs.declared.own_step.Target.TheVariants as target
+use Rattle.transfer_schedule.specs.declared.pending.Pending.{Pending}
+use Rattle.transfer_schedule.specs.declared.pending.Pending.TheVariants.{Idle}
+use Rattle.transfer_machine.specs.Phases.{is_rest}
+use Rattle.transfer_machine.specs.Pools.{view_begun, pool_met_at, view_met, pool_ended}
+use Rattle.transfer_machine.specs.declared.call.Call.{Call}
+use Rattle.transfer_machine.specs.declared.call.Call.TheVariants.{Allocate, Free, Read, Write}
+use Rattle.transfer_machine.specs.declared.call.CallStage.{CallStage}
+use Rattle.transfer_machine.specs.declared.call.CallStage.TheVariants.{Between, Moving, Own}
+use Rattle.transfer_machine.specs.declared.call.CallView.{CallView}
+use Rattle.transfer_machine.specs.declared.view.PoolView.{PoolView}
+use Rattle.transfer_machine.specs.declared.view.ProcessView.{ProcessView}
+use Rattle.transfer_machine.specs.declared.stage.NextStep.{NextStep}
+use Rattle.transfer_machine.specs.declared.stage.NextStep.TheVariants.{Rest, Announce, LoadState, LoadRecordWord, LoadCoveredSlot, ExchangeSlot, LoadAnnouncement, LoadPoppedSlot, StoreRecordWord, ExchangeState, LoadFinalState, LoadReply}
+use Rattle.pool_machine.specs.Beginning.{before_call, begun_if_due, due, entered, call_begun}
+use Rattle.pool_machine.specs.OwnSteps.{pool_own_met, own_answer_for, own_kind_for, allocate_answer, next_block, allocated, freed}
+use Rattle.pool_machine.specs.Steps.{call_met_at, call_answer_at, happened}
+use Rattle.call_invariant.specs.Phases.{changes_pool}
+use Rattle.interleaving_core.specs.Runs.{entries_of}
+
+-- how many steps of its transfer the present call has made
+abbrev pub made_now_at : ℕ → CallView → CallStage → ℕ
+made_now_at quantum calls Between = 0
+made_now_at quantum calls Moving = calls.steps
+made_now_at quantum calls Own = if changes_pool calls.call then quantum else 0
+
+-- a transfer made a quantum of steps in each of so many calls, and those of the present one
+abbrev pub Aged : ℕ → ℕ → ProcessView → Type 0
+Aged quantum n v = v.pool.plan.done ≡ quantum * n + made_now_at quantum v.calls v.calls.stage
+
+-- a step of the transfer that isn't its last is counted
+ended_idle : (found : Bool) (plan : Numbers) → (after_end found plan).pending ≡ Idle
+ended_idle found plan = grind arith
+
+pool_ended_idle : (reply : Reply) (pool : PoolView) → (pool_ended reply pool).plan.pending ≡ Idle
+pool_ended_idle Nothing pool = ended_idle false pool.plan
+pool_ended_idle (Took head) pool = ended_idle true pool.plan
+pool_ended_idle Gave pool = ended_idle true pool.plan
+
+step_counts : (word : ℕ) (pool : PoolView) (s : NextStep) → s ≢ Rest → (pool_met_at word pool s).plan.pending ≢ Idle → (pool_met_at word pool s).plan.done ≡ pool.plan.done + 1
+step_counts word pool Rest busy pends = absurd (busy refl)
+step_counts word pool Announce busy pends = refl
+step_counts word pool LoadState busy pends = refl
+step_counts word pool (LoadRecordWord index) busy pends = refl
+step_counts word pool (LoadCoveredSlot offset) busy pends = refl
+step_counts word pool (ExchangeSlot offset) busy pends = refl
+step_counts word pool (LoadAnnouncement process) busy pends = refl
+step_counts word pool (LoadPoppedSlot process) busy pends = refl
+step_counts word pool (StoreRecordWord index) busy pends = refl
+step_counts word pool ExchangeState busy pends = refl
+step_counts word pool LoadFinalState busy pends = refl
+step_counts word pool LoadReply busy pends = absurd (pends (pool_ended_idle (reply_of (value_of word)) _))
+
+moving_made : (quantum n done after : ℕ) (calls : CallView) (t : Bool) → after ≡ done + 1 → done ≡ quantum * n + calls.steps → changes_pool calls.call ≡ true → (calls.steps + 1 == quantum) ≡ t
+    → after ≡ quantum * (n + 0) + made_now_at quantum (record calls { stage = if t then Own else Moving; steps = calls.steps + 1 }) (if t then Own else Moving)
+moving_made quantum n done after calls true counted aged changes e = rw changes (whole quantum n done after calls.steps counted aged e)
+  where
+    whole : (quantum n done after made : ℕ) → after ≡ done + 1 → done ≡ quantum * n + made → (made + 1 == quantum) ≡ true → after ≡ quantum * (n + 0) + quantum
+    whole quantum n done after made counted aged e = let same : made + 1 ≡ quantum = grind (arith, nat_tests) in omega (arith, counted, aged, same)
+moving_made quantum n done after calls false counted aged changes e = omega (arith, counted, aged)
+
+off_either : (a b : Bool) → a ≡ false → (a || b) ≡ b
+off_either true b e = grind arith
+off_either false b e = refl
+
+moving_ages : (sizes : Sizes) (v : ProcessView) (word n : ℕ) → v.calls.stage ≡ Moving → Aged sizes.quantum n v → changes_pool v.calls.call ≡ true → v.transfer.next ≢ Rest
+    → is_rest (view_met sizes v word).transfer.next ≡ false → (pool_met_at word v.pool v.transfer.next).plan.pending ≢ Idle
+    → Aged sizes.quantum (n + 0) (call_met_at sizes v word Moving)
+moving_ages sizes v word n stage aged changes busy goes pends =
+    rw (off_either (is_rest (view_met sizes v word).transfer.next) (v.calls.steps + 1 == sizes.quantum) goes)
+    (moving_made sizes.quantum n v.pool.plan.done (pool_met_at word v.pool v.transfer.next).plan.done v.calls (v.calls.steps + 1 == sizes.quantum) (step_counts word v.pool v.transfer.next busy pends) (rw stage at aged) changes refl)
+
+-- an own step that makes an entry ends a call
+took_done : (plan : Numbers) → (after_took_one plan).done ≡ plan.done
+took_done plan = grind arith
+
+gave_done : (plan : Numbers) → (after_gave_one plan).done ≡ plan.done
+gave_done plan = grind arith
+
+allocated_done : (word : ℕ) (pool : PoolView) (s : Source) → (allocated word pool s).plan.done ≡ pool.plan.done
+allocated_done word pool source.Current = took_done pool.plan
+allocated_done word pool source.Spare = took_done pool.plan
+allocated_done word pool source.Nothing = took_done pool.plan
+
+freed_done : (block : ℕ) (pool : PoolView) (t : Target) → (freed block pool t).plan.done ≡ pool.plan.done
+freed_done block pool target.Current = gave_done pool.plan
+freed_done block pool target.Fresh = gave_done pool.plan
+
+one_entry : (number : ℕ) (pool : PoolView) (block : Option ℕ) → length (entries_of (happened (own_kind_for pool (Some Allocate)) (allocate_answer number block))) ≡ 1
+one_entry number pool None = refl
+one_entry number pool (Some block) = refl
+
+next_call : (quantum n done after entries : ℕ) → after ≡ done → done ≡ quantum * n + quantum → entries ≡ 1 → after ≡ quantum * (n + entries) + 0
+next_call quantum n done after entries same aged one = rw one (omega (arith, same, aged))
+
+same_call : (quantum n done : ℕ) → done ≡ quantum * n + 0 → done ≡ quantum * (n + 0) + 0
+same_call quantum n done aged = omega (arith, aged)
+
+own_ages : (quantum : ℕ) (v : ProcessView) (word n : ℕ) (call : Option Call) → v.pool.plan.done ≡ quantum * n + (if changes_pool call then quantum else 0)
+    → (pool_own_met word v.pool call).plan.done ≡ quantum * (n + length (entries_of (happened (own_kind_for v.pool call) (own_answer_for v.transfer.number v.pool word call)))) + 0
+own_ages quantum v word n None aged = same_call quantum n v.pool.plan.done aged
+own_ages quantum v word n (Some Allocate) aged = next_call quantum n v.pool.plan.done _ _ (allocated_done word v.pool (source_of v.pool.plan)) aged (one_entry v.transfer.number v.pool (next_block v.pool))
+own_ages quantum v word n (Some (Free block)) aged = next_call quantum n v.pool.plan.done _ 1 (freed_done block v.pool (target_of v.pool.plan)) aged refl
+own_ages quantum v word n (Some (Read block index)) aged = same_call quantum n v.pool.plan.done aged
+own_ages quantum v word n (Some (Write block index value)) aged = same_call quantum n v.pool.plan.done aged
+
+-- so a step of a call keeps the age of its transfer
+pub step_ages : (sizes : Sizes) (v : ProcessView) (word n : ℕ) (stage : CallStage) → v.calls.stage ≡ stage → Aged sizes.quantum n v → (stage ≡ Moving → changes_pool v.calls.call ≡ true) → (stage ≡ Moving → v.transfer.next ≢ Rest)
+    → is_rest (call_met_at sizes v word stage).transfer.next ≡ false → (call_met_at sizes v word stage).pool.plan.pending ≢ Idle
+    → Aged sizes.quantum (n + length (entries_of (call_answer_at v word stage))) (call_met_at sizes v word stage)
+step_ages sizes v word n Between e aged changes busy goes pends = plus_none sizes.quantum n v.pool.plan.done _ aged
+  where
+    plus_none : (quantum n done made : ℕ) → done ≡ quantum * n + made → done ≡ quantum * (n + 0) + made
+    plus_none quantum n done made aged = omega (arith, aged)
+step_ages sizes v word n Moving e aged changes busy goes pends = moving_ages sizes v word n e aged (changes refl) (busy refl) goes pends
+step_ages sizes v word n Own e aged changes busy goes pends = own_ages sizes.quantum v word n v.calls.call (rw e at aged)
+
+-- a call that begins while a transfer is pending
+busy_due : (pool : PoolView) → is_idle pool.plan.pending ≡ false → due pool ≡ None
+busy_due pool busy = rw busy refl
+
+busy_before : (v : ProcessView) → is_idle v.pool.plan.pending ≡ false → before_call v ≡ v
+busy_before v busy = rw (busy_due v.pool busy) refl
+
+pub begun_ages : (quantum : ℕ) (v : ProcessView) (n : ℕ) (call : Call) → v.calls.stage ≡ Between → is_idle v.pool.plan.pending ≡ false → Aged quantum n v → Aged quantum n (call_begun call v)
+begun_ages quantum v n Allocate stage busy aged = rw (busy_before v busy) (rw busy (rw stage at aged))
+begun_ages quantum v n (Free block) stage busy aged = rw (busy_before v busy) (rw busy (rw stage at aged))
+begun_ages quantum v n (Read block index) stage busy aged = rw stage at aged
+begun_ages quantum v n (Write block index value) stage busy aged = rw stage at aged
+
+-- a transfer that a call begins has made no step
+wish_done : (wish : Wish) (v : ProcessView) → (view_begun wish v).pool.plan.done ≡ 0
+wish_done Take v = refl
+wish_done (Give head) v = refl
+
+due_done : (wish : Option Wish) (v : ProcessView) → v.pool.plan.done ≡ 0 → (begun_if_due wish v).pool.plan.done ≡ 0
+due_done None v none = none
+due_done (Some wish) v none = wish_done wish v
+
+none_made : (quantum done : ℕ) → done ≡ 0 → done ≡ quantum * 0 + 0
+none_made quantum done none = omega (arith, none)
+
+changed_ages : (quantum : ℕ) (v : ProcessView) (t : Bool) (call : Call) → is_idle v.pool.plan.pending ≡ t → v.pool.plan.done ≡ 0
+    → Aged quantum 0 (entered call (if t then Own else Moving) v) ⊎ (v.pool.plan.pending ≡ Idle) × ((if t then Own else Moving) ≡ Own)
+changed_ages quantum v true call e none = inr (idle_is v.pool.plan.pending e, refl)
+  where
+    idle_is : (p : Pending) → is_idle p ≡ true → p ≡ Idle
+    idle_is p e = grind arith
+changed_ages quantum v false call e none = inl (none_made quantum v.pool.plan.done none)
+
+-- a call that begins none comes to its own step with nothing pending
+pub first_ages : (quantum : ℕ) (v : ProcessView) (call : Call) → v.pool.plan.pending ≡ Idle → v.pool.plan.done ≡ 0
+    → Aged quantum 0 (call_begun call v) ⊎ ((call_begun call v).pool.plan.pending ≡ Idle) × ((call_begun call v).calls.stage ≡ Own)
+first_ages quantum v Allocate idle none = changed_ages quantum (before_call v) (is_idle (before_call v).pool.plan.pending) Allocate refl (due_done (due v.pool) v none)
+first_ages quantum v (Free block) idle none = changed_ages quantum (before_call v) (is_idle (before_call v).pool.plan.pending) (Free block) refl (due_done (due v.pool) v none)
+first_ages quantum v (Read block index) idle none = inr (idle, refl)
+first_ages quantum v (Write block index value) idle none = inr (idle, refl)
+
+-- and its own step leaves it so
+took_pending : (plan : Numbers) → (after_took_one plan).pending ≡ plan.pending
+took_pending plan = grind arith
+
+gave_pending : (plan : Numbers) → (after_gave_one plan).pending ≡ plan.pending
+gave_pending plan = grind arith
+
+allocated_pending : (word : ℕ) (pool : PoolView) (s : Source) → (allocated word pool s).plan.pending ≡ pool.plan.pending
+allocated_pending word pool source.Current = took_pending pool.plan
+allocated_pending word pool source.Spare = took_pending pool.plan
+allocated_pending word pool source.Nothing = took_pending pool.plan
+
+freed_pending : (block : ℕ) (pool : PoolView) (t : Target) → (freed block pool t).plan.pending ≡ pool.plan.pending
+freed_pending block pool target.Current = gave_pending pool.plan
+freed_pending block pool target.Fresh = gave_pending pool.plan
+
+own_pending : (word : ℕ) (pool : PoolView) (call : Option Call) → (pool_own_met word pool call).plan.pending ≡ pool.plan.pending
+own_pending word pool None = refl
+own_pending word pool (Some Allocate) = allocated_pending word pool (source_of pool.plan)
+own_pending word pool (Some (Free block)) = freed_pending block pool (target_of pool.plan)
+own_pending word pool (Some (Read block index)) = refl
+own_pending word pool (Some (Write block index value)) = refl
+
+pub own_step_pending : (sizes : Sizes) (v : ProcessView) (word : ℕ) (stage : CallStage) → stage ≡ Own → (call_met_at sizes v word stage).pool.plan.pending ≡ v.pool.plan.pending
+own_step_pending sizes v word stage e = rw e (own_pending word v.pool v.calls.call)
