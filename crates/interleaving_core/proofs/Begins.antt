@@ -44,7 +44,8 @@ use Rattle.call_invariant.proofs.Standing.{some_quantum}
 use Rattle.call_invariant.proofs.Uses.{due_begins, uses_calls, calls_used, uses_transfers}
 use Rattle.interleaving_core.specs.Invariant.{Ghosts, Holds, Meets, BlockIsHeld, KnowsOfNothing, held_in, limits_of}
 use Rattle.interleaving_core.specs.Moves.{may_move, may_wish}
-use Rattle.interleaving_core.proofs.Standing.{transfers, less, both_first, both_second, pool_kept, scheduled, wish_fits_at, call_way, call_young, call_names, call_can}
+use Rattle.interleaving_core.proofs.Joins.{transfers, keeps, scheduled, same_ledgers}
+use Rattle.interleaving_core.proofs.Standing.{less, both_first, both_second, wish_fits_at, call_way, call_young, call_names, call_can}
 
 -- a fact of each process, once one has moved
 pub each_moved : (Fact : ℕ → ProcessView → Type 0) (p i : ℕ) (x : ProcessView) (views after : ProcessViews) → MovedProcess i x views after → Fact i x → ((o : ℕ) → o < p → Fact o (views o)) → (o : ℕ)
@@ -182,12 +183,6 @@ pub record CallGoes (sizes : Sizes) (history : List Entry) (i : ℕ) (x : Proces
   pub calls : InCalls sizes i x ledger
   pub goes_on : HistoryHolds (limits_of sizes) (transfer_bound sizes) sizes.quantum history (with_ledger i ledger ledgers)
 
-with_same : (i : ℕ) (ledgers : Ledgers) → with_ledger i (ledgers i) ledgers ≡ ledgers
-with_same i ledgers = fun_ext (λ o. elim (cases_eq o i) [
-  | inl e ↦ rw e (replaced_with i (ledgers i) ledgers).here
-  | inr ne ↦ (replaced_with i (ledgers i) ledgers).elsewhere o ne
-])
-
 pub call_goes : (sizes : Sizes) (history : List Entry) (i : ℕ) (v : ProcessView) (ledgers : Ledgers) (call : Call) (t : Bool) → changes_pool (Some call) ≡ t → i < sizes.processes
     → HistoryHolds (limits_of sizes) (transfer_bound sizes) sizes.quantum history ledgers
     → Scheduled sizes (ledgers i).account → InCalls sizes i v (ledgers i) → v.calls.stage ≡ Between → v.transfer.age < 2 ^ 32
@@ -218,7 +213,7 @@ call_goes sizes history i v ledgers call true changes li h s calls between young
 call_goes sizes history i v ledgers call false keeps li h s calls between young = by_call call keeps
   where
     stays : (x : ProcessView) → InCalls sizes i x (ledgers i) → CallGoes sizes history i x ledgers (ledgers i)
-    stays x same = record { entries = refl; found = refl; calls = same; goes_on = rw (with_same i ledgers) h }
+    stays x same = record { entries = refl; found = refl; calls = same; goes_on = rw (same_ledgers i ledgers) h }
 
     by_call : (call : Call) → changes_pool (Some call) ≡ false → CallGoes sizes history i (call_begun call v) ledgers (ledger_begun call (ledgers i))
     by_call Allocate e = absurd (grind arith)
@@ -240,9 +235,9 @@ call_begins_at sizes words views after history ghosts i call shape li h young na
     let ledger = ledger_begun call (ledgers i) in
     let held_same = held_stays i ledger ledgers goes.entries in
     let can = call_can sizes words views history ghosts i shape li h young in
-    let keeps = pool_kept sizes words views history ghosts i shape li h in
+    let kept = keeps sizes words views history ghosts i shape li h in
     record {
-      stack = stack_begun sizes words views after ghosts.states i x (call_wish call v) li h.stack (call_transfer call v) (λ w e. (due_begins sizes v w keeps (call_wish_due call v w e)).0) moved;
+      stack = stack_begun sizes words views after ghosts.states i x (call_wish call v) li h.stack (call_transfer call v) (λ w e. (due_begins sizes v w kept (call_wish_due call v w e)).0) moved;
       chains = chains.held_same sizes words s after (held_in ledgers) (held_in (with_ledger i ledger ledgers))
           (chains.call_begins sizes words s views after (held_in ledgers) i x li h.chains can moved call (record { transfer = refl; pool = refl })) (λ o lo. held_same o);
       pools = each_moved_with (λ o w l. UsesPool sizes o w l) sizes.processes i x ledger views after ledgers moved (uses_calls sizes i x ledger x.calls.way goes.calls.way goes.calls) h.pools;

@@ -31,7 +31,7 @@ use Rattle.interleaving_core.specs.Moves.{CoreState, view_at, holder_of, is_hold
 use Rattle.interleaving_core.specs.Runs.{opens, turns, is_made}
 use Rattle.interleaving_core.specs.Steps.{is_in_call}
 use Rattle.interleaving_core.specs.CallLaws as laws
-use Rattle.interleaving_core.proofs.Holds.{alone_between}
+use Rattle.interleaving_core.proofs.Standing.{alone_between}
 use Rattle.interleaving_core.proofs.Joins.{scheduled, keeps}
 use Rattle.interleaving_core.proofs.Runs.{RunFits, run_fits}
 use Rattle.interleaving_core.proofs.CallLawsKept.{few_withheld, keeps_five, all_counted}

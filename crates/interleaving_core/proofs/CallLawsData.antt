@@ -28,6 +28,7 @@ use Rattle.interleaving_core.specs.Moves.{CoreState, view_at, holder_of, is_hold
 use Rattle.interleaving_core.specs.Runs.{Turn, Events, by_of, is_made, turning_view, after_turn, turn_answer}
 use Rattle.interleaving_core.specs.Steps.{is_alone, next_action}
 use Rattle.interleaving_core.specs.CallLaws as laws
+use Rattle.interleaving_core.proofs.OwnData.{same_block, same_index}
 use Rattle.interleaving_core.proofs.TransferSteps.{data_stays}
 use Rattle.interleaving_core.proofs.Holds.{step_allowed}
 use Rattle.interleaving_core.proofs.Tables.{table_acted, next_in_range}
@@ -35,12 +36,6 @@ use Rattle.interleaving_core.proofs.Runs.{RunFits, turn_low, turn_meets, turn_bu
 use Rattle.interleaving_core.proofs.CallLaws.{every_run}
 
 -- an own step that isn't a write to a data word leaves it
-same_block : (b k block index : ℕ) → Data b k ≡ Data block index → b ≡ block
-same_block b k block index e = cc
-
-same_index : (b k block index : ℕ) → Data b k ≡ Data block index → k ≡ index
-same_index b k block index e = cc
-
 allocate_leaves : (sizes : Sizes) (words new : Words) (b k : ℕ) (block : Option ℕ) → InRange sizes (Data b k) → Acted sizes (allocate_action block) words new → new (Data b k) ≡ words (Data b k)
 allocate_leaves sizes words new b k None low a = a.elsewhere (Data b k) low (λ e. cc)
 allocate_leaves sizes words new b k (Some block) low a = a.elsewhere (Data b k) low (λ e. cc)

@@ -31,6 +31,7 @@ use Rattle.pool_machine.specs.OwnSteps.{pool_own_met, own_answer_for, own_kind_f
 use Rattle.pool_machine.specs.Steps.{call_met_at, call_answer_at, happened}
 use Rattle.call_invariant.specs.Phases.{changes_pool}
 use Rattle.interleaving_core.specs.Runs.{entries_of}
+use Rattle.interleaving_core.proofs.RunCounts.{allocated_counts}
 
 -- how many steps of its transfer the present call has made
 abbrev pub made_now_at : ℕ → CallView → CallStage → ℕ
@@ -85,16 +86,8 @@ moving_ages sizes v word n stage aged changes busy goes pends =
     (moving_made sizes.quantum n v.pool.plan.done (pool_met_at word v.pool v.transfer.next).plan.done v.calls (v.calls.steps + 1 == sizes.quantum) (step_counts word v.pool v.transfer.next busy pends) (rw stage at aged) changes refl)
 
 -- an own step that makes an entry ends a call
-took_done : (plan : Numbers) → (after_took_one plan).done ≡ plan.done
-took_done plan = grind arith
-
 gave_done : (plan : Numbers) → (after_gave_one plan).done ≡ plan.done
 gave_done plan = grind arith
-
-allocated_done : (word : ℕ) (pool : PoolView) (s : Source) → (allocated word pool s).plan.done ≡ pool.plan.done
-allocated_done word pool source.Current = took_done pool.plan
-allocated_done word pool source.Spare = took_done pool.plan
-allocated_done word pool source.Nothing = took_done pool.plan
 
 freed_done : (block : ℕ) (pool : PoolView) (t : Target) → (freed block pool t).plan.done ≡ pool.plan.done
 freed_done block pool target.Current = gave_done pool.plan
@@ -113,7 +106,7 @@ same_call quantum n done aged = omega (arith, aged)
 own_ages : (quantum : ℕ) (v : ProcessView) (word n : ℕ) (call : Option Call) → v.pool.plan.done ≡ quantum * n + (if changes_pool call then quantum else 0)
     → (pool_own_met word v.pool call).plan.done ≡ quantum * (n + length (entries_of (happened (own_kind_for v.pool call) (own_answer_for v.transfer.number v.pool word call)))) + 0
 own_ages quantum v word n None aged = same_call quantum n v.pool.plan.done aged
-own_ages quantum v word n (Some Allocate) aged = next_call quantum n v.pool.plan.done _ _ (allocated_done word v.pool (source_of v.pool.plan)) aged (one_entry v.transfer.number v.pool (next_block v.pool))
+own_ages quantum v word n (Some Allocate) aged = next_call quantum n v.pool.plan.done _ _ (allocated_counts word v.pool (source_of v.pool.plan)) aged (one_entry v.transfer.number v.pool (next_block v.pool))
 own_ages quantum v word n (Some (Free block)) aged = next_call quantum n v.pool.plan.done _ 1 (freed_done block v.pool (target_of v.pool.plan)) aged refl
 own_ages quantum v word n (Some (Read block index)) aged = same_call quantum n v.pool.plan.done aged
 own_ages quantum v word n (Some (Write block index value)) aged = same_call quantum n v.pool.plan.done aged

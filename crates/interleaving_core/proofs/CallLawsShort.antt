@@ -24,7 +24,7 @@ use Rattle.interleaving_core.specs.CallLaws.{steps_left_at, steps_left, GoesOnWi
 use Rattle.interleaving_core.specs.Moves.{CoreState, view_at, calling_view, with_step}
 use Rattle.interleaving_core.specs.Runs.{Turn, Events, IsRun, turns, by_of, is_made, turning_view, after_turn}
 use Rattle.interleaving_core.specs.Steps.{is_alone, is_in_call, next_action, next_met}
-use Rattle.interleaving_core.proofs.Holds.{alone_between}
+use Rattle.interleaving_core.proofs.Standing.{alone_between}
 use Rattle.interleaving_core.proofs.Runs.{RunFits, turn_low}
 use Rattle.interleaving_core.proofs.CallLaws.{shapes_stay, every_run, quanta_here}
 

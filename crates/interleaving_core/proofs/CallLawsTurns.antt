@@ -29,7 +29,7 @@ use Rattle.interleaving_core.specs.Moves.{CoreState, view_at}
 use Rattle.interleaving_core.specs.Runs.{Events, is_made, turning_view, after_turn, turn_answer, entries_of}
 use Rattle.interleaving_core.specs.Steps.{is_alone, is_busy, is_in_call, next_action, next_met, next_answer}
 use Rattle.interleaving_core.specs.CallLaws.{Pends}
-use Rattle.interleaving_core.proofs.Holds.{alone_between}
+use Rattle.interleaving_core.proofs.Standing.{alone_between}
 use Rattle.interleaving_core.proofs.Joins.{keeps, given}
 use Rattle.interleaving_core.proofs.Runs.{RunFits, turn_low, turn_meets, turn_busy}
 use Rattle.interleaving_core.proofs.CallLawsShort.{made_view, not_alone, begun_calls}

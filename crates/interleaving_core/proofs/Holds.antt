@@ -1,27 +1,18 @@
--- the opening meets the invariant, beginnings and steps keep it, and steps can be made
-use Rattle.std.proofs.Common.{◌≡◌, ◌≢◌, ℕ, ◌<◌, Bool, true, false, List, [], ◌++◌, length, refl, sym, arith}
+-- every step keeps the invariant, and can be made
+use Rattle.std.proofs.Common.{◌≡◌, ◌≢◌, ℕ, ◌<◌, Bool, true, false, List, ◌++◌, refl, sym, arith}
 use Rattle.word_layout.specs.Sizes.{Sizes, IsShape}
-use Rattle.word_layout.specs.Names.{table_words}
-use Rattle.word_layout.specs.Packing.{FitsWish}
-use Rattle.word_layout.specs.declared.announced.Wish.{Wish}
 use Rattle.pool_model.specs.declared.entry.Entry.{Entry}
-use Rattle.pool_model.specs.History.{own, grip}
-use Rattle.transfer_schedule.specs.declared.pending.Pending.TheVariants.{Idle}
 use Rattle.transfer_machine.specs.Machine.{action_of, CanAct, CanMeet}
-use Rattle.transfer_machine.specs.Opening.{AreOpening}
 use Rattle.transfer_machine.specs.Phases.{is_rest}
-use Rattle.transfer_machine.specs.Pools.{opening_view, view_met, MayBegin, CanCount, CanMeetPool}
+use Rattle.transfer_machine.specs.Pools.{view_met, CanCount, CanMeetPool}
 use Rattle.transfer_machine.specs.Words.{name_of}
-use Rattle.transfer_machine.specs.declared.call.Call.{Call}
 use Rattle.transfer_machine.specs.declared.call.CallStage.TheVariants.{Between, Moving, Own}
-use Rattle.transfer_machine.specs.declared.call.Way.TheVariants.{Fresh, Alone}
+use Rattle.transfer_machine.specs.declared.call.Way.TheVariants.{Alone}
 use Rattle.transfer_machine.specs.declared.view.ProcessView.{ProcessView}
 use Rattle.transfer_machine.specs.declared.stage.NextStep.TheVariants.{Rest}
 use Rattle.transfer_invariant.specs.Memory.{Words, Acted}
 use Rattle.batch_invariant.specs.Batches.{ProcessViews, MovedProcess}
-use Rattle.pool_machine.specs.Beginning.{alone_begun, call_begun}
-use Rattle.pool_machine.specs.Conditions.{may_call}
-use Rattle.pool_machine.specs.Ready.{CanBegin, CanActCall, CanMeetCall, CanActCallAt, CanMeetCallAt}
+use Rattle.pool_machine.specs.Ready.{CanActCall, CanMeetCall, CanActCallAt, CanMeetCallAt}
 use Rattle.pool_machine.specs.Steps.{call_action, call_action_at, call_met, call_met_at, call_answer, call_answer_at}
 use Rattle.std.specs.Prelude.{if◌then◌else◌, not}
 use Rattle.std.proofs.lemmas.List.{append-nil}
@@ -37,48 +28,9 @@ use Rattle.interleaving_core.proofs.Joins.{transfers, supplied, keeps, given, sc
 use Rattle.interleaving_core.proofs.TransfersMade.{alone_step_holds, call_step_holds}
 use Rattle.interleaving_core.proofs.OwnSteps.{own_step_holds}
 use Rattle.interleaving_core.proofs.OwnAllowed.{own_step_allowed}
-use Rattle.interleaving_core.specs.Invariant.{Ghosts, Meets, MeetsInvariant, BlockIsHeld, Holds}
-use Rattle.interleaving_core.proofs.Begins as begins
-use Rattle.interleaving_core.proofs.Opens as opens
-use Rattle.interleaving_core.proofs.Standing as standing
-use Rattle.interleaving_core.specs.Content.{SaysContent}
-use Rattle.interleaving_core.specs.Moves.{may_move, may_wish}
+use Rattle.interleaving_core.specs.Invariant.{Ghosts, Meets, Holds}
 use Rattle.interleaving_core.specs.Runs.{entries_of}
 use Rattle.interleaving_core.specs.Steps.{is_alone, is_busy, is_in_call, next_action, next_met, next_answer}
-
-pub opening_holds : (sizes : Sizes) (words : List ℕ) (views : ProcessViews) → IsShape sizes → AreOpening sizes words → ((i : ℕ) → i < sizes.processes → views i ≡ opening_view sizes i) → MeetsInvariant sizes words views []
-opening_holds sizes words views shape opening seats = opens.opening_holds sizes words views shape opening seats
-
--- the view of a process has its number
-pub number_holds : (sizes : Sizes) (words : Words) (views : ProcessViews) (history : List Entry) (i : ℕ) → i < sizes.processes → Meets sizes words views history → (views i).transfer.number ≡ i
-number_holds sizes words views history i li h = standing.number_holds sizes words views history i li h
-
--- a process that has begun nothing is at rest, and one that makes transfers alone is in no call
-pub fresh_rests : (sizes : Sizes) (words : Words) (views : ProcessViews) (history : List Entry) (i : ℕ) → i < sizes.processes → Meets sizes words views history → (views i).calls.way ≡ Fresh → is_rest (views i).transfer.next ≡ true
-fresh_rests sizes words views history i li h fresh = standing.fresh_rests sizes words views history i li h fresh
-
-pub alone_between : (sizes : Sizes) (words : Words) (views : ProcessViews) (history : List Entry) (i : ℕ) → i < sizes.processes → Meets sizes words views history → (views i).calls.way ≡ Alone → is_in_call (views i).calls.stage ≡ false
-alone_between sizes words views history i li h alone = standing.alone_between sizes words views history i li h alone
-
--- a process at rest outside any call has nothing pending, and its wish fits
-pub rests_idle : (sizes : Sizes) (words : Words) (views : ProcessViews) (history : List Entry) (i : ℕ) → IsShape sizes → i < sizes.processes → Meets sizes words views history → (views i).transfer.next ≡ Rest → (views i).pool.plan.pending ≡ Idle
-rests_idle sizes words views history i shape li h rest = standing.rests_idle sizes words views history i shape li h rest
-
-pub wish_fits : (sizes : Sizes) (words : Words) (views : ProcessViews) (history : List Entry) (i : ℕ) (wish : Wish) → IsShape sizes → i < sizes.processes → Meets sizes words views history → (views i).transfer.next ≡ Rest → may_wish wish (views i).pool ≡ true → FitsWish wish × MayBegin wish (views i).pool
-wish_fits sizes words views history i wish shape li h rest may = standing.wish_fits sizes words views history i wish shape li h rest may
-
--- a process between two calls can begin one
-pub call_can_begin : (sizes : Sizes) (words : Words) (views : ProcessViews) (history : List Entry) (i : ℕ) (call : Call) (holds : Bool) → IsShape sizes → i < sizes.processes → Meets sizes words views history → (views i).calls.stage ≡ Between → may_call sizes holds call (views i) ≡ true → CanBegin (views i)
-call_can_begin sizes words views history i call holds shape li h between may = standing.call_can_begin sizes words views history i call holds shape li h between may
-
-pub alone_begins : (sizes : Sizes) (words : Words) (views after : ProcessViews) (history : List Entry) (i : ℕ) (wish : Wish) → IsShape sizes → i < sizes.processes → Meets sizes words views history → (views i).transfer.next ≡ Rest → may_move wish (views i) ≡ true
-    → MovedProcess i (alone_begun wish (views i)) views after → Meets sizes words after history
-alone_begins sizes words views after history i wish shape li h rest may moved = begins.alone_begins sizes words views after history i wish shape li h rest may moved
-
-pub call_begins : (sizes : Sizes) (words : Words) (views after : ProcessViews) (history : List Entry) (i : ℕ) (call : Call) (holds : Bool) → IsShape sizes → i < sizes.processes → Meets sizes words views history → (views i).calls.stage ≡ Between → may_call sizes holds call (views i) ≡ true
-    → (holds ≡ true → BlockIsHeld (grip (own history i)) call)
-    → MovedProcess i (call_begun call (views i)) views after → Meets sizes words after history
-call_begins sizes words views after history i call holds shape li h between may held moved = begins.call_begins sizes words views after history i call holds shape li h between may held moved
 
 -- ways and stages
 is_alone_way : (way : Way) → is_alone way ≡ true → way ≡ Alone
@@ -170,7 +122,3 @@ step_allowed sizes words views history i shape li (ghosts, h) busy =
       call_act = λ calls. (call_allowed sizes words views history ghosts i v.calls.stage shape li h (isnt_alone_way v.calls.way calls) refl).0;
       call_meet = λ calls. (call_allowed sizes words views history ghosts i v.calls.stage shape li h (isnt_alone_way v.calls.way calls) refl).1;
     }
-
--- the words say the content of the stack
-pub content_said : (sizes : Sizes) (list : List ℕ) (views : ProcessViews) (history : List Entry) → length list ≡ table_words sizes → MeetsInvariant sizes list views history → SaysContent sizes list
-content_said sizes list views history whole h = opens.content_said sizes list views history whole h

@@ -1,5 +1,7 @@
 -- what the parts of the invariant give each other for the step of a transfer
-use Rattle.std.proofs.Common.{◌≡◌, ◌≢◌, ℕ, ◌<◌, true, false, List, refl, arith}
+use Rattle.std.proofs.Common.{◌≡◌, ◌≢◌, ℕ, ◌<◌, true, false, List, refl, inl, inr, arith}
+use Rattle.std.proofs.Math.Path.{fun_ext}
+use Rattle.std.proofs.lemmas.Bool.{cases_eq}
 use Rattle.word_layout.specs.Sizes.{Sizes, IsShape}
 use Rattle.word_layout.specs.Packing.{value_of, reply_of}
 use Rattle.word_layout.specs.declared.announced.Wish.{Wish}
@@ -23,6 +25,9 @@ use Rattle.batch_invariant.specs.Premises.{InStep, InstallsNext}
 use Rattle.batch_invariant.proofs.Steps.{ends_answer}
 use Rattle.chain_invariant.specs.Laws as chains
 use Rattle.chain_invariant.proofs.Gives.{gives_are_blocks, plans_have_room}
+use Rattle.history_invariant.specs.Ledger.{Ledgers}
+use Rattle.history_invariant.specs.Steps.{with_ledger}
+use Rattle.history_invariant.proofs.Replacing.{replaced_with}
 use Rattle.call_invariant.specs.InCalls.{Scheduled}
 use Rattle.call_invariant.specs.Uses.{PoolKeeps}
 use Rattle.call_invariant.proofs.Standing.{shape_fits}
@@ -36,6 +41,13 @@ transfers views = λ i. (views i).transfer
 -- the account of each ledger is one of the schedule
 pub scheduled : (sizes : Sizes) (words : Words) (views : ProcessViews) (history : List Entry) (ghosts : Ghosts) (i : ℕ) → IsShape sizes → i < sizes.processes → Holds sizes words views history ghosts → Scheduled sizes (ghosts.ledgers i).account
 scheduled sizes words views history ghosts i shape li h = record { fit = shape_fits sizes shape; reached = (h.entries.each i li).reached }
+
+-- the ledgers with one that is there already
+pub same_ledgers : (i : ℕ) (ledgers : Ledgers) → with_ledger i (ledgers i) ledgers ≡ ledgers
+same_ledgers i ledgers = fun_ext (λ o. elim (cases_eq o i) [
+  | inl e ↦ rw e (replaced_with i (ledgers i) ledgers).here
+  | inr ne ↦ (replaced_with i (ledgers i) ledgers).elsewhere o ne
+])
 
 -- what each process keeps, in whichever way it uses its pool
 pub keeps : (sizes : Sizes) (words : Words) (views : ProcessViews) (history : List Entry) (ghosts : Ghosts) (i : ℕ) → IsShape sizes → i < sizes.processes → Holds sizes words views history ghosts → PoolKeeps sizes (views i)

@@ -22,7 +22,7 @@ use Rattle.chain_invariant.proofs.Opened.{run, opened_chains}
 use Rattle.history_invariant.specs.Ledger.{Ledger, opening_ledger}
 use Rattle.history_invariant.proofs.Holding as histories
 use Rattle.call_invariant.proofs.Alone.{opening_calls}
-use Rattle.interleaving_core.proofs.Standing.{transfers}
+use Rattle.interleaving_core.proofs.Joins.{transfers}
 use Rattle.interleaving_core.specs.Content.{SaysContent}
 use Rattle.interleaving_core.specs.Invariant.{Ghosts, MeetsInvariant, KnowsOfNothing, held_in, limits_of}
 

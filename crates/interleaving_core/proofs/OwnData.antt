@@ -93,10 +93,10 @@ learnt b k block index seen old value e = elim (cases_eq b block) [
     other_block b k block index seen old value ne e = grind (arith, nat_tests)
 
 -- the words of held blocks stay where an action is on another word, or loads
-same_block : (b k block index : ℕ) → Data b k ≡ Data block index → b ≡ block
+pub same_block : (b k block index : ℕ) → Data b k ≡ Data block index → b ≡ block
 same_block b k block index e = cc
 
-same_index : (b k block index : ℕ) → Data b k ≡ Data block index → k ≡ index
+pub same_index : (b k block index : ℕ) → Data b k ≡ Data block index → k ≡ index
 same_index b k block index e = cc
 
 acts_apart : (sizes : Sizes) (action : Action) (words new : Words) (held : List ℕ) → HeldAreLow sizes held → ((b k : ℕ) → Contains held b → Data b k ≢ name_of action) → Acted sizes action words new

@@ -1,8 +1,6 @@
 -- the ledgers and the history under the own step of a call
-use Rattle.std.proofs.Common.{◌≡◌, ◌≢◌, ℕ, ◌<◌, true, Option, None, Some, List, [], ◌∷◌, ◌++◌, refl, inl, inr}
+use Rattle.std.proofs.Common.{◌≡◌, ◌≢◌, ℕ, ◌<◌, true, Option, None, Some, List, [], ◌∷◌, ◌++◌, refl}
 use Rattle.std.specs.Prelude.{Contains}
-use Rattle.std.proofs.Math.Path.{fun_ext}
-use Rattle.std.proofs.lemmas.Bool.{cases_eq}
 use Rattle.std.proofs.lemmas.List.{append-nil}
 use Rattle.word_layout.specs.Sizes.{Sizes, IsShape, transfer_bound}
 use Rattle.pool_model.specs.declared.entry.Entry.{Entry}
@@ -23,7 +21,7 @@ use Rattle.chain_invariant.specs.Laws.{IsFree}
 use Rattle.chain_invariant.proofs.Calls.{got_is_free}
 use Rattle.history_invariant.specs.Grips.{SharesOut}
 use Rattle.history_invariant.specs.Holds.{HistoryHolds}
-use Rattle.history_invariant.specs.Ledger.{Ledger, Ledgers}
+use Rattle.history_invariant.specs.Ledger.{Ledger}
 use Rattle.history_invariant.specs.Steps.{with_ledger, got_one, got_none, gave_back}
 use Rattle.history_invariant.proofs.Entering.{got_owes, back_owes, refusal_owes}
 use Rattle.history_invariant.proofs.Fitting.{entry_kept}
@@ -33,20 +31,16 @@ use Rattle.history_invariant.proofs.Shared.{legal_shared}
 use Rattle.call_invariant.specs.InCalls.{Scheduled, InCalls}
 use Rattle.call_invariant.specs.Phases.{changes_pool}
 use Rattle.call_invariant.proofs.Owned.{phase_own, gets_leave, refusals_leave, frees_leave, keeping_steps_leave, block_has_source, no_block_has_none}
-use Rattle.call_invariant.proofs.Standing.{shape_fits}
 use Rattle.call_invariant.proofs.Uses.{calls_used}
 use Rattle.interleaving_core.specs.Invariant.{Ghosts, held_in, limits_of, Holds}
 use Rattle.interleaving_core.specs.Runs.{entries_of}
+use Rattle.interleaving_core.proofs.Joins as joins
 use Rattle.interleaving_core.proofs.OwnParts.{ledger_allocated, ledger_by_call}
 
--- a process that makes calls goes with its ledger, whose account the schedule reaches
+-- a process that makes calls goes with its ledger
 pub in_calls : (sizes : Sizes) (words : Words) (views : ProcessViews) (history : List Entry) (ghosts : Ghosts) (i : ℕ) → i < sizes.processes → Holds sizes words views history ghosts → (views i).calls.way ≢ Alone
     → InCalls sizes i (views i) (ghosts.ledgers i)
 in_calls sizes words views history ghosts i li h ne = calls_used sizes i (views i) (ghosts.ledgers i) (views i).calls.way ne (h.pools i li)
-
-pub is_scheduled : (sizes : Sizes) (words : Words) (views : ProcessViews) (history : List Entry) (ghosts : Ghosts) (i : ℕ) → IsShape sizes → i < sizes.processes → Holds sizes words views history ghosts
-    → Scheduled sizes (ghosts.ledgers i).account
-is_scheduled sizes words views history ghosts i shape li h = record { fit = shape_fits sizes shape; reached = (h.entries.each i li).reached }
 
 -- the ledger of its process
 allocated_goes : (sizes : Sizes) (i word : ℕ) (v : ProcessView) (g : Ledger) (history : List Entry) (block : Option ℕ) → InCalls sizes i v g → v.calls.stage ≡ Own → v.calls.call ≡ Some Allocate
@@ -61,10 +55,6 @@ own_goes sizes i word v g history (Some Allocate) h s own e = allocated_goes siz
 own_goes sizes i word v g history (Some (Free block)) h s own e = frees_leave sizes i v word block g history (Back i block) h s own e
 own_goes sizes i word v g history (Some (Read block index)) h s own e = keeping_steps_leave sizes i v word g h own (rw e refl)
 own_goes sizes i word v g history (Some (Write block index value)) h s own e = keeping_steps_leave sizes i v word g h own (rw e refl)
-
--- the ledgers where none has become another
-same_ledgers : (i : ℕ) (ledgers : Ledgers) → with_ledger i (ledgers i) ledgers ≡ ledgers
-same_ledgers i ledgers = fun_ext (λ o. elim (cases_eq o i) [ inl e ↦ rw e (replaced_with i (ledgers i) ledgers).here | inr ne ↦ (replaced_with i (ledgers i) ledgers).elsewhere o ne ])
 
 -- what holds as the own step of a call is due: its parts, for one process
 pub record OwnDue (sizes : Sizes) (words : Words) (views : ProcessViews) (history : List Entry) (ghosts : Ghosts) (i : ℕ) : Type 0 where
@@ -82,7 +72,7 @@ due_of sizes words views history ghosts i shape li h ne own = record {
   low = li;
   holds = h;
   goes = in_calls sizes words views history ghosts i li h ne;
-  scheduled = is_scheduled sizes words views history ghosts i shape li h;
+  scheduled = joins.scheduled sizes words views history ghosts i shape li h;
   own = own;
 }
 
@@ -131,7 +121,7 @@ module _ (sizes : Sizes) (words : Words) (views : ProcessViews) (history : List 
 
   -- a read or a write makes none
   same_history : HistoryHolds (limits_of sizes) (transfer_bound sizes) sizes.quantum (history ++ []) (with_ledger i (ghosts.ledgers i) ghosts.ledgers)
-  same_history = rw (append-nil history, same_ledgers i ghosts.ledgers) d.holds.entries
+  same_history = rw (append-nil history, joins.same_ledgers i ghosts.ledgers) d.holds.entries
 
   -- the history after the own step of any call
   allocated_history : (by : ℕ) → by ≡ i → (views i).calls.call ≡ Some Allocate → (block : Option ℕ) → next_block (views i).pool ≡ block

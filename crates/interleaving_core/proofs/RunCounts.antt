@@ -95,7 +95,7 @@ step_counts sizes v word LoadFinalState busy goes = refl
 step_counts sizes v word LoadReply busy goes = grind arith
 
 -- the own step of a call isn't
-allocated_counts : (word : ℕ) (pool : PoolView) (s : Source) → (allocated word pool s).plan.done ≡ pool.plan.done
+pub allocated_counts : (word : ℕ) (pool : PoolView) (s : Source) → (allocated word pool s).plan.done ≡ pool.plan.done
 allocated_counts word pool source.Current = grind arith
 allocated_counts word pool source.Spare = grind arith
 allocated_counts word pool source.Nothing = grind arith

@@ -16,7 +16,7 @@ use Rattle.interleaving_core.specs.Moves.{view_at, may_wish, moving_view, callin
 use Rattle.interleaving_core.specs.Runs.{Moves, Events, is_made}
 use Rattle.interleaving_core.specs.Steps.{is_alone, is_busy, is_in_call}
 use Rattle.interleaving_core.specs.TransferLaws.{moves_at, moves_transfer, RunsMakeSteps}
-use Rattle.interleaving_core.proofs.Holds.{fresh_rests, alone_between}
+use Rattle.interleaving_core.proofs.Standing.{fresh_rests, alone_between}
 use Rattle.interleaving_core.proofs.Runs.{run_fits}
 use Rattle.interleaving_core.proofs.RunTurns.{busy_go_on}
 

@@ -32,7 +32,9 @@ use Rattle.interleaving_core.specs.Steps.{is_busy, is_in_call, next_action, next
 use Rattle.interleaving_core.specs.Moves.{CoreState, view_at, may_move, moving_view, holds_for, may_go, calling_view, step_answer, with_step, holders_after}
 use Rattle.interleaving_core.specs.Runs.{Turn, Moves, Events, IsRun, opens, turns, opening_views, opened, by_of, is_made, turning_view, after_turn, turn_answer, entries_of}
 use Rattle.interleaving_core.proofs.Holders.{HoldersFit, opened_holders, step_holders, truly_held}
-use Rattle.interleaving_core.proofs.Holds.{opening_holds, alone_begins, call_begins, number_holds, fresh_rests, alone_between}
+use Rattle.interleaving_core.proofs.Begins.{alone_begins, call_begins}
+use Rattle.interleaving_core.proofs.Opens.{opening_holds}
+use Rattle.interleaving_core.proofs.Standing.{number_holds, fresh_rests, alone_between}
 use Rattle.interleaving_core.proofs.Tables.{table_step, with_view_here, rests, between_calls, either_may}
 
 -- the words and views at the end of a run are those of the shape, and meet the invariant

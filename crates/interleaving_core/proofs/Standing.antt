@@ -16,37 +16,22 @@ use Rattle.transfer_machine.specs.declared.call.Way.{Way}
 use Rattle.transfer_machine.specs.declared.call.Way.TheVariants.{Fresh, Alone, Calls}
 use Rattle.transfer_machine.specs.declared.view.ProcessView.{ProcessView}
 use Rattle.transfer_machine.specs.declared.stage.NextStep.TheVariants.{Rest}
-use Rattle.transfer_invariant.specs.Memory.{Words, Views, state_tag}
+use Rattle.transfer_invariant.specs.Memory.{Words, state_tag}
 use Rattle.stack_invariant.proofs.Follows.{each_process}
 use Rattle.batch_invariant.specs.Batches.{ProcessViews}
 use Rattle.chain_invariant.proofs.Gives.{heads_are_blocks}
 use Rattle.pool_machine.specs.Conditions.{may_call, may_use_calls, names_fit}
 use Rattle.pool_machine.specs.Ready.{CanBegin}
-use Rattle.call_invariant.specs.InCalls.{Scheduled}
-use Rattle.call_invariant.specs.Uses.{PoolKeeps}
-use Rattle.call_invariant.proofs.Standing.{shape_fits}
-use Rattle.call_invariant.proofs.Uses.{keeps_pool, calls_can_begin, calls_used, transfers_used}
+use Rattle.call_invariant.proofs.Uses.{calls_can_begin, calls_used, transfers_used}
+use Rattle.interleaving_core.proofs.Joins.{transfers, keeps}
 use Rattle.interleaving_core.specs.Invariant.{Ghosts, Holds, Meets, held_in}
 use Rattle.interleaving_core.specs.Moves.{may_wish}
 use Rattle.interleaving_core.specs.Steps.{is_in_call}
 
--- the views of the transfers
-abbrev pub transfers : ProcessViews → Views
-transfers views = λ o. (views o).transfer
-
--- the view of a process has its number, and its account is one of the schedule
+-- the view of a process has its number
 pub numbered : (sizes : Sizes) (words : Words) (views : ProcessViews) (history : List Entry) (ghosts : Ghosts) (i : ℕ) → i < sizes.processes → Holds sizes words views history ghosts
     → (views i).transfer.number ≡ i
 numbered sizes words views history ghosts i li h = (each_process sizes words (transfers views) ghosts.states i li h.stack).number
-
-pub scheduled : (sizes : Sizes) (words : Words) (views : ProcessViews) (history : List Entry) (ghosts : Ghosts) (i : ℕ) → IsShape sizes → i < sizes.processes → Holds sizes words views history ghosts
-    → Scheduled sizes (ghosts.ledgers i).account
-scheduled sizes words views history ghosts i shape li h = record { fit = shape_fits sizes shape; reached = (h.entries.each i li).reached }
-
--- what its pool keeps
-pub pool_kept : (sizes : Sizes) (words : Words) (views : ProcessViews) (history : List Entry) (ghosts : Ghosts) (i : ℕ) → IsShape sizes → i < sizes.processes → Holds sizes words views history ghosts
-    → PoolKeeps sizes (views i)
-pool_kept sizes words views history ghosts i shape li h = keeps_pool sizes i (views i) (ghosts.ledgers i) (views i).calls.way (h.pools i li) (scheduled sizes words views history ghosts i shape li h)
 
 pub number_holds : (sizes : Sizes) (words : Words) (views : ProcessViews) (history : List Entry) (i : ℕ) → i < sizes.processes → Meets sizes words views history → (views i).transfer.number ≡ i
 number_holds sizes words views history i li (ghosts, h) = numbered sizes words views history ghosts i li h
@@ -69,7 +54,7 @@ alone_between sizes words views history i li (ghosts, h) alone =
 -- a process at rest has nothing pending
 pub rests_idle : (sizes : Sizes) (words : Words) (views : ProcessViews) (history : List Entry) (i : ℕ) → IsShape sizes → i < sizes.processes → Meets sizes words views history
     → (views i).transfer.next ≡ Rest → (views i).pool.plan.pending ≡ Idle
-rests_idle sizes words views history i shape li (ghosts, h) rest = (pool_kept sizes words views history ghosts i shape li h).runs.kept.idle (rw rest refl)
+rests_idle sizes words views history i shape li (ghosts, h) rest = (keeps sizes words views history ghosts i shape li h).runs.kept.idle (rw rest refl)
 
 -- tests of numbers, and of several conditions
 few : (a b : ℕ) → nat_le a b ≡ true → a ≤ b
@@ -108,8 +93,8 @@ wish_fits_at sizes words views history ghosts i (Give head) shape li h may =
     let is : slice_index heads last ≡ head = same (slice_index heads last) head (both_second (nat_lt 0 (length heads)) (slice_index heads last == head) may) in
     let block = spare_is_block sizes words views history ghosts i last shape li h (omega arith) in
     let limit = shape.few_blocks in
-    let keeps = pool_kept sizes words views history ghosts i shape li h in
-    (rw (sym is) (omega arith), (omega arith, omega (arith, keeps.heads), is))
+    let kept = keeps sizes words views history ghosts i shape li h in
+    (rw (sym is) (omega arith), (omega arith, omega (arith, kept.heads), is))
 
 pub wish_fits : (sizes : Sizes) (words : Words) (views : ProcessViews) (history : List Entry) (i : ℕ) (wish : Wish) → IsShape sizes → i < sizes.processes → Meets sizes words views history
     → (views i).transfer.next ≡ Rest → may_wish wish (views i).pool ≡ true → FitsWish wish × MayBegin wish (views i).pool
@@ -137,9 +122,9 @@ call_names sizes holds call v may = both_second (nat_lt v.transfer.age (2 ^ 32))
 pub call_can : (sizes : Sizes) (words : Words) (views : ProcessViews) (history : List Entry) (ghosts : Ghosts) (i : ℕ) → IsShape sizes → i < sizes.processes → Holds sizes words views history ghosts
     → (views i).transfer.age < 2 ^ 32 → CanBegin (views i)
 call_can sizes words views history ghosts i shape li h young =
-    let keeps = pool_kept sizes words views history ghosts i shape li h in
-    calls_can_begin sizes (views i) keeps young (λ three.
-    let block = spare_is_block sizes words views history ghosts i (length (views i).pool.heads - 1) shape li h (omega (arith, three, keeps.heads)) in
+    let kept = keeps sizes words views history ghosts i shape li h in
+    calls_can_begin sizes (views i) kept young (λ three.
+    let block = spare_is_block sizes words views history ghosts i (length (views i).pool.heads - 1) shape li h (omega (arith, three, kept.heads)) in
     let limit = shape.few_blocks in
     omega arith)
 

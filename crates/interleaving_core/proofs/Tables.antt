@@ -37,7 +37,9 @@ use Rattle.interleaving_core.specs.Invariant.{MeetsInvariant, IsAmong, IsAmongHo
 use Rattle.interleaving_core.specs.Moves.{may_wish, may_move, moving_view, may_go, calling_view}
 use Rattle.interleaving_core.specs.Runs.{entries_of}
 use Rattle.interleaving_core.specs.Steps.{is_alone, is_busy, is_in_call, next_action, next_met, next_answer}
-use Rattle.interleaving_core.proofs.Holds.{StepAllowed, step_allowed, step_holds, rests_idle, wish_fits, call_can_begin, alone_begins, call_begins}
+use Rattle.interleaving_core.proofs.Begins.{alone_begins, call_begins}
+use Rattle.interleaving_core.proofs.Holds.{StepAllowed, step_allowed, step_holds}
+use Rattle.interleaving_core.proofs.Standing.{rests_idle, wish_fits, call_can_begin}
 
 -- an action on a table acts on its words by their names
 pub table_acted : (sizes : Sizes) (table : List ℕ) (action : Action) → length table ≡ table_words sizes → InRange sizes (name_of action) → Acted sizes action (word_at sizes table) (word_at sizes (acted sizes table action))

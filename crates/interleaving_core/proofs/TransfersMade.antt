@@ -1,9 +1,6 @@
 -- the steps of transfers, alone and in calls
-use Rattle.std.proofs.Common.{◌≡◌, ◌≢◌, ℕ, ◌<◌, ◌==◌, Bool, true, false, List, refl, sym, ap, ◌∙◌, inl, inr, arith}
+use Rattle.std.proofs.Common.{◌≡◌, ◌≢◌, ℕ, ◌<◌, Bool, true, false, List, refl, sym, ap, ◌∙◌, arith}
 use Rattle.std.specs.Prelude.{if◌then◌else◌}
-use Rattle.std.proofs.Math.Path.{fun_ext}
-use Rattle.std.proofs.lemmas.Bool.{cases_eq}
-use Rattle.std.proofs.lemmas.Bool.Decides.{nat_tests}
 use Rattle.word_layout.specs.Sizes.{Sizes, IsShape, transfer_bound}
 use Rattle.word_layout.specs.Packing.{value_of, reply_of}
 use Rattle.word_layout.specs.declared.reply.Reply.TheVariants.{Nothing}
@@ -19,7 +16,6 @@ use Rattle.transfer_invariant.specs.Memory.{Words, Acted}
 use Rattle.batch_invariant.specs.Batches.{ProcessViews, MovedProcess}
 use Rattle.pool_machine.specs.Steps.{call_met_at}
 use Rattle.pool_invariant.specs.Stages.{is_announcing}
-use Rattle.history_invariant.specs.Ledger.{Ledgers}
 use Rattle.history_invariant.specs.Steps.{with_ledger}
 use Rattle.history_invariant.proofs.Fitting.{step_kept}
 use Rattle.history_invariant.proofs.GoingOn.{going_fits, going_sees}
@@ -30,18 +26,8 @@ use Rattle.call_invariant.proofs.Carried.{transfer_steps_carry, enters_nothing}
 use Rattle.call_invariant.proofs.Standing.{shape_fits}
 use Rattle.call_invariant.proofs.Uses.{transfers_used, uses_transfers, calls_used, uses_calls}
 use Rattle.interleaving_core.specs.Invariant.{Ghosts, Holds, Meets, limits_of}
-use Rattle.interleaving_core.proofs.Joins.{in_step, given, scheduled}
+use Rattle.interleaving_core.proofs.Joins.{in_step, given, scheduled, same_ledgers}
 use Rattle.interleaving_core.proofs.InstallsHold.{transfer_step_holds}
-
--- the ledgers with one that is there already
-with_itself : (i : ℕ) (ledgers : Ledgers) → with_ledger i (ledgers i) ledgers ≡ ledgers
-with_itself i ledgers = fun_ext (λ o. same i o)
-  where
-    same : (i o : ℕ) → with_ledger i (ledgers i) ledgers o ≡ ledgers o
-    same i o = elim (cases_eq o i) [
-      | inl e ↦ let test : (o == i) ≡ true = grind (arith, nat_tests) in rw (test, e) refl
-      | inr ne ↦ let test : (o == i) ≡ false = grind (arith, nat_tests) in rw test refl
-    ]
 
 -- the step of a transfer alone
 pub alone_step_holds : (sizes : Sizes) (words new : Words) (views after : ProcessViews) (history : List Entry) (ghosts : Ghosts) (i : ℕ) → IsShape sizes → i < sizes.processes → Holds sizes words views history ghosts → (views i).calls.way ≡ Alone
@@ -56,7 +42,7 @@ alone_step_holds sizes words new views after history ghosts i shape li h alone a
     transfer_step_holds sizes words new views after history ghosts i x g shape li h acted moved (record {
       parts = record { transfer = refl; pool = refl };
       call = refl;
-      entries = rw (with_itself i ghosts.ledgers) h.entries;
+      entries = rw (same_ledgers i ghosts.ledgers) h.entries;
       same = refl;
       found = λ e. refl;
       uses = uses_transfers sizes i x g x.calls.way alone step;

@@ -1,5 +1,5 @@
 use Rattle.std.proofs.Common.{◌∙◌}
-use Rattle.interleaving_core.proofs.Holds.{content_said}
+use Rattle.interleaving_core.proofs.Opens.{content_said}
 use Rattle.interleaving_core.proofs.Runs.{run_fits}
 use Rattle.interleaving_core.proofs.CallLaws.{kept_read, kept_small, kept_five, process_low}
 use Rattle.interleaving_core.proofs.run.CoreRun.kept.Goals as goal

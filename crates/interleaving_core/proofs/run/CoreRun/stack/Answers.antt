@@ -1,4 +1,4 @@
-use Rattle.interleaving_core.proofs.Holds.{content_said}
+use Rattle.interleaving_core.proofs.Opens.{content_said}
 use Rattle.interleaving_core.proofs.Runs.{run_fits}
 use Rattle.interleaving_core.proofs.run.CoreRun.stack.Goals as goal
 
