@@ -30,7 +30,7 @@ use Rattle.pool_invariant.specs.Stages.{is_moving, is_announcing, IndexFitsAt}
 use Rattle.pool_invariant.specs.StepCount.{steps_before_at}
 use Rattle.pool_invariant.specs.Kept.{Answers, GivenToPool}
 use Rattle.pool_invariant.proofs.Moved.{goes_on, step_stays}
-use Rattle.pool_invariant.proofs.Steps.{step_runs}
+use Rattle.pool_invariant.proofs.Steps.{going_pool, step_runs}
 use Rattle.history_invariant.specs.Ledger.{Ledger}
 use Rattle.history_invariant.specs.Steps.{GoesOn, stepped, announced, ended_with, ended}
 use Rattle.history_invariant.specs.Steps as steps
@@ -50,9 +50,6 @@ going_is_moving s e = (grind arith, grind arith)
 
 moving_not_rest : (s : NextStep) → is_moving s ≡ true → is_rest s ≡ false
 moving_not_rest s e = grind arith
-
-going_counted : (pool : PoolView) (word : ℕ) (s : NextStep) → goes_on s ≡ true → pool_met_at word pool s ≡ step_counted pool
-going_counted pool word s e = grind arith
 
 going_ledger : (word made : ℕ) (s : NextStep) (g : Ledger) → goes_on s ≡ true → ledger_moved_at word made s g ≡ ledger_stepped made g
 going_ledger word made s g e = grind arith
@@ -85,7 +82,7 @@ going_carries : (sizes : Sizes) (i : ℕ) (v : ProcessView) (word : ℕ) (g : Le
     → CarriesOn sizes i (move_counted sizes (record v { transfer = met_at sizes v.transfer word s; pool = pool_met_at word v.pool s })) g (ledger_moved_at word v.calls.steps s g)
 going_carries sizes i v word g s e going some m few =
     let x = met_at sizes v.transfer word s in
-    let same = going_counted v.pool word s going in
+    let same = going_pool v.pool word s going in
     let busy = moving_not_rest x.next (let stays = step_stays sizes v.transfer word s going in stays.moving) in
     rw (going_ledger word v.calls.steps s g going) (record {
       goes = going_goes sizes v g s e going m few;

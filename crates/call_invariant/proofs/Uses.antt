@@ -30,6 +30,7 @@ use Rattle.pool_invariant.proofs.Ending.{moving_unless_rest, step_left}
 use Rattle.history_invariant.specs.Ledger.{Ledger}
 use Rattle.history_invariant.specs.Grips.{total}
 use Rattle.history_invariant.proofs.Totals.{total_le}
+use Rattle.history_invariant.proofs.Unheld.{times_five}
 use Rattle.call_invariant.specs.InCalls.{Scheduled, IsFresh, InCalls}
 use Rattle.call_invariant.specs.InTransfers.{InTransfers}
 use Rattle.call_invariant.specs.Uses.{UsesPoolBy, PoolKeeps}
@@ -131,9 +132,6 @@ uses_stay sizes i v old new Alone account entries h = record { way = h.way; stag
 uses_stay sizes i v old new Calls account entries h = calls_stay sizes i v old new account entries h
 
 -- where each block is held or withheld by a process, few are unheld
-times_five : (processes length : ℕ) → processes * (5 * length) ≡ 5 * processes * length
-times_five processes length = omega arith
-
 pub empty_stack_leaves_few : (sizes : Sizes) (limits : Limits) (history : List Entry) (views : ℕ → ProcessView) → limits.batch_length ≡ sizes.length
     → ((i : ℕ) → i < limits.processes → PoolKeeps sizes (views i))
     → limits.blocks ≤ length (held history) + total limits.processes (λ i. withheld (views i).pool.plan)

@@ -36,7 +36,8 @@ use Rattle.helping_invariant.proofs.Stored.{misses_announcements, stores_announc
 use Rattle.helping_invariant.proofs.Moves.{stay, store, view_idle}
 use Rattle.helping_invariant.proofs.Turns.{view_same, view_ends_try, view_loads_state, view_loads_final}
 use Rattle.helping_invariant.proofs.Makes.{view_announces, view_installs}
-use Rattle.helping_invariant.proofs.LoadSteps.{past, loads, going, exchange_failed, slot_follows, slot_deaf, heard_follows, heard_more, stored_follows, stored_heard, word_step, announcement_step}
+use Rattle.transfer_invariant.proofs.Counts.{slot_follows, heard_follows, stored_follows}
+use Rattle.helping_invariant.proofs.LoadSteps.{past, loads, going, exchange_failed, slot_deaf, heard_more, stored_heard, word_step, announcement_step}
 
 -- the reply that is planned for an applied transfer is the present one
 final_reply : (processes : ℕ) (m : Words) (states : States) (o : ℕ) (v w : TransferView) → o < processes → RepliesPlanned processes v → IsLoaded processes v.loaded (states (loaded_tag v.loaded)) → o < planned_announcements processes v.next → o < heard_announcements processes v.next

@@ -22,6 +22,7 @@ use Rattle.transfer_invariant.specs.Records.{CurrentRecord, LoadedState}
 use Rattle.transfer_invariant.specs.Tags.{InstallOrder}
 use Rattle.transfer_invariant.specs.Invariant.{RecordsHold}
 use Rattle.transfer_invariant.proofs.Acts.{leaves_records}
+use Rattle.transfer_invariant.proofs.Counts.{heard_follows}
 use Rattle.helping_invariant.specs.Holds.{HelpingHolds}
 use Rattle.helping_invariant.proofs.Stored.{loads_leave}
 use Rattle.helping_invariant.proofs.Moves.{stay, LoadedPast}
@@ -61,20 +62,11 @@ record_follows loaded = grind (arith, nat_tests)
 record_deaf : (processes : ℕ) (loaded : Loaded) → heard_announcements processes (after_record loaded) ≡ 0
 record_deaf processes loaded = grind (arith, nat_tests)
 
-pub slot_follows : (t : Bool) (loaded : Loaded) (offset : ℕ) → in_try (if t then ExchangeSlot offset else after_slot loaded offset) ≡ true
-slot_follows t loaded offset = grind (arith, nat_tests)
-
 pub slot_deaf : (processes : ℕ) (t : Bool) (loaded : Loaded) (offset : ℕ) → heard_announcements processes (if t then ExchangeSlot offset else after_slot loaded offset) ≡ 0
 slot_deaf processes t loaded offset = grind (arith, nat_tests)
 
-pub heard_follows : (sizes : Sizes) (process : ℕ) → in_try (after_heard sizes process) ≡ true
-heard_follows sizes process = grind (arith, nat_tests)
-
 pub heard_more : (sizes : Sizes) (process : ℕ) → heard_announcements sizes.processes (after_heard sizes process) ≤ process + 1
 heard_more sizes process = grind (arith, nat_tests)
-
-pub stored_follows : (sizes : Sizes) (index : ℕ) → in_try (after_stored sizes index) ≡ true
-stored_follows sizes index = grind (arith, nat_tests)
 
 pub stored_heard : (sizes : Sizes) (processes index : ℕ) → heard_announcements processes (after_stored sizes index) ≤ processes
 stored_heard sizes processes index = grind (arith, nat_tests)

@@ -8,8 +8,9 @@ use Rattle.transfer_machine.specs.declared.transfer.TransferView.{TransferView}
 use Rattle.transfer_machine.specs.declared.stage.NextStep.{NextStep}
 use Rattle.transfer_machine.specs.declared.stage.NextStep.TheVariants.{LoadState, LoadAnnouncement, LoadFinalState}
 use Rattle.transfer_invariant.specs.Memory.{Words, Views, States, Moved, state_tag}
-use Rattle.transfer_invariant.specs.Progress.{in_try, has_announced, has_begun_try, heard_announcements}
+use Rattle.transfer_invariant.specs.Progress.{in_try, has_announced, heard_announcements}
 use Rattle.transfer_invariant.specs.Tags.{InstallOrder}
+use Rattle.transfer_invariant.proofs.Installs.{try_begun}
 use Rattle.transfer_invariant.proofs.Steps.{try_has}
 use Rattle.helping_invariant.specs.Parts.{HearsPresent}
 use Rattle.helping_invariant.specs.Holds.{HelpingHolds}
@@ -27,9 +28,6 @@ pub record GoesOn (v x : TransferView) : Type 0 where
 -- what is in a try pends
 try_pends : (s : NextStep) → in_try s ≡ true → has_announced s ≡ true
 try_pends s h = grind arith
-
-try_begun : (turn : ℕ) (s : NextStep) → in_try s ≡ true → has_begun_try turn s ≡ true
-try_begun turn s h = grind arith
 
 pends_on : (v x : TransferView) → GoesOn v x → Pends v x
 pends_on v x g = record { was = try_pends v.next g.tries.was; pends = try_pends x.next g.tries.trying; number = g.number; age = g.tries.age; wish = g.wish; room = g.room }

@@ -16,7 +16,7 @@ use Rattle.history_invariant.proofs.Totals.{total_le}
 withholds_five : (length bound quantum : ℕ) (a : Account) → AreSizes length bound quantum → Reached length bound quantum a → withheld a.plan ≤ 5 * length
 withholds_five length bound quantum a sizes r = omega (arith, stands_withholds a (reached_stands length bound quantum a sizes r), (reached_sizes length bound quantum a r).0)
 
-times_five : (processes length : ℕ) → processes * (5 * length) ≡ 5 * processes * length
+pub times_five : (processes length : ℕ) → processes * (5 * length) ≡ 5 * processes * length
 times_five processes length = omega arith
 
 pub few_unheld : (limits : Limits) (bound quantum : ℕ) (history : List Entry) (ledgers : Ledgers) → AreSizes limits.batch_length bound quantum

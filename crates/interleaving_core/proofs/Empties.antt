@@ -34,14 +34,11 @@ use Rattle.history_invariant.specs.Grips as grips
 use Rattle.history_invariant.proofs.Holding.{held_shared}
 use Rattle.call_invariant.specs.Uses.{PoolKeeps}
 use Rattle.call_invariant.proofs.Uses.{empty_stack_leaves_few, idle_pool_rests}
+use Rattle.plan_invariant.proofs.NextState.{wish_reply_stays}
 use Rattle.interleaving_core.specs.Invariant.{Ghosts, Holds, held_in, limits_of}
 use Rattle.interleaving_core.proofs.Joins.{keeps}
 
 -- an announcement changes the reply of its process alone
-granted_reply : (wish : Wish) (s : StackState) → (with_wish wish s).reply ≡ s.reply
-granted_reply Take s = refl
-granted_reply (Give head) s = refl
-
 other_reply : (t : Bool) (k x o : ℕ) (s u : StackState) → u.reply ≡ put k x s.reply → o ≢ k → (if t then u else s).reply o ≡ s.reply o
 other_reply true k x o s u e ne = ap (λ f. f o) e ∙ put_elsewhere k x s.reply o ne
 other_reply false k x o s u e ne = refl

@@ -22,6 +22,7 @@ use Rattle.stack_invariant.specs.Stack.{StackHolds}
 use Rattle.stack_invariant.specs.Gives.{present}
 use Rattle.stack_invariant.proofs.Changes.{present_stays, present_installed}
 use Rattle.stack_invariant.proofs.Follows.{installed_next}
+use Rattle.stack_invariant.proofs.Tables.{first_same}
 use Rattle.interleaving_core.specs.Moves.{CoreState}
 use Rattle.interleaving_core.specs.TransferLaws.{ShowsState, LeavesContent, AppliesPending}
 
@@ -41,11 +42,6 @@ exchanging LoadFinalState = inr (λ e. cc)
 exchanging LoadReply = inr (λ e. cc)
 
 -- a state that is the same as the shown one is shown
-first_same : (count : ℕ) (f g : ℕ → ℕ) → ((k : ℕ) → k < count → f k ≡ g k) → first_of count f ≡ first_of count g
-unfolding first_of
-first_same zero f g h = refl
-first_same (suc count) f g h = rw (first_same count f g (λ k lt. h k (omega arith)), h count (omega arith)) refl
-
 same_heads : (p : ℕ) (t u : StackState) → SameState p t u → first_of t.height t.content ≡ first_of u.height u.content
 same_heads p t u same = rw same.height (first_same u.height t.content u.content same.content)
 

@@ -24,7 +24,7 @@ use Rattle.plan_invariant.specs.Pops.{PopsHold}
 use Rattle.plan_invariant.specs.Holding.{ViewPlans, PlansHold, PlanPremises}
 use Rattle.plan_invariant.proofs.Lists.{either}
 use Rattle.plan_invariant.proofs.Wishes.{some_block, value_of_zero, announced_block}
-use Rattle.plan_invariant.proofs.Numbers.{record_has}
+use Rattle.transfer_invariant.proofs.Loaded.{record_has}
 use Rattle.plan_invariant.proofs.Views.{leaves}
 use Rattle.plan_invariant.proofs.Plans.{ended_none, plans_met}
 use Rattle.plan_invariant.proofs.KeptPlans.{loaded_met}

@@ -31,7 +31,7 @@ put_away : (i x k : ℕ) (f : ℕ → ℕ) → k ≢ i → put i x f k ≡ f k
 put_away i x k f ne = grind (arith, nat_tests)
 
 -- an announcement changes the reply and the count of its process alone
-wish_reply_stays : (wish : Wish) (s : StackState) → (with_wish wish s).reply ≡ s.reply
+pub wish_reply_stays : (wish : Wish) (s : StackState) → (with_wish wish s).reply ≡ s.reply
 wish_reply_stays Take s = refl
 wish_reply_stays (Give head) s = refl
 

@@ -3,7 +3,6 @@ use Rattle.std.proofs.Common.{◌≡◌, ℕ, ◌+◌, ◌-◌, ◌^◌, ◌<◌
 use Rattle.std.specs.Prelude.{nat_lt, ◌&&◌}
 use Rattle.std.proofs.lemmas.Bool.Decides.{nat_tests}
 use Rattle.word_layout.specs.Sizes.{Sizes, blocks}
-use Rattle.word_layout.specs.Names.{record_words}
 use Rattle.transfer_machine.specs.Loads.{loaded_tag, loaded_base, overlay_length, loaded_reply}
 use Rattle.transfer_machine.specs.NextStates.{IsLoaded}
 use Rattle.transfer_machine.specs.States.{StackState}
@@ -11,19 +10,11 @@ use Rattle.transfer_machine.specs.Tries.{pops_slot, is_pending, is_take, announc
 use Rattle.transfer_machine.specs.declared.loaded.Loaded.{Loaded}
 use Rattle.transfer_machine.specs.declared.try_plan.TryPlan.{TryPlan}
 use Rattle.transfer_machine.specs.declared.transfer.TransferView.{TransferView}
-use Rattle.transfer_machine.specs.declared.stage.NextStep.{NextStep}
 use Rattle.transfer_invariant.specs.Memory.{Words, States}
-use Rattle.transfer_invariant.specs.Progress.{has_loaded, has_record, loaded_words}
+use Rattle.transfer_invariant.specs.Progress.{has_record}
 use Rattle.transfer_invariant.specs.Records.{StateFits, StatesFit, LoadedState}
-use Rattle.transfer_invariant.proofs.Loaded.{whole_record}
+use Rattle.transfer_invariant.proofs.Loaded.{loaded_is, record_has}
 use Rattle.plan_invariant.proofs.Wishes.{LoadedFits, answer_fits}
-
--- a view with a whole record
-pub record_whole : (words : ℕ) (s : NextStep) → has_record s ≡ true → loaded_words words s ≡ words
-record_whole words s e = grind arith
-
-pub record_has : (s : NextStep) → has_record s ≡ true → has_loaded s ≡ true
-record_has s e = grind arith
 
 state_loaded_fits : (sizes : Sizes) (loaded : Loaded) (s : StackState) → IsLoaded sizes.processes loaded s → StateFits sizes s → LoadedFits sizes loaded
 state_loaded_fits sizes loaded s l f = record {
@@ -31,10 +22,6 @@ state_loaded_fits sizes loaded s l f = record {
   within = omega (arith, l.height, f.within);
   heads = λ x lt. rw (l.overlay x lt) (f.heads (s.base + x) (omega arith) (omega (arith, l.base, l.height)));
 }
-
-pub loaded_is : (sizes : Sizes) (words : Words) (states : States) (v : TransferView) → StatesFit sizes words states → LoadedState sizes words states v → has_record v.next ≡ true
-    → IsLoaded sizes.processes v.loaded (states (loaded_tag v.loaded))
-loaded_is sizes words states v fits h has = whole_record sizes words states v fits h (record_whole (record_words sizes) v.next has)
 
 pub loaded_fits : (sizes : Sizes) (words : Words) (states : States) (v : TransferView) → StatesFit sizes words states → LoadedState sizes words states v → has_record v.next ≡ true
     → LoadedFits sizes v.loaded

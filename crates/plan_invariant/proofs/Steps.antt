@@ -14,11 +14,12 @@ use Rattle.transfer_machine.specs.declared.stage.NextStep.TheVariants.{Rest, Ann
 use Rattle.transfer_invariant.specs.Memory.{Words, Views, States, state_tag, slot_value}
 use Rattle.transfer_invariant.specs.Progress.{has_record, has_loaded}
 use Rattle.transfer_invariant.specs.Invariant.{Invariant}
+use Rattle.transfer_invariant.proofs.Loaded.{loaded_is}
 use Rattle.transfer_invariant.proofs.Stable.{next_low}
 use Rattle.plan_invariant.specs.Holding.{PlansHold, PlanPremises}
 use Rattle.plan_invariant.specs.Laws.{CoversWithin}
 use Rattle.plan_invariant.proofs.Wishes.{LoadedFits, some_block, few_batches, wish_fits}
-use Rattle.plan_invariant.proofs.Numbers.{IsSlotBelow, loaded_is, loaded_fits, popped_below, can_apply, planned_value_lt}
+use Rattle.plan_invariant.proofs.Numbers.{IsSlotBelow, loaded_fits, popped_below, can_apply, planned_value_lt}
 use Rattle.plan_invariant.proofs.Plans.{Meets}
 use Rattle.plan_invariant.proofs.KeptPlans.{PlanChanges}
 

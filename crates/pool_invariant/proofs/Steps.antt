@@ -31,7 +31,7 @@ going_moving s e = grind arith
 going_announced : (s : NextStep) → goes_on s ≡ true → is_announcing s ≡ false
 going_announced s e = grind arith
 
-going_pool : (pool : PoolView) (word : ℕ) (s : NextStep) → goes_on s ≡ true → pool_met_at word pool s ≡ step_counted pool
+pub going_pool : (pool : PoolView) (word : ℕ) (s : NextStep) → goes_on s ≡ true → pool_met_at word pool s ≡ step_counted pool
 going_pool pool word s e = grind arith
 
 going_age : (v x : TransferView) → AgeFits v → StaysIn v x → AgeFits x

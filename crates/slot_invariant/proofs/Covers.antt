@@ -1,15 +1,12 @@
 -- which slots the overlay covers that a view loaded
 use Rattle.std.proofs.Common.{◌≡◌, ℕ, ◌+◌, ◌<◌, ◌≤◌, true, sym, arith}
 use Rattle.word_layout.specs.Sizes.{Sizes}
-use Rattle.word_layout.specs.Names.{record_words}
 use Rattle.transfer_machine.specs.Loads.{loaded_tag, loaded_base, overlay_length, overlay_head}
-use Rattle.transfer_machine.specs.NextStates.{IsLoaded}
 use Rattle.transfer_machine.specs.declared.transfer.TransferView.{TransferView}
-use Rattle.transfer_machine.specs.declared.stage.NextStep.{NextStep}
 use Rattle.transfer_invariant.specs.Memory.{Words, States, state_tag}
-use Rattle.transfer_invariant.specs.Progress.{has_record, has_loaded, loaded_words}
+use Rattle.transfer_invariant.specs.Progress.{has_record}
 use Rattle.transfer_invariant.specs.Records.{StatesFit, LoadedState}
-use Rattle.transfer_invariant.proofs.Loaded.{whole_record}
+use Rattle.transfer_invariant.proofs.Loaded.{loaded_is, record_has}
 
 -- those of the loaded state, which are slots, and at most one a process
 pub record Covers (sizes : Sizes) (words : Words) (states : States) (v : TransferView) : Type 0 where
@@ -20,24 +17,15 @@ pub record Covers (sizes : Sizes) (words : Words) (states : States) (v : Transfe
   pub few : has_record v.next ≡ true → overlay_length v.loaded ≤ sizes.processes
   pub within : has_record v.next ≡ true → loaded_base v.loaded + overlay_length v.loaded ≤ sizes.batches
 
-record_is_whole : (words : ℕ) (s : NextStep) → has_record s ≡ true → loaded_words words s ≡ words
-record_is_whole words s h = grind arith
-
-record_is_loaded : (s : NextStep) → has_record s ≡ true → has_loaded s ≡ true
-record_is_loaded s h = grind arith
-
-is_loaded : (sizes : Sizes) (words : Words) (states : States) (v : TransferView) → StatesFit sizes words states → LoadedState sizes words states v → has_record v.next ≡ true → IsLoaded sizes.processes v.loaded (states (loaded_tag v.loaded))
-is_loaded sizes words states v fits h has = whole_record sizes words states v fits h (record_is_whole (record_words sizes) v.next has)
-
 few_covered : (base length from height most : ℕ) → base ≡ from → base + length ≡ height → height ≤ from + most → length ≤ most
 few_covered base length from height most eb eh le = omega arith
 
 pub covers : (sizes : Sizes) (words : Words) (states : States) (v : TransferView) → StatesFit sizes words states → LoadedState sizes words states v → Covers sizes words states v
 covers sizes words states v fits h = record {
-  past = λ has. h.past (record_is_loaded v.next has);
-  base = λ has. sym (is_loaded sizes words states v fits h has).base;
-  height = λ has. sym (is_loaded sizes words states v fits h has).height;
-  heads = λ has x lt. let k = is_loaded sizes words states v fits h has in rw k.base (k.overlay x lt);
-  few = λ has. let k = is_loaded sizes words states v fits h has in let f = fits (loaded_tag v.loaded) (h.past (record_is_loaded v.next has)) in few_covered (loaded_base v.loaded) (overlay_length v.loaded) _ _ sizes.processes k.base k.height f.overlay;
-  within = λ has. let k = is_loaded sizes words states v fits h has in let f = fits (loaded_tag v.loaded) (h.past (record_is_loaded v.next has)) in rw k.height f.within;
+  past = λ has. h.past (record_has v.next has);
+  base = λ has. sym (loaded_is sizes words states v fits h has).base;
+  height = λ has. sym (loaded_is sizes words states v fits h has).height;
+  heads = λ has x lt. let k = loaded_is sizes words states v fits h has in rw k.base (k.overlay x lt);
+  few = λ has. let k = loaded_is sizes words states v fits h has in let f = fits (loaded_tag v.loaded) (h.past (record_has v.next has)) in few_covered (loaded_base v.loaded) (overlay_length v.loaded) _ _ sizes.processes k.base k.height f.overlay;
+  within = λ has. let k = loaded_is sizes words states v fits h has in let f = fits (loaded_tag v.loaded) (h.past (record_has v.next has)) in rw k.height f.within;
 }

@@ -1,5 +1,5 @@
 -- the words show the present state, and what steps make of it
-use Rattle.std.proofs.Common.{◌≡◌, ℕ, ◌+◌, ◌-◌, ◌<◌, ◌≤◌, ◌==◌, true, false, refl, sym, ◌∙◌, ap, inl, inr, arith}
+use Rattle.std.proofs.Common.{◌≡◌, ℕ, ◌+◌, ◌-◌, ◌<◌, ◌≤◌, ◌==◌, true, false, sym, ◌∙◌, ap, inl, inr, arith}
 use Rattle.std.specs.Prelude.{nat_lt}
 use Rattle.std.proofs.lemmas.Bool.{cases_lt}
 use Rattle.std.proofs.lemmas.Bool.Decides.{nat_tests}
@@ -8,18 +8,14 @@ use Rattle.word_layout.specs.Names.{record_words}
 use Rattle.transfer_machine.specs.States.{StackState}
 use Rattle.transfer_invariant.specs.Memory.{Words, States, state_tag, current_record, word_value, slot_value, state_value}
 use Rattle.transfer_invariant.specs.Records.{CurrentRecord, StateFits}
-use Rattle.transfer_invariant.proofs.Loaded.{value_reply}
+use Rattle.transfer_invariant.proofs.Loaded.{value_base, value_reply}
 use Rattle.slot_invariant.specs.Slots.{SlotsHold}
 use Rattle.plan_invariant.specs.NextState.{SameState}
 use Rattle.stack_invariant.specs.Shown.{shown_base, shown_height, shown_head, Shows, SameContent}
 use Rattle.stack_invariant.specs.Gives.{present}
 use Rattle.stack_invariant.specs.Laws.{WordsShowState}
 
--- the values of the words of a state's record: the base, how far the height is from it, and the heads from it on
-value_base : (processes : ℕ) (s : StackState) → state_value processes s 0 ≡ s.base
-unfolding state_value
-value_base processes s = refl
-
+-- the values of the words of a state's record: how far the height is from the base, and the heads from it on
 value_height : (processes : ℕ) (s : StackState) → s.base ≤ s.height → s.base + state_value processes s 1 ≡ s.height
 unfolding state_value
 value_height processes s le = omega arith

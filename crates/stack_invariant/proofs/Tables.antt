@@ -11,7 +11,7 @@ use Rattle.stack_invariant.specs.Laws.{TablesShowState}
 use Rattle.stack_invariant.proofs.Content.{words_show}
 
 -- lists of the same first values
-first_same : (count : ℕ) (f g : ℕ → ℕ) → ((k : ℕ) → k < count → f k ≡ g k) → first_of count f ≡ first_of count g
+pub first_same : (count : ℕ) (f g : ℕ → ℕ) → ((k : ℕ) → k < count → f k ≡ g k) → first_of count f ≡ first_of count g
 unfolding first_of
 first_same zero f g h = refl
 first_same (suc count) f g h = rw (first_same count f g (λ k lt. h k (omega arith)), h count (omega arith)) refl

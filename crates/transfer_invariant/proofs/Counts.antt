@@ -48,14 +48,14 @@ record_tries loaded = grind (arith, nat_tests)
 slot_tries : (loaded : Loaded) (offset : ℕ) → in_try (after_slot loaded offset) ≡ true
 slot_tries loaded offset = grind (arith, nat_tests)
 
-heard_tries : (sizes : Sizes) (process : ℕ) → in_try (after_heard sizes process) ≡ true
-heard_tries sizes process = grind (arith, nat_tests)
+pub heard_follows : (sizes : Sizes) (process : ℕ) → in_try (after_heard sizes process) ≡ true
+heard_follows sizes process = grind (arith, nat_tests)
 
-slot_or_exchange : (t : Bool) (loaded : Loaded) (offset : ℕ) → in_try (if t then ExchangeSlot offset else after_slot loaded offset) ≡ true
-slot_or_exchange t loaded offset = grind (arith, nat_tests)
+pub slot_follows : (t : Bool) (loaded : Loaded) (offset : ℕ) → in_try (if t then ExchangeSlot offset else after_slot loaded offset) ≡ true
+slot_follows t loaded offset = grind (arith, nat_tests)
 
-stored_tries : (sizes : Sizes) (index : ℕ) → in_try (after_stored sizes index) ≡ true
-stored_tries sizes index = grind (arith, nat_tests)
+pub stored_follows : (sizes : Sizes) (index : ℕ) → in_try (after_stored sizes index) ≡ true
+stored_follows sizes index = grind (arith, nat_tests)
 
 -- either of two views goes on
 either_trying : (t : Bool) (v a b : TransferView) → GoesOnTrying v a → GoesOnTrying v b → GoesOnTrying v (if t then a else b)
@@ -119,23 +119,23 @@ tags_kept sizes m n views after states i (LoadCoveredSlot offset) few li inv h w
     let name = Slot (loaded_base (views i).loaded + offset) in
     let x = met_at sizes (views i) (m name) (LoadCoveredSlot offset) in
     trying_tags sizes m n views after i x li h moved (leaves_records sizes (Load name) m n a refl).state
-    (trying (views i) x (rw e refl) (slot_or_exchange (nat_lt (tag_of (m name)) (loaded_tag (views i).loaded)) (views i).loaded offset) refl refl refl refl refl)
+    (trying (views i) x (rw e refl) (slot_follows (nat_lt (tag_of (m name)) (loaded_tag (views i).loaded)) (views i).loaded offset) refl refl refl refl refl)
 tags_kept sizes m n views after states i (ExchangeSlot offset) few li inv h w e a moved =
     let x = met_at sizes (views i) 0 (ExchangeSlot offset) in
     trying_tags sizes m n views after i x li h moved (exchanges_slot sizes _ _ _ m n a).state (trying (views i) x (rw e refl) (slot_tries (views i).loaded offset) refl refl refl refl refl)
 tags_kept sizes m n views after states i (LoadAnnouncement process) few li inv h w e a moved =
     let word = m (Announcement process) in
     trying_tags sizes m n views after i (announcement_loaded sizes process word (views i)) li h moved (leaves_records sizes (Load (Announcement process)) m n a refl).state
-    (either_trying (pops_slot sizes.processes (views i).loaded process word (views i).plan) (views i) _ _ (trying (views i) _ (rw e refl) refl refl refl refl refl refl) (trying (views i) _ (rw e refl) (heard_tries sizes process) refl refl refl refl refl))
+    (either_trying (pops_slot sizes.processes (views i).loaded process word (views i).plan) (views i) _ _ (trying (views i) _ (rw e refl) refl refl refl refl refl refl) (trying (views i) _ (rw e refl) (heard_follows sizes process) refl refl refl refl refl))
 tags_kept sizes m n views after states i (LoadPoppedSlot process) few li inv h w e a moved =
     let name = Slot ((views i).plan.base - 1) in
     let x = met_at sizes (views i) (m name) (LoadPoppedSlot process) in
-    trying_tags sizes m n views after i x li h moved (leaves_records sizes (Load name) m n a refl).state (trying (views i) x (rw e refl) (heard_tries sizes process) refl refl refl refl refl)
+    trying_tags sizes m n views after i x li h moved (leaves_records sizes (Load name) m n a refl).state (trying (views i) x (rw e refl) (heard_follows sizes process) refl refl refl refl refl)
 tags_kept sizes m n views after states i (StoreRecordWord index) few li inv h w e a moved =
     let v = views i in
     let x = met_at sizes v 0 (StoreRecordWord index) in
     trying_tags sizes m n views after i x li h moved (stores_word sizes v.next_record index (loaded_tag v.loaded + 1) (planned_value sizes.processes v.plan index) m n (w.store index e) a).state
-    (trying v x (rw e refl) (stored_tries sizes index) refl refl refl refl refl)
+    (trying v x (rw e refl) (stored_follows sizes index) refl refl refl refl refl)
 tags_kept sizes m n views after states i ExchangeState few li inv h w e a moved =
     exchange_tags sizes m n views after i (m State == (views i).loaded.state) few li (inv.own i li) ((inv.loaded i li).past (rw e refl)) h e refl a moved
 tags_kept sizes m n views after states i LoadFinalState few li inv h w e a moved =

@@ -51,7 +51,7 @@ pub record GoesOnTrying (v x : TransferView) : Type 0 where
 try_announced : (s : NextStep) → in_try s ≡ true → has_announced s ≡ true
 try_announced s h = grind arith
 
-try_begun : (turn : ℕ) (s : NextStep) → in_try s ≡ true → has_begun_try turn s ≡ true
+pub try_begun : (turn : ℕ) (s : NextStep) → in_try s ≡ true → has_begun_try turn s ≡ true
 try_begun turn s h = grind arith
 
 try_loads_not : (s : NextStep) → in_try s ≡ true → s ≡ LoadState → ⊥

@@ -11,15 +11,15 @@ use Rattle.transfer_machine.specs.declared.loaded.Loaded.{Loaded}
 use Rattle.transfer_machine.specs.declared.transfer.TransferView.{TransferView}
 use Rattle.transfer_machine.specs.declared.stage.NextStep.{NextStep}
 use Rattle.transfer_invariant.specs.Memory.{Words, States, state_value}
-use Rattle.transfer_invariant.specs.Progress.{has_loaded, loaded_words}
+use Rattle.transfer_invariant.specs.Progress.{has_loaded, has_record, loaded_words}
 use Rattle.transfer_invariant.specs.Records.{StateFits, StatesFit, LoadedState}
 
 -- the values that the words of a state's record have
-value_base : (processes : ℕ) (s : StackState) → state_value processes s 0 ≡ s.base
+pub value_base : (processes : ℕ) (s : StackState) → state_value processes s 0 ≡ s.base
 unfolding state_value
 value_base processes s = refl
 
-value_length : (processes : ℕ) (s : StackState) → state_value processes s 1 ≡ s.height - s.base
+pub value_length : (processes : ℕ) (s : StackState) → state_value processes s 1 ≡ s.height - s.base
 unfolding state_value
 value_length processes s = refl
 
@@ -57,3 +57,14 @@ whole_is sizes loaded s fits h =
 pub whole_record : (sizes : Sizes) (words : Words) (states : States) (v : TransferView) → StatesFit sizes words states → LoadedState sizes words states v → loaded_words (record_words sizes) v.next ≡ record_words sizes → IsLoaded sizes.processes v.loaded (states (loaded_tag v.loaded))
 whole_record sizes words states v fits h whole =
     whole_is sizes v.loaded (states (loaded_tag v.loaded)) (fits (loaded_tag v.loaded) (h.past (whole_has (record_words sizes) v.next (omega arith) whole))) (λ k lt. h.loaded k (rw whole lt))
+
+-- a view with a whole record has loaded that of the loaded state
+pub record_whole : (words : ℕ) (s : NextStep) → has_record s ≡ true → loaded_words words s ≡ words
+record_whole words s has = grind arith
+
+pub record_has : (s : NextStep) → has_record s ≡ true → has_loaded s ≡ true
+record_has s has = grind arith
+
+pub loaded_is : (sizes : Sizes) (words : Words) (states : States) (v : TransferView) → StatesFit sizes words states → LoadedState sizes words states v → has_record v.next ≡ true
+    → IsLoaded sizes.processes v.loaded (states (loaded_tag v.loaded))
+loaded_is sizes words states v fits h has = whole_record sizes words states v fits h (record_whole (record_words sizes) v.next has)

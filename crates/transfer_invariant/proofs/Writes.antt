@@ -1,6 +1,6 @@
 -- the steps that store a record word, and that install a state
-use Rattle.std.proofs.Common.{◌≡◌, ℕ, ◌+◌, ◌-◌, ◌<◌, ◌≤◌, ◌==◌, true, false, refl, inl, inr, arith, length, get_or}
-use Rattle.std.specs.Prelude.{if◌then◌else◌, nat_lt}
+use Rattle.std.proofs.Common.{◌≡◌, ℕ, ◌+◌, ◌-◌, ◌<◌, ◌≤◌, ◌==◌, true, false, refl, inl, inr, arith, length}
+use Rattle.std.specs.Prelude.{nat_lt}
 use Rattle.std.proofs.lemmas.Bool.{cases_eq}
 use Rattle.std.proofs.lemmas.Bool.Decides.{nat_tests}
 use Rattle.word_layout.specs.Sizes.{Sizes}
@@ -15,7 +15,7 @@ use Rattle.transfer_invariant.specs.Installing.{planned_state, with_state, state
 use Rattle.transfer_invariant.specs.Invariant.{RecordsHold}
 use Rattle.transfer_invariant.proofs.Stable.{stay_states}
 use Rattle.transfer_invariant.proofs.Own.{GoesOn, goes_loaded, goes_from, goes_to}
-use Rattle.transfer_machine.specs.Tries.{planned_value, is_pending}
+use Rattle.transfer_machine.specs.Tries.{planned_value}
 use Rattle.transfer_machine.specs.Machine.{after_stored, installed}
 use Rattle.transfer_machine.specs.States.{StackState}
 use Rattle.transfer_invariant.specs.Laws.{PlanFits}
