@@ -7,3 +7,4 @@ pub mod Content
 pub mod TransferLaws
 pub mod Kept
 pub mod CallLaws
+pub mod InvariantLaws

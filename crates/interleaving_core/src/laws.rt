@@ -1,4 +1,5 @@
 //! What holds of every run of the machine. Each law is the contract of a call that does nothing.
 
 pub mod calls;
+pub mod invariant;
 pub mod transfers;
