@@ -21,11 +21,11 @@ heads_differ a b length lt some = omega (arith, mul-le-mul_right {m = a + 1} {n 
 counts_once : (this head : ℕ) → is_head this head ≤ 1
 counts_once this head = grind (arith, nat_tests)
 
-counts_equal : (this head : ℕ) → 1 ≤ is_head this head → head ≡ this
+pub counts_equal : (this head : ℕ) → 1 ≤ is_head this head → head ≡ this
 counts_equal this head h = grind (arith, nat_tests)
 
-counts_not : (this head : ℕ) → head ≢ this → is_head this head ≡ 0
-counts_not this head h = grind (arith, nat_tests)
+pub counts_no_other : (this head : ℕ) → head ≢ this → is_head this head ≡ 0
+counts_no_other this head h = grind (arith, nat_tests)
 
 pub placed_once : (sizes : Sizes) (s : StackState) (views : ProcessViews) (head : ℕ) → IsShape sizes → BatchesPlaced sizes s views → times_placed sizes s views head ≤ 1
 unfolding batches_weight
@@ -35,7 +35,7 @@ placed_once sizes s views head shape placed =
     let here = counts_equal head (k * sizes.length) is in
     let long = two_blocks_a_batch sizes shape in
     let differ = heads_differ o k sizes.length ok (omega arith) in
-    counts_not head (o * sizes.length) (λ e. omega arith)) in
+    counts_no_other head (o * sizes.length) (λ e. omega arith)) in
     omega arith
 
 -- a head that is counted nowhere in a list

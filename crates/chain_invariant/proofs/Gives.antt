@@ -23,7 +23,7 @@ use Rattle.chain_invariant.proofs.Pool.{spare_pooled}
 use Rattle.chain_invariant.proofs.Places.{head_once}
 use Rattle.chain_invariant.proofs.Counts.{content_low, spare_low, transit_low, begun_low, pending_low, current_is_free, current_code, current_next, head_is_free, head_next, held_apart, room}
 
-some_long : (sizes : Sizes) → IsShape sizes → 1 ≤ sizes.length
+pub some_long : (sizes : Sizes) → IsShape sizes → 1 ≤ sizes.length
 some_long sizes shape = omega (arith, two_blocks_a_batch sizes shape)
 
 module _ (sizes : Sizes) (words : Words) (s : StackState) (views : ProcessViews) (held : BlockLists) where

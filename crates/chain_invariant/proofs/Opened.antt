@@ -20,7 +20,7 @@ use Rattle.batch_invariant.proofs.Sums.{total_parts, total_sums}
 use Rattle.batch_invariant.proofs.Transit.{placed_parts}
 use Rattle.batch_invariant.proofs.Opened.{opening_current}
 use Rattle.chain_invariant.specs.Chains.{IsChain, IsChainOf, BlockLists, ChainsHold, times_pooled, blocks_weight}
-use Rattle.chain_invariant.proofs.Weights.{counts_equal}
+use Rattle.batch_invariant.proofs.Apart.{counts_equal}
 use Rattle.chain_invariant.proofs.Pool.{pool_parts}
 
 -- so many numbers from a first one on

@@ -22,7 +22,7 @@ use Rattle.transfer_invariant.specs.Records.{CurrentRecord, LoadedState}
 use Rattle.transfer_invariant.specs.Tags.{InstallOrder}
 use Rattle.transfer_invariant.specs.Invariant.{RecordsHold}
 use Rattle.transfer_invariant.proofs.Acts.{leaves_records}
-use Rattle.transfer_invariant.proofs.Counts.{heard_follows}
+use Rattle.transfer_invariant.proofs.Counts.{record_follows, heard_follows}
 use Rattle.helping_invariant.specs.Holds.{HelpingHolds}
 use Rattle.helping_invariant.proofs.Stored.{loads_leave}
 use Rattle.helping_invariant.proofs.Moves.{stay, LoadedPast}
@@ -55,10 +55,7 @@ exchange_failed sizes m states v l has ne = later (loaded_tag v.loaded) (state_t
     later : (a b : ℕ) → a ≤ b → a ≢ b → a < b
     later a b le ne = omega arith
 
--- what follows in a try is in the try, and the view has heard no more
-record_follows : (loaded : Loaded) → in_try (after_record loaded) ≡ true
-record_follows loaded = grind (arith, nat_tests)
-
+-- what follows in a try has heard no more
 record_deaf : (processes : ℕ) (loaded : Loaded) → heard_announcements processes (after_record loaded) ≡ 0
 record_deaf processes loaded = grind (arith, nat_tests)
 

@@ -5,12 +5,11 @@ use Rattle.word_layout.specs.declared.name.WordName.TheVariants.{State, Announce
 use Rattle.transfer_machine.specs.Loads.{loaded_tag}
 use Rattle.transfer_machine.specs.Machine.{try_ended, met_at}
 use Rattle.transfer_machine.specs.declared.transfer.TransferView.{TransferView}
-use Rattle.transfer_machine.specs.declared.stage.NextStep.{NextStep}
 use Rattle.transfer_machine.specs.declared.stage.NextStep.TheVariants.{LoadState, LoadAnnouncement, LoadFinalState}
 use Rattle.transfer_invariant.specs.Memory.{Words, Views, States, Moved, state_tag}
 use Rattle.transfer_invariant.specs.Progress.{in_try, has_announced, heard_announcements}
 use Rattle.transfer_invariant.specs.Tags.{InstallOrder}
-use Rattle.transfer_invariant.proofs.Installs.{try_begun}
+use Rattle.transfer_invariant.proofs.Installs.{try_announced, try_begun}
 use Rattle.transfer_invariant.proofs.Steps.{try_has}
 use Rattle.helping_invariant.specs.Parts.{HearsPresent}
 use Rattle.helping_invariant.specs.Holds.{HelpingHolds}
@@ -25,15 +24,11 @@ pub record GoesOn (v x : TransferView) : Type 0 where
   pub wish : x.wish ≡ v.wish
   pub room : length x.loaded.announcements ≡ length v.loaded.announcements
 
--- what is in a try pends
-try_pends : (s : NextStep) → in_try s ≡ true → has_announced s ≡ true
-try_pends s h = grind arith
-
 pends_on : (v x : TransferView) → GoesOn v x → Pends v x
-pends_on v x g = record { was = try_pends v.next g.tries.was; pends = try_pends x.next g.tries.trying; number = g.number; age = g.tries.age; wish = g.wish; room = g.room }
+pends_on v x g = record { was = try_announced v.next g.tries.was; pends = try_announced x.next g.tries.trying; number = g.number; age = g.tries.age; wish = g.wish; room = g.room }
 
 pub heard_in_try : (v x : TransferView) → in_try v.next ≡ true → x.age ≡ v.age → x.first_loaded ≡ v.first_loaded → HeardOn v x
-heard_in_try v x was ea ef = record { age = ea; first = ef; announced = λ k. try_pends v.next was; begun = λ k. try_begun v.turn v.next was }
+heard_in_try v x was ea ef = record { age = ea; first = ef; announced = λ k. try_announced v.next was; begun = λ k. try_begun v.turn v.next was }
 
 pub view_tries : (sizes : Sizes) (m : Words) (views after : Views) (states : States) (i : ℕ) (x : TransferView) → i < sizes.processes → HelpingHolds sizes m views states → LoadedPast sizes m views → Moved i x views after → GoesOn (views i) x
     → ((o : ℕ) → o < sizes.processes → HearsPresent sizes.processes m states o x (views o)) → HelpingHolds sizes m after states
@@ -73,7 +68,7 @@ pub view_ends_try : (sizes : Sizes) (m : Words) (views after : Views) (states : 
 view_ends_try sizes m views after states i li h past order was later moved =
     let v = views i in
     let x = try_ended v in
-    let pends : Pends v x = record { was = try_pends v.next was; pends = ended_pends (v.turn == 1); number = refl; age = refl; wish = refl; room = refl } in
+    let pends : Pends v x = record { was = try_announced v.next was; pends = ended_pends (v.turn == 1); number = refl; age = refl; wish = refl; room = refl } in
     view_moves sizes m views after states i x li h past moved (record {
       past = λ k. absurd (grind (arith, k, ended_out (v.turn == 1)));
       announced = pends_announced m states i v x (h.announced i li) pends;

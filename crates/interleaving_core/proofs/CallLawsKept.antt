@@ -133,7 +133,7 @@ keeps_five sizes table views history ghosts i shape li h =
     at_most (kept_said sizes table views history ghosts i li h) (withholds sizes (ghosts.states (state_tag (word_at sizes table))) i (views i) k) k.five
 
 -- how many batches the stack has
-first_many : (count : ℕ) (values : ℕ → ℕ) → length (first_of count values) ≡ count
+pub first_many : (count : ℕ) (values : ℕ → ℕ) → length (first_of count values) ≡ count
 unfolding first_of
 first_many zero values = refl
 first_many (suc count) values = length-append (first_of count values) (values count ∷ []) ∙ plus (first_many count values)

@@ -31,7 +31,7 @@ use Rattle.pool_machine.specs.OwnSteps.{pool_own_met, own_answer_for, own_kind_f
 use Rattle.pool_machine.specs.Steps.{call_met_at, call_answer_at, happened}
 use Rattle.call_invariant.specs.Phases.{changes_pool}
 use Rattle.interleaving_core.specs.Runs.{entries_of}
-use Rattle.interleaving_core.proofs.RunCounts.{allocated_counts}
+use Rattle.interleaving_core.proofs.RunCounts.{allocated_counts, freed_counts}
 
 -- how many steps of its transfer the present call has made
 abbrev pub made_now_at : ℕ → CallView → CallStage → ℕ
@@ -86,13 +86,6 @@ moving_ages sizes v word n stage aged changes busy goes pends =
     (moving_made sizes.quantum n v.pool.plan.done (pool_met_at word v.pool v.transfer.next).plan.done v.calls (v.calls.steps + 1 == sizes.quantum) (step_counts word v.pool v.transfer.next busy pends) (rw stage at aged) changes refl)
 
 -- an own step that makes an entry ends a call
-gave_done : (plan : Numbers) → (after_gave_one plan).done ≡ plan.done
-gave_done plan = grind arith
-
-freed_done : (block : ℕ) (pool : PoolView) (t : Target) → (freed block pool t).plan.done ≡ pool.plan.done
-freed_done block pool target.Current = gave_done pool.plan
-freed_done block pool target.Fresh = gave_done pool.plan
-
 one_entry : (number : ℕ) (pool : PoolView) (block : Option ℕ) → length (entries_of (happened (own_kind_for pool (Some Allocate)) (allocate_answer number block))) ≡ 1
 one_entry number pool None = refl
 one_entry number pool (Some block) = refl
@@ -107,7 +100,7 @@ own_ages : (quantum : ℕ) (v : ProcessView) (word n : ℕ) (call : Option Call)
     → (pool_own_met word v.pool call).plan.done ≡ quantum * (n + length (entries_of (happened (own_kind_for v.pool call) (own_answer_for v.transfer.number v.pool word call)))) + 0
 own_ages quantum v word n None aged = same_call quantum n v.pool.plan.done aged
 own_ages quantum v word n (Some Allocate) aged = next_call quantum n v.pool.plan.done _ _ (allocated_counts word v.pool (source_of v.pool.plan)) aged (one_entry v.transfer.number v.pool (next_block v.pool))
-own_ages quantum v word n (Some (Free block)) aged = next_call quantum n v.pool.plan.done _ 1 (freed_done block v.pool (target_of v.pool.plan)) aged refl
+own_ages quantum v word n (Some (Free block)) aged = next_call quantum n v.pool.plan.done _ 1 (freed_counts block v.pool (target_of v.pool.plan)) aged refl
 own_ages quantum v word n (Some (Read block index)) aged = same_call quantum n v.pool.plan.done aged
 own_ages quantum v word n (Some (Write block index value)) aged = same_call quantum n v.pool.plan.done aged
 

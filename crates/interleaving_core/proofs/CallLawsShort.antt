@@ -1,5 +1,5 @@
 -- a call takes a quantum of steps and its own one at most
-use Rattle.std.proofs.Common.{◌≡◌, ◌≢◌, ℕ, ◌+◌, ◌-◌, ◌<◌, ◌≤◌, ◌==◌, Bool, true, false, List, ◌∷◌, [], ◌++◌, length, refl, sym, arith, get_or-set_same, get_or-set_other}
+use Rattle.std.proofs.Common.{◌≡◌, ◌≢◌, ℕ, ◌+◌, ◌-◌, ◌<◌, ◌≤◌, ◌==◌, Bool, true, false, List, ◌∷◌, [], ◌++◌, length, refl, sym, arith, get_or-set_other}
 use Rattle.std.specs.Prelude.{nat_lt, ◌&&◌, ◌||◌, if◌then◌else◌}
 use Rattle.std.proofs.lemmas.Bool.Decides.{nat_tests}
 use Rattle.word_layout.specs.Sizes.{Sizes}
@@ -25,7 +25,8 @@ use Rattle.interleaving_core.specs.Moves.{CoreState, view_at, calling_view, with
 use Rattle.interleaving_core.specs.Runs.{Turn, Events, IsRun, turns, by_of, is_made, turning_view, after_turn}
 use Rattle.interleaving_core.specs.Steps.{is_alone, is_in_call, next_action, next_met}
 use Rattle.interleaving_core.proofs.Standing.{alone_between}
-use Rattle.interleaving_core.proofs.Runs.{RunFits, turn_low}
+use Rattle.interleaving_core.proofs.Runs.{first_inside, RunFits, turn_low}
+use Rattle.interleaving_core.proofs.RunTurns.{own_view}
 use Rattle.interleaving_core.proofs.CallLaws.{shapes_stay, every_run, quanta_here}
 
 -- a step of a call leaves one step fewer
@@ -62,10 +63,6 @@ begun_calls (Free block) v = refl
 begun_calls (Read block index) v = refl
 begun_calls (Write block index value) v = refl
 
-first_inside : (t : Bool) → is_in_call (if t then Own else Moving) ≡ true
-first_inside true = refl
-first_inside false = refl
-
 begun_inside : (call : Call) (v : ProcessView) → is_in_call (call_begun call v).calls.stage ≡ true
 begun_inside Allocate v = first_inside (is_idle (before_call v).pool.plan.pending)
 begun_inside (Free block) v = first_inside (is_idle (before_call v).pool.plan.pending)
@@ -78,12 +75,9 @@ next_left : (sizes : Sizes) (v : ProcessView) (word : ℕ) → is_alone v.calls.
 next_left sizes v word calls inside few = rw calls (step_left sizes v word v.calls.stage inside few)
 
 -- the view of a process after its turn, and after that of another
-stepped_view : (s : CoreState) (i : ℕ) (v : ProcessView) → i < length s.views → view_at (with_step i v s) i ≡ next_met s.sizes v (met_word s.sizes s.words (next_action s.sizes v))
-stepped_view s i v lt = get_or-set_same s.views i (next_met s.sizes v (met_word s.sizes s.words (next_action s.sizes v))) (opening_view s.sizes i) lt
-
 pub made_view : (s : CoreState) (turn : Turn) → is_made turn s ≡ true → by_of turn < length s.views
     → view_at (after_turn turn s) (by_of turn) ≡ next_met s.sizes (turning_view turn s) (met_word s.sizes s.words (next_action s.sizes (turning_view turn s)))
-made_view s turn made lt = rw made (stepped_view s (by_of turn) (turning_view turn s) lt)
+made_view s turn made lt = rw made (own_view s (by_of turn) (turning_view turn s) lt)
 
 pub other_view : (s : CoreState) (turn : Turn) (i : ℕ) (t : Bool) → by_of turn ≢ i → view_at (if t then with_step (by_of turn) (turning_view turn s) s else s) i ≡ view_at s i
 other_view s turn i true ne = get_or-set_other s.views (by_of turn) i _ (opening_view s.sizes i) (λ e. ne (sym e))

@@ -29,7 +29,7 @@ use Rattle.interleaving_core.specs.Moves.{CoreState, view_at}
 use Rattle.interleaving_core.specs.Runs.{Events, is_made, turning_view, after_turn, turn_answer, entries_of}
 use Rattle.interleaving_core.specs.Steps.{is_alone, is_busy, is_in_call, next_action, next_met, next_answer}
 use Rattle.interleaving_core.specs.CallLaws.{Pends}
-use Rattle.interleaving_core.proofs.Standing.{alone_between}
+use Rattle.interleaving_core.proofs.Standing.{isnt_alone, alone_between}
 use Rattle.interleaving_core.proofs.Joins.{keeps, given}
 use Rattle.interleaving_core.proofs.Runs.{RunFits, turn_low, turn_meets, turn_busy}
 use Rattle.interleaving_core.proofs.CallLawsShort.{made_view, not_alone, begun_calls}
@@ -55,9 +55,6 @@ way_is Fresh stage calls fresh inside = absurd (both_ways (fresh refl) inside)
     both_ways e f = grind arith
 way_is Alone stage calls fresh inside = absurd (grind arith)
 way_is Calls stage calls fresh inside = refl
-
-isnt_alone : (way : Way) → is_alone way ≡ false → way ≢ Alone
-isnt_alone way e is = grind arith
 
 inside_is : (v : ProcessView) → is_alone v.calls.way ≡ false → is_busy v ≡ true → is_in_call v.calls.stage ≡ true
 inside_is v calls busy = rw calls at busy

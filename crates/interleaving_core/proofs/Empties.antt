@@ -1,5 +1,5 @@
 -- a take that an exchange of the state answers with nothing: few blocks are unheld then
-use Rattle.std.proofs.Common.{◌≡◌, ◌≢◌, ℕ, zero, suc, ◌+◌, ◌-◌, ◌*◌, ◌<◌, ◌≤◌, ◌^◌, ◌==◌, Bool, true, false, List, length, refl, sym, ap, ◌∙◌, inl, inr, arith}
+use Rattle.std.proofs.Common.{◌≡◌, ℕ, zero, suc, ◌+◌, ◌-◌, ◌*◌, ◌<◌, ◌≤◌, ◌^◌, ◌==◌, Bool, true, false, List, length, refl, sym, ap, ◌∙◌, inl, inr, arith}
 use Rattle.std.specs.Prelude.{if◌then◌else◌}
 use Rattle.std.proofs.lemmas.Bool.{cases_eq}
 use Rattle.std.proofs.lemmas.Bool.Decides.{nat_tests}
@@ -15,34 +15,30 @@ use Rattle.pool_model.specs.Limits.{slack}
 use Rattle.transfer_schedule.specs.Numbers.{withheld, is_idle}
 use Rattle.transfer_schedule.specs.declared.pending.Pending.{Pending}
 use Rattle.transfer_schedule.specs.declared.pending.Pending.TheVariants.{Idle}
-use Rattle.transfer_machine.specs.States.{StackState, put, with_wish, with_transfer, answer_to, next_of}
+use Rattle.transfer_machine.specs.States.{StackState, put, with_transfer, answer_to, next_of}
 use Rattle.transfer_machine.specs.Tries.{is_pending, is_take, is_odd_transfer, announced_wish}
 use Rattle.transfer_machine.specs.declared.view.ProcessView.{ProcessView}
 use Rattle.transfer_invariant.specs.Memory.{Words, state_tag}
 use Rattle.transfer_invariant.specs.Tags.{total}
 use Rattle.batch_invariant.specs.Batches.{ProcessViews}
 use Rattle.batch_invariant.specs.Premises.{PendingIsPresent}
-use Rattle.batch_invariant.proofs.Applied.{put_here, put_elsewhere}
+use Rattle.batch_invariant.proofs.Applied.{put_here}
 use Rattle.chain_invariant.specs.Chains.{ChainsHold}
 use Rattle.chain_invariant.specs.Laws.{kept_blocks}
 use Rattle.chain_invariant.proofs.Counts.{blocks_counted, content_low}
 use Rattle.chain_invariant.proofs.Kept.{kept_is_withheld}
-use Rattle.word_layout.proofs.Limits.{two_blocks_a_batch}
 use Rattle.chain_invariant.proofs.Moves.{next_chains}
 use Rattle.chain_invariant.proofs.Weights.{total_le}
 use Rattle.history_invariant.specs.Grips as grips
 use Rattle.history_invariant.proofs.Holding.{held_shared}
 use Rattle.call_invariant.specs.Uses.{PoolKeeps}
 use Rattle.call_invariant.proofs.Uses.{empty_stack_leaves_few, idle_pool_rests}
-use Rattle.plan_invariant.proofs.NextState.{wish_reply_stays}
+use Rattle.plan_invariant.proofs.NextState.{either_reply}
+use Rattle.chain_invariant.proofs.Gives.{some_long}
 use Rattle.interleaving_core.specs.Invariant.{Ghosts, Holds, held_in, limits_of}
 use Rattle.interleaving_core.proofs.Joins.{keeps}
 
 -- an announcement changes the reply of its process alone
-other_reply : (t : Bool) (k x o : ℕ) (s u : StackState) → u.reply ≡ put k x s.reply → o ≢ k → (if t then u else s).reply o ≡ s.reply o
-other_reply true k x o s u e ne = ap (λ f. f o) e ∙ put_elsewhere k x s.reply o ne
-other_reply false k x o s u e ne = refl
-
 own_reply : (t : Bool) (k x : ℕ) (s u : StackState) → u.reply ≡ put k x s.reply → t ≡ true → (if t then u else s).reply k ≡ x
 own_reply true k x s u e pending = ap (λ f. f k) e ∙ put_here k x s.reply
 own_reply false k x s u e pending = grind arith
@@ -53,7 +49,7 @@ unfolding next_of
 reply_waits announcements s zero o le = refl
 reply_waits announcements s (suc k) o le =
     let t = next_of k announcements s in
-    other_reply (is_pending (announcements k) (t.reply k)) k _ o t (with_transfer k (announcements k) t) refl (λ e. absurd (omega arith)) ∙ reply_waits announcements s k o (omega arith)
+    either_reply (is_pending (announcements k) (t.reply k)) k _ o t (with_transfer k (announcements k) t) refl (λ e. absurd (omega arith)) ∙ reply_waits announcements s k o (omega arith)
 
 -- and a process whose announcement isn't pending keeps it
 off_reply : (t : Bool) (k : ℕ) (s u : StackState) → t ≡ false → (if t then u else s).reply k ≡ s.reply k
@@ -71,7 +67,7 @@ reply_stays announcements s (suc k) o off = elim (cases_eq o k) [
       rw e (off_reply (is_pending word (t.reply k)) k t (with_transfer k word t) now ∙ reply_waits announcements s k k (omega arith))
   | inr ne ↦
       let t = next_of k announcements s in
-      other_reply (is_pending (announcements k) (t.reply k)) k _ o t (with_transfer k (announcements k) t) refl ne ∙ reply_stays announcements s k o off
+      either_reply (is_pending (announcements k) (t.reply k)) k _ o t (with_transfer k (announcements k) t) refl ne ∙ reply_stays announcements s k o off
 ]
 
 -- a reply that says nothing to a pending take comes from a state without content
@@ -109,7 +105,7 @@ found_empty announcements s (suc k) o lt fits pending take says = elim (cases_eq
       rw e (is_empty t.height (reply_names (is_odd_transfer word) (t.height == 0) (t.content (t.height - 1)) (λ some. fits k (omega arith) (t.height - 1) (not_empty t.height some)) (rw wish at told)))
   | inr ne ↦
       let t = next_of k announcements s in
-      let stays = other_reply (is_pending (announcements k) (t.reply k)) k _ o t (with_transfer k (announcements k) t) refl ne in
+      let stays = either_reply (is_pending (announcements k) (t.reply k)) k _ o t (with_transfer k (announcements k) t) refl ne in
       found_empty announcements s k o (omega arith) (λ j le. fits j (omega arith)) pending take (rw stays at says)
 ]
 
@@ -118,9 +114,6 @@ pub same_total : (count : ℕ) (f : ℕ → ℕ) → grips.total count f ≡ tot
 unfolding grips.total total
 same_total zero f = refl
 same_total (suc count) f = ap (λ n. n + f count) (same_total count f)
-
-some_long : (sizes : Sizes) → IsShape sizes → 1 ≤ sizes.length
-some_long sizes shape = omega (arith, two_blocks_a_batch sizes shape)
 
 idle_is : (p : Pending) → is_idle p ≡ true → p ≡ Idle
 idle_is p e = grind arith

@@ -25,6 +25,7 @@ use Rattle.pool_machine.specs.declared.event.Happened.TheVariants.{Step}
 use Rattle.call_invariant.proofs.Standing.{shape_fits, some_quantum}
 use Rattle.call_invariant.proofs.Uses.{steps_can_count, replies_can_end, moves_can_be_made, calls_used}
 use Rattle.interleaving_core.proofs.Joins.{transfers, supplied, keeps, given, scheduled}
+use Rattle.interleaving_core.proofs.Standing.{isnt_alone}
 use Rattle.interleaving_core.proofs.TransfersMade.{alone_step_holds, call_step_holds}
 use Rattle.interleaving_core.proofs.OwnSteps.{own_step_holds}
 use Rattle.interleaving_core.proofs.OwnAllowed.{own_step_allowed}
@@ -35,9 +36,6 @@ use Rattle.interleaving_core.specs.Steps.{is_alone, is_busy, is_in_call, next_ac
 -- ways and stages
 is_alone_way : (way : Way) → is_alone way ≡ true → way ≡ Alone
 is_alone_way way e = grind arith
-
-isnt_alone_way : (way : Way) → is_alone way ≡ false → way ≢ Alone
-isnt_alone_way way e is = grind arith
 
 rest_not : (s : NextStep) → not (is_rest s) ≡ true → s ≢ Rest
 rest_not s e is = grind arith
@@ -60,7 +58,7 @@ way_holds : (sizes : Sizes) (words new : Words) (views after : ProcessViews) (hi
     → MovedProcess i (if t then view_met sizes (views i) (words (name_of (if t then action_of sizes (views i).transfer else call_action sizes (views i)))) else call_met sizes (views i) (words (name_of (if t then action_of sizes (views i).transfer else call_action sizes (views i))))) views after
     → Meets sizes new after (history ++ entries_of (if t then Step (kind_of (views i).transfer.next) else call_answer (views i) (words (name_of (if t then action_of sizes (views i).transfer else call_action sizes (views i))))))
 way_holds sizes words new views after history ghosts i true shape li h alone busy acted moved = rw (append-nil history) (alone_step_holds sizes words new views after history ghosts i shape li h (is_alone_way (views i).calls.way alone) acted moved)
-way_holds sizes words new views after history ghosts i false shape li h alone busy acted moved = call_stage_holds sizes words new views after history ghosts i (views i).calls.stage shape li h (isnt_alone_way (views i).calls.way alone) refl (busy refl) acted moved
+way_holds sizes words new views after history ghosts i false shape li h alone busy acted moved = call_stage_holds sizes words new views after history ghosts i (views i).calls.stage shape li h (isnt_alone (views i).calls.way alone) refl (busy refl) acted moved
 
 -- what a process with a next step is at
 in_its_call : (v : ProcessView) (t : Bool) → is_alone v.calls.way ≡ t → is_busy v ≡ true → t ≡ false → is_in_call v.calls.stage ≡ true
@@ -119,6 +117,6 @@ step_allowed sizes words views history i shape li (ghosts, h) busy =
       meet = λ alone. meet;
       count = λ alone. steps_can_count sizes v quantum kept give.few (in_its_transfer v busy alone);
       end = λ alone. replies_can_end sizes v word kept give.answers;
-      call_act = λ calls. (call_allowed sizes words views history ghosts i v.calls.stage shape li h (isnt_alone_way v.calls.way calls) refl).0;
-      call_meet = λ calls. (call_allowed sizes words views history ghosts i v.calls.stage shape li h (isnt_alone_way v.calls.way calls) refl).1;
+      call_act = λ calls. (call_allowed sizes words views history ghosts i v.calls.stage shape li h (isnt_alone v.calls.way calls) refl).0;
+      call_meet = λ calls. (call_allowed sizes words views history ghosts i v.calls.stage shape li h (isnt_alone v.calls.way calls) refl).1;
     }

@@ -14,8 +14,7 @@ use Rattle.transfer_machine.specs.declared.call.CallStage.TheVariants.{Own}
 use Rattle.transfer_machine.specs.declared.call.Way.TheVariants.{Alone}
 use Rattle.transfer_invariant.specs.Memory.{Words, state_tag}
 use Rattle.pool_machine.specs.OwnSteps.{block_from, allocate_action, own_action, own_action_for}
-use Rattle.pool_machine.specs.Ready.{CanAllocate, CanFollow, CanOwnFor, CanMeetOwnFor, CanOwn, CanMeetOwn, CanActCall, CanMeetCall}
-use Rattle.pool_machine.specs.Steps.{call_action}
+use Rattle.pool_machine.specs.Ready.{CanAllocate, CanFollow, CanOwnFor, CanMeetOwnFor, CanOwn, CanMeetOwn}
 use Rattle.batch_invariant.specs.Batches.{ProcessViews}
 use Rattle.chain_invariant.specs.Calls.{NamesHeld}
 use Rattle.chain_invariant.proofs.Calls.{own_can_at}
@@ -81,9 +80,3 @@ pub own_step_allowed : (sizes : Sizes) (words : Words) (views : ProcessViews) (h
     → CanOwn sizes (views i) × CanMeetOwn (views i) (words (name_of (own_action (views i))))
 own_step_allowed sizes words views history ghosts i shape li h ne own =
     own_can sizes words views history ghosts i (due_of sizes words views history ghosts i shape li h ne own) (views i).calls.call refl (h.names i li)
-
--- the same of the next step of a call that is at its own one
-pub next_own_allowed : (sizes : Sizes) (words : Words) (views : ProcessViews) (history : List Entry) (ghosts : Ghosts) (i : ℕ) → IsShape sizes → i < sizes.processes → Holds sizes words views history ghosts
-    → (views i).calls.way ≢ Alone → (views i).calls.stage ≡ Own
-    → CanActCall sizes (views i) × CanMeetCall sizes (views i) (words (name_of (call_action sizes (views i))))
-next_own_allowed sizes words views history ghosts i shape li h ne own = rw own (own_step_allowed sizes words views history ghosts i shape li h ne own)

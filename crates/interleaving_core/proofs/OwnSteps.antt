@@ -1,5 +1,5 @@
 -- the own step of a call keeps the invariant, and can be made
-use Rattle.std.proofs.Common.{false, ◌≡◌, ◌≢◌, ℕ, ◌<◌, List, ◌++◌, refl, ap, ◌∙◌, inl, inr, arith}
+use Rattle.std.proofs.Common.{◌≡◌, ◌≢◌, ℕ, ◌<◌, List, ◌++◌, refl, ap, ◌∙◌, inl, inr, arith}
 use Rattle.std.specs.Prelude.{◌==◌, if◌then◌else◌, Contains}
 use Rattle.std.proofs.Math.Path.{fun_ext}
 use Rattle.std.proofs.lemmas.Bool.{cases_eq}
@@ -9,7 +9,6 @@ use Rattle.pool_model.specs.declared.entry.Entry.{Entry}
 use Rattle.pool_model.specs.History.{grip}
 use Rattle.transfer_machine.specs.Words.{name_of}
 use Rattle.transfer_machine.specs.declared.call.CallStage.TheVariants.{Own}
-use Rattle.transfer_machine.specs.declared.call.Way.{Way}
 use Rattle.transfer_machine.specs.declared.call.Way.TheVariants.{Alone}
 use Rattle.transfer_machine.specs.declared.view.ProcessView.{ProcessView}
 use Rattle.transfer_invariant.specs.Memory.{Words, Views, States, Acted, state_tag}
@@ -30,7 +29,6 @@ use Rattle.call_invariant.specs.Uses.{UsesPool}
 use Rattle.call_invariant.proofs.Uses.{uses_calls}
 use Rattle.interleaving_core.specs.Invariant.{Known, Ghosts, held_in, KnowsOfNothing, DataHolds, Holds, Meets}
 use Rattle.interleaving_core.specs.Runs.{entries_of}
-use Rattle.interleaving_core.specs.Steps.{is_alone, next_action, next_met, next_answer}
 use Rattle.interleaving_core.proofs.OwnData.{HeldAreLow, known_by_call, data_stays, others_words_stay, own_data}
 use Rattle.interleaving_core.proofs.OwnLedgers.{OwnDue, due_of, own_goes, own_history}
 use Rattle.interleaving_core.proofs.OwnParts.{ledger_by_call, grip_by_call, finds_by_call, own_leaves_stack}
@@ -163,15 +161,3 @@ pub own_step_holds : (sizes : Sizes) (words new : Words) (views after : ProcessV
     → Meets sizes new after (history ++ entries_of (happened (own_kind (views i)) (own_answer (views i) (words (name_of (own_action (views i)))))))
 own_step_holds sizes words new views after history ghosts i shape li h ne own acted moved =
     (own_ghosts history i (views i) (words (name_of (own_action (views i)))) ghosts, own_step_leaves sizes words new views after history ghosts i shape li h ne own acted moved)
-
--- the same of the next step of a process that is at its own one
-pub not_alone : (way : Way) → is_alone way ≡ false → way ≢ Alone
-not_alone way e = λ alone. cc
-
-pub next_own_holds : (sizes : Sizes) (words new : Words) (views after : ProcessViews) (history : List Entry) (ghosts : Ghosts) (i : ℕ) → IsShape sizes → i < sizes.processes → Holds sizes words views history ghosts
-    → is_alone (views i).calls.way ≡ false → (views i).calls.stage ≡ Own
-    → Acted sizes (next_action sizes (views i)) words new
-    → MovedProcess i (next_met sizes (views i) (words (name_of (next_action sizes (views i))))) views after
-    → Meets sizes new after (history ++ entries_of (next_answer (views i) (words (name_of (next_action sizes (views i))))))
-next_own_holds sizes words new views after history ghosts i shape li h alone own acted moved =
-    rw (alone, own) (own_step_holds sizes words new views after history ghosts i shape li h (not_alone (views i).calls.way alone) own (rw (alone, own) at acted) (rw (alone, own) at moved))

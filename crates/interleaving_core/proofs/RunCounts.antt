@@ -100,7 +100,7 @@ allocated_counts word pool source.Current = grind arith
 allocated_counts word pool source.Spare = grind arith
 allocated_counts word pool source.Nothing = grind arith
 
-freed_counts : (block : ℕ) (pool : PoolView) (s : Target) → (freed block pool s).plan.done ≡ pool.plan.done
+pub freed_counts : (block : ℕ) (pool : PoolView) (s : Target) → (freed block pool s).plan.done ≡ pool.plan.done
 freed_counts block pool target.Current = grind arith
 freed_counts block pool target.Fresh = grind arith
 

@@ -1,25 +1,16 @@
 -- the heads of all batches, in every run
-use Rattle.std.proofs.Common.{◌≡◌, ℕ, zero, suc, ◌+◌, ◌∷◌, [], length, refl, ◌∙◌, arith, length-append}
+use Rattle.std.proofs.Common.{refl}
 use Rattle.word_layout.specs.Names.{word_at}
-use Rattle.transfer_machine.specs.Words.{first_of}
 use Rattle.stack_invariant.specs.Gives.{present}
 use Rattle.stack_invariant.proofs.Tables.{tables_show}
 use Rattle.chain_invariant.proofs.Gives.{stack_has_room, heads_are_blocks, heads_are_apart}
 use Rattle.interleaving_core.specs.Invariant.{held_in}
 use Rattle.interleaving_core.specs.Moves.{view_at}
 use Rattle.interleaving_core.specs.TransferLaws.{HeadsStayApart}
+use Rattle.interleaving_core.proofs.CallLawsKept.{first_many}
 use Rattle.interleaving_core.proofs.Joins.{transfers}
 use Rattle.interleaving_core.proofs.RunStates.{holds_show}
 use Rattle.interleaving_core.proofs.Runs.{run_fits}
-
--- the first so many values of a function
-first_length : (count : ℕ) (f : ℕ → ℕ) → length (first_of count f) ≡ count
-unfolding first_of
-first_length zero f = refl
-first_length (suc count) f = length-append (first_of count f) (f count ∷ []) ∙ plus (first_length count f)
-  where
-    plus : {a b : ℕ} → a ≡ b → a + 1 ≡ suc b
-    plus e = omega (arith, e)
 
 pub heads_stay_apart : HeadsStayApart
 heads_stay_apart sizes past history s run =
@@ -33,7 +24,7 @@ heads_stay_apart sizes past history s run =
       t,
       record {
         shows = holds_show s (transfers (view_at s)) ghosts.states h.stack (λ o lo. refl);
-        few = rw (shown.heads, first_length t.height t.content) (stack_has_room s.sizes words t (view_at s) held fits.shape h.chains);
+        few = rw (shown.heads, first_many t.height t.content) (stack_has_room s.sizes words t (view_at s) held fits.shape h.chains);
         content = content;
         spares = spares;
         on_way = on_way;

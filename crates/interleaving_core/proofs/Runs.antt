@@ -133,7 +133,7 @@ moving_busy wish v Fresh false e fresh rest may = let h = fresh refl in grind ar
 moving_busy wish v Alone false e fresh rest may = rw (e, rest) refl
 moving_busy wish v Calls false e fresh rest may = grind arith
 
-first_inside : (t : Bool) → is_in_call (if t then Own else Moving) ≡ true
+pub first_inside : (t : Bool) → is_in_call (if t then Own else Moving) ≡ true
 first_inside true = refl
 first_inside false = refl
 

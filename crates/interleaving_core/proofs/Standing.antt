@@ -26,7 +26,7 @@ use Rattle.call_invariant.proofs.Uses.{calls_can_begin, calls_used, transfers_us
 use Rattle.interleaving_core.proofs.Joins.{transfers, keeps}
 use Rattle.interleaving_core.specs.Invariant.{Ghosts, Holds, Meets, held_in}
 use Rattle.interleaving_core.specs.Moves.{may_wish}
-use Rattle.interleaving_core.specs.Steps.{is_in_call}
+use Rattle.interleaving_core.specs.Steps.{is_alone, is_in_call}
 
 -- the view of a process has its number
 pub numbered : (sizes : Sizes) (words : Words) (views : ProcessViews) (history : List Entry) (ghosts : Ghosts) (i : ℕ) → i < sizes.processes → Holds sizes words views history ghosts
@@ -35,6 +35,10 @@ numbered sizes words views history ghosts i li h = (each_process sizes words (tr
 
 pub number_holds : (sizes : Sizes) (words : Words) (views : ProcessViews) (history : List Entry) (i : ℕ) → i < sizes.processes → Meets sizes words views history → (views i).transfer.number ≡ i
 number_holds sizes words views history i li (ghosts, h) = numbered sizes words views history ghosts i li h
+
+-- a process that isn't alone
+pub isnt_alone : (way : Way) → is_alone way ≡ false → way ≢ Alone
+isnt_alone way e is = grind arith
 
 -- a process that has begun nothing is at rest, and one that makes transfers alone is in no call
 pub fresh_rests : (sizes : Sizes) (words : Words) (views : ProcessViews) (history : List Entry) (i : ℕ) → i < sizes.processes → Meets sizes words views history → (views i).calls.way ≡ Fresh

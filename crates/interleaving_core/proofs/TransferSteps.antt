@@ -121,9 +121,6 @@ own_knows sizes s i v word g new ExchangeState e calm found h = goes_on_knowing 
 own_knows sizes s i v word g new LoadFinalState e calm found h = goes_on_knowing s i v _ g new (met_goes_on sizes v word LoadFinalState refl (rw e refl)) (found refl) h
 
 -- the facts of all but the moving process
-abbrev ledgers_with : ℕ → Ledger → Ledgers → Ledgers
-ledgers_with i g ledgers = with_ledger i g ledgers
-
 pub each_ledger : (Fact : ℕ → Ledger → Type 0) (i o : ℕ) (g : Ledger) (ledgers : Ledgers) → (o ≡ i → Fact o g) → (o ≢ i → Fact o (ledgers o)) → Fact o (with_ledger i g ledgers o)
 each_ledger Fact i o g ledgers here elsewhere = elim (cases_eq o i) [
   | inl e ↦ let test : (o == i) ≡ true = grind (arith, nat_tests) in rw test (here e)

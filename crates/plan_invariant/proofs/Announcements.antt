@@ -86,11 +86,6 @@ pub announced_kept : (processes : ℕ) (loaded : Loaded) (process word popped : 
 announced_kept processes loaded process word popped plan lt e = kept_reply (is_pending word (loaded_reply processes loaded process)) process _ _ _ plan e lt
 
 -- the reply has the announcement's parity
-kept_parity : (odd : Bool) (old : Bool) → (if odd then not old else old) ≡ false → old ≡ odd
-kept_parity true true e = refl
-kept_parity true false e = grind arith
-kept_parity false old e = e
-
 either_parity : (odd old : Bool) (process x y : ℕ) (one other : TryPlan) → process < length one.replies → process < length other.replies → is_odd_reply x ≡ odd
     → is_odd_reply y ≡ old
     → is_odd_reply (get_or (if (if odd then not old else old) then replied process x one else replied process y other).replies process 0) ≡ odd

@@ -24,9 +24,9 @@ use Rattle.plan_invariant.specs.Pops.{PopsHold}
 use Rattle.plan_invariant.specs.Holding.{ViewPlans, PlansHold, PlanPremises}
 use Rattle.plan_invariant.proofs.Lists.{either}
 use Rattle.plan_invariant.proofs.Wishes.{some_block, value_of_zero, announced_block}
-use Rattle.transfer_invariant.proofs.Loaded.{record_has}
+use Rattle.transfer_invariant.proofs.Loaded.{record_has, ended_has_none}
 use Rattle.plan_invariant.proofs.Views.{leaves}
-use Rattle.plan_invariant.proofs.Plans.{ended_none, plans_met}
+use Rattle.plan_invariant.proofs.Plans.{plans_met}
 use Rattle.plan_invariant.proofs.KeptPlans.{loaded_met}
 use Rattle.plan_invariant.proofs.Slots.{outside, pops_met}
 use Rattle.plan_invariant.proofs.Steps.{view_meets, view_pops, view_changes}
@@ -39,7 +39,7 @@ moved_each P processes views after i x h moved here o lo = elim (cases_eq o i) [
 
 -- a view that made its exchange of the state, or failed, has left its try
 exchanged_none : (sizes : Sizes) (v : TransferView) (word : ℕ) (s : NextStep) → s ≡ ExchangeState → has_record (met_at sizes v word s).next ≡ false
-exchanged_none sizes v word s e = rw e (either TransferView (λ x. has_record x.next ≡ false) (word == v.loaded.state) (installed v) (try_ended v) refl (ended_none (v.turn == 1)))
+exchanged_none sizes v word s e = rw e (either TransferView (λ x. has_record x.next ≡ false) (word == v.loaded.state) (installed v) (try_ended v) refl (ended_has_none (v.turn == 1)))
 
 false_true : (b : Bool) → b ≡ false → b ≡ true → ⊥
 false_true b e h = grind arith

@@ -1,5 +1,5 @@
 -- the kept plan is that of the loaded words, after every step
-use Rattle.std.proofs.Common.{◌≡◌, ℕ, zero, suc, ◌+◌, ◌<◌, ◌≤◌, ◌==◌, Bool, true, false, refl, subst, arith, get_or, set}
+use Rattle.std.proofs.Common.{◌≡◌, ℕ, ◌+◌, ◌<◌, ◌≤◌, ◌==◌, Bool, true, false, refl, subst, set}
 use Rattle.std.specs.Prelude.{if◌then◌else◌, nat_lt}
 use Rattle.word_layout.specs.Sizes.{Sizes}
 use Rattle.word_layout.specs.Names.{records, record_words}
@@ -11,18 +11,10 @@ use Rattle.transfer_machine.specs.declared.loaded.Loaded.{Loaded}
 use Rattle.transfer_machine.specs.declared.transfer.TransferView.{TransferView}
 use Rattle.transfer_machine.specs.declared.stage.NextStep.{NextStep}
 use Rattle.transfer_machine.specs.declared.stage.NextStep.TheVariants.{Rest, Announce, LoadState, LoadRecordWord, LoadCoveredSlot, ExchangeSlot, LoadAnnouncement, LoadPoppedSlot, StoreRecordWord, ExchangeState, LoadFinalState, LoadReply}
-use Rattle.transfer_machine.proofs.Plans.{steps_keep_plan}
+use Rattle.transfer_machine.proofs.Plans.{steps_keep_plan, planned_reads}
 use Rattle.plan_invariant.proofs.Lists.{either}
 
--- the plan reads the loaded record, and no more announcements and popped slots than it applies
-pub planned_reads : (processes : ℕ) (loaded other : Loaded) (k : ℕ) → loaded.record_words ≡ other.record_words
-    → ((j : ℕ) → j < k → get_or loaded.announcements j 0 ≡ get_or other.announcements j 0) → ((j : ℕ) → j < k → get_or loaded.popped j 0 ≡ get_or other.popped j 0)
-    → planned processes loaded k ≡ planned processes other k
-unfolding planned
-planned_reads processes loaded other zero e a b = rw e refl
-planned_reads processes loaded other (suc k) e a b = rw
-    (e, a k (omega arith), b k (omega arith), planned_reads processes loaded other k e (λ j lt. a j (omega arith)) (λ j lt. b j (omega arith))) refl
-
+-- the plan reads the loaded record, announcements and popped slots
 pub planned_stays : (processes : ℕ) (loaded other : Loaded) (k : ℕ) → loaded.record_words ≡ other.record_words → loaded.announcements ≡ other.announcements
     → loaded.popped ≡ other.popped → planned processes loaded k ≡ planned processes other k
 planned_stays processes loaded other k e a b = planned_reads processes loaded other k e (λ j lt. rw a refl) (λ j lt. rw b refl)

@@ -15,7 +15,7 @@ use Rattle.transfer_machine.specs.States.{StackState, put, next_of, with_wish, w
 use Rattle.transfer_machine.specs.Tries.{is_pending}
 use Rattle.transfer_machine.specs.declared.transfer.TransferView.{TransferView}
 use Rattle.transfer_machine.specs.declared.stage.NextStep.TheVariants.{ExchangeState}
-use Rattle.transfer_machine.proofs.NextStates.{plans_are_next_states}
+use Rattle.transfer_machine.proofs.NextStates.{put_here, put_away, plans_are_next_states}
 use Rattle.transfer_invariant.specs.Memory.{Words, Views, States, state_tag}
 use Rattle.transfer_invariant.specs.Installing.{planned_state}
 use Rattle.transfer_invariant.specs.Invariant.{Invariant}
@@ -24,22 +24,12 @@ use Rattle.plan_invariant.specs.NextState.{SameState}
 use Rattle.plan_invariant.proofs.Steps.{view_is}
 
 -- the next state's replies and applied transfers of processes whose announcements aren't met yet
-put_here : (i x : ℕ) (f : ℕ → ℕ) → put i x f i ≡ x
-put_here i x f = grind (arith, nat_tests)
-
-put_away : (i x k : ℕ) (f : ℕ → ℕ) → k ≢ i → put i x f k ≡ f k
-put_away i x k f ne = grind (arith, nat_tests)
-
 -- an announcement changes the reply and the count of its process alone
 pub wish_reply_stays : (wish : Wish) (s : StackState) → (with_wish wish s).reply ≡ s.reply
 wish_reply_stays Take s = refl
 wish_reply_stays (Give head) s = refl
 
-wish_applied_stays : (wish : Wish) (s : StackState) → (with_wish wish s).applied ≡ s.applied
-wish_applied_stays Take s = refl
-wish_applied_stays (Give head) s = refl
-
-either_reply : (b : Bool) (process x o : ℕ) (s t : StackState) → t.reply ≡ put process x s.reply → o ≢ process → (if b then t else s).reply o ≡ s.reply o
+pub either_reply : (b : Bool) (process x o : ℕ) (s t : StackState) → t.reply ≡ put process x s.reply → o ≢ process → (if b then t else s).reply o ≡ s.reply o
 either_reply true process x o s t e ne = ap (λ f. f o) e ∙ put_away process x o s.reply ne
 either_reply false process x o s t e ne = refl
 

@@ -14,6 +14,7 @@ use Rattle.transfer_machine.specs.declared.stage.NextStep.{NextStep}
 use Rattle.transfer_machine.specs.declared.stage.NextStep.TheVariants.{Rest, Announce, LoadState, LoadRecordWord, LoadCoveredSlot, ExchangeSlot, LoadAnnouncement, LoadPoppedSlot, StoreRecordWord, ExchangeState, LoadFinalState, LoadReply}
 use Rattle.transfer_invariant.specs.Progress.{has_record, planned_announcements}
 use Rattle.transfer_invariant.specs.Plans.{OverlayFits}
+use Rattle.transfer_invariant.proofs.Loaded.{ended_has_none}
 use Rattle.plan_invariant.specs.Pops.{heard_process}
 use Rattle.plan_invariant.specs.Holding.{ViewPlans}
 use Rattle.plan_invariant.proofs.Lists.{set_each, either}
@@ -32,9 +33,6 @@ pub record Meets (sizes : Sizes) (v : TransferView) (word : ℕ) : Type 0 where
   pub popped : (process : ℕ) → v.next ≡ LoadPoppedSlot process → value_of word < blocks sizes
 
 -- what follows
-pub ended_none : (t : Bool) → has_record (if t then LoadState else LoadFinalState) ≡ false
-ended_none t = grind arith
-
 pub record_planned : (processes : ℕ) (loaded : Loaded) → planned_announcements processes (after_record loaded) ≡ 0
 record_planned processes loaded = grind (arith, nat_tests)
 
@@ -83,7 +81,7 @@ plans_met sizes v word Announce e m h = leaves_try sizes v _ m.some h refl refl 
 plans_met sizes v word LoadState e m h = leaves_try sizes v _ m.some h refl refl refl refl refl
 plans_met sizes v word (LoadRecordWord index) e m h =
     either TransferView (ViewPlans sizes) (nat_lt (loaded_tag v.loaded) (tag_of word)) (try_ended v) _
-    (leaves_try sizes v (try_ended v) m.some h refl refl refl refl (ended_none (v.turn == 1))) (record_word_plans sizes v index word m.some h)
+    (leaves_try sizes v (try_ended v) m.some h refl refl refl refl (ended_has_none (v.turn == 1))) (record_word_plans sizes v index word m.some h)
 plans_met sizes v word (LoadCoveredSlot offset) e m h =
     let t = nat_lt (tag_of word) (loaded_tag v.loaded) in
     goes_on sizes v (met_at sizes v word (LoadCoveredSlot offset)) h refl refl refl refl (rw e refl)
@@ -117,6 +115,6 @@ plans_met sizes v word (StoreRecordWord index) e m h =
     (rw (stored_process sizes index) m.some)
 plans_met sizes v word ExchangeState e m h =
     either TransferView (ViewPlans sizes) (word == v.loaded.state) (installed v) (try_ended v) (leaves_try sizes v (installed v) m.some h refl refl refl refl refl)
-    (leaves_try sizes v (try_ended v) m.some h refl refl refl refl (ended_none (v.turn == 1)))
+    (leaves_try sizes v (try_ended v) m.some h refl refl refl refl (ended_has_none (v.turn == 1)))
 plans_met sizes v word LoadFinalState e m h = leaves_try sizes v _ m.some h refl refl refl refl refl
 plans_met sizes v word LoadReply e m h = leaves_try sizes v _ m.some h refl refl refl refl refl

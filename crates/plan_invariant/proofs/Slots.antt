@@ -20,8 +20,9 @@ use Rattle.transfer_invariant.specs.Progress.{has_record, planned_announcements}
 use Rattle.plan_invariant.specs.Pops.{heard_process, loads_popped, PopsHold}
 use Rattle.plan_invariant.proofs.Lists.{either}
 use Rattle.plan_invariant.proofs.Views.{below_apart, after_planned}
-use Rattle.plan_invariant.proofs.Plans.{ended_none, record_planned, exchange_planned, slot_planned, stored_planned}
-use Rattle.plan_invariant.proofs.KeptPlans.{planned_reads}
+use Rattle.plan_invariant.proofs.Plans.{record_planned, exchange_planned, slot_planned, stored_planned}
+use Rattle.transfer_machine.proofs.Plans.{planned_reads}
+use Rattle.transfer_invariant.proofs.Loaded.{ended_has_none}
 
 false_true : (b : Bool) → b ≡ false → b ≡ true → ⊥
 false_true b e h = grind arith
@@ -159,7 +160,7 @@ pops_met sizes m states v word LoadState e few room among same value h = none_me
 pops_met sizes m states v word (LoadRecordWord index) e few room among same value h =
     let loaded : Loaded = record v.loaded { record_words = set v.loaded.record_words index word } in
     either TransferView (PopsHold sizes.processes m states) (nat_lt (loaded_tag v.loaded) (tag_of word)) (try_ended v) _
-    (outside sizes.processes m states (try_ended v) (ended_none (v.turn == 1)))
+    (outside sizes.processes m states (try_ended v) (ended_has_none (v.turn == 1)))
     (either TransferView (PopsHold sizes.processes m states) (index + 1 == record_words sizes) (record v { loaded = loaded; next = after_record loaded; plan = begun_plan loaded v.plan }) (record v { loaded = loaded; next = LoadRecordWord (index + 1) })
     (none_met sizes.processes m states _ (record_waits_not loaded) (record_planned sizes.processes loaded)) (none_met sizes.processes m states _ refl refl))
 pops_met sizes m states v word (LoadCoveredSlot offset) e few room among same value h =
@@ -179,6 +180,6 @@ pops_met sizes m states v word (StoreRecordWord index) e few room among same val
     (rw (stored_planned sizes index, e) (omega arith)) (stored_waits_not sizes index)
 pops_met sizes m states v word ExchangeState e few room among same value h =
     either TransferView (PopsHold sizes.processes m states) (word == v.loaded.state) (installed v) (try_ended v)
-    (outside sizes.processes m states (installed v) refl) (outside sizes.processes m states (try_ended v) (ended_none (v.turn == 1)))
+    (outside sizes.processes m states (installed v) refl) (outside sizes.processes m states (try_ended v) (ended_has_none (v.turn == 1)))
 pops_met sizes m states v word LoadFinalState e few room among same value h = outside sizes.processes m states _ refl
 pops_met sizes m states v word LoadReply e few room among same value h = outside sizes.processes m states _ refl

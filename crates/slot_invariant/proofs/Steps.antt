@@ -11,7 +11,8 @@ use Rattle.transfer_machine.specs.Loads.{loaded_tag, loaded_base, overlay_length
 use Rattle.transfer_machine.specs.Tries.{begun_plan, after_announcement}
 use Rattle.transfer_machine.specs.Machine.{try_ended, after_slot, after_record, after_heard, after_stored, record_word_loaded, popped_loaded}
 use Rattle.transfer_machine.specs.declared.transfer.TransferView.{TransferView}
-use Rattle.transfer_machine.specs.declared.stage.NextStep.TheVariants.{LoadState, LoadRecordWord, LoadCoveredSlot, ExchangeSlot, LoadAnnouncement, LoadPoppedSlot, StoreRecordWord, LoadFinalState}
+use Rattle.transfer_machine.specs.declared.stage.NextStep.TheVariants.{LoadRecordWord, LoadCoveredSlot, ExchangeSlot, LoadAnnouncement, LoadPoppedSlot, StoreRecordWord}
+use Rattle.transfer_invariant.proofs.Loaded.{ended_has_none}
 use Rattle.transfer_invariant.specs.Memory.{Words, Views, States, Moved, state_tag, slot_tag, slot_value}
 use Rattle.transfer_invariant.specs.Progress.{has_record}
 use Rattle.transfer_invariant.specs.Invariant.{RecordsHold}
@@ -45,9 +46,6 @@ either_known n true a b h k = h
 either_known n false a b h k = k
 
 -- a try ends
-ended_has_none : (t : Bool) → has_record (if t then LoadState else LoadFinalState) ≡ false
-ended_has_none t = grind arith
-
 pub ended_known : (n : Words) (v : TransferView) → SlotsKnown n v → SlotsKnown n (try_ended v)
 ended_known n v h = nothing_known n (try_ended v) h.room (ended_has_none (v.turn == 1))
 

@@ -42,8 +42,8 @@ idle_tags sizes m n views after i x li h moved e none age =
     tags_stay sizes m n views after i x li h moved e (idle_installs (views i) x none age) (idle_order m x none)
 
 -- what follows in a try is in the try
-record_tries : (loaded : Loaded) → in_try (after_record loaded) ≡ true
-record_tries loaded = grind (arith, nat_tests)
+pub record_follows : (loaded : Loaded) → in_try (after_record loaded) ≡ true
+record_follows loaded = grind (arith, nat_tests)
 
 slot_tries : (loaded : Loaded) (offset : ℕ) → in_try (after_slot loaded offset) ≡ true
 slot_tries loaded offset = grind (arith, nat_tests)
@@ -71,7 +71,7 @@ record_tags : (sizes : Sizes) (m n : Words) (views after : Views) (i index : ℕ
 record_tags sizes m n views after i index loaded true li h same e es moved = ended_tags sizes m n views after i li h moved same (rw e refl)
 record_tags sizes m n views after i index loaded false li h same e es moved =
     trying_tags sizes m n views after i (record_word_loaded sizes index loaded (views i)) li h moved same
-    (either_trying (index + 1 == record_words sizes) (views i) _ _ (trying (views i) _ (rw e refl) (record_tries loaded) refl refl refl refl es) (trying (views i) _ (rw e refl) refl refl refl refl refl es))
+    (either_trying (index + 1 == record_words sizes) (views i) _ _ (trying (views i) _ (rw e refl) (record_follows loaded) refl refl refl refl es) (trying (views i) _ (rw e refl) refl refl refl refl refl es))
 
 -- the state is loaded, at the beginning of a try
 loaded_tags : (sizes : Sizes) (m n : Words) (views after : Views) (i : ℕ) → i < sizes.processes → OwnRecord sizes m i (views i) → TagsHold sizes m views → state_tag n ≡ state_tag m → (views i).next ≡ LoadState → Moved i (met_at sizes (views i) (m State) LoadState) views after → TagsHold sizes n after

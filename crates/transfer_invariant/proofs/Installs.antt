@@ -48,7 +48,7 @@ pub record GoesOnTrying (v x : TransferView) : Type 0 where
   pub first : x.first_loaded ≡ v.first_loaded
   pub loaded : loaded_tag x.loaded ≡ loaded_tag v.loaded
 
-try_announced : (s : NextStep) → in_try s ≡ true → has_announced s ≡ true
+pub try_announced : (s : NextStep) → in_try s ≡ true → has_announced s ≡ true
 try_announced s h = grind arith
 
 pub try_begun : (turn : ℕ) (s : NextStep) → in_try s ≡ true → has_begun_try turn s ≡ true

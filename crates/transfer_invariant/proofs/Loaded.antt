@@ -1,6 +1,6 @@
 -- a whole record that was loaded is that of the loaded state
-use Rattle.std.proofs.Common.{◌≡◌, ℕ, ◌+◌, ◌-◌, ◌<◌, ◌≤◌, ◌==◌, true, false, refl, ◌∙◌, arith}
-use Rattle.std.specs.Prelude.{nat_lt}
+use Rattle.std.proofs.Common.{◌≡◌, ℕ, ◌+◌, ◌-◌, ◌<◌, ◌≤◌, ◌==◌, Bool, true, false, refl, ◌∙◌, arith}
+use Rattle.std.specs.Prelude.{if◌then◌else◌, nat_lt}
 use Rattle.std.proofs.lemmas.Bool.Decides.{nat_tests}
 use Rattle.word_layout.specs.Sizes.{Sizes}
 use Rattle.word_layout.specs.Names.{record_words}
@@ -10,6 +10,7 @@ use Rattle.transfer_machine.specs.NextStates.{IsLoaded}
 use Rattle.transfer_machine.specs.declared.loaded.Loaded.{Loaded}
 use Rattle.transfer_machine.specs.declared.transfer.TransferView.{TransferView}
 use Rattle.transfer_machine.specs.declared.stage.NextStep.{NextStep}
+use Rattle.transfer_machine.specs.declared.stage.NextStep.TheVariants.{LoadState, LoadFinalState}
 use Rattle.transfer_invariant.specs.Memory.{Words, States, state_value}
 use Rattle.transfer_invariant.specs.Progress.{has_loaded, has_record, loaded_words}
 use Rattle.transfer_invariant.specs.Records.{StateFits, StatesFit, LoadedState}
@@ -68,3 +69,7 @@ record_has s has = grind arith
 pub loaded_is : (sizes : Sizes) (words : Words) (states : States) (v : TransferView) → StatesFit sizes words states → LoadedState sizes words states v → has_record v.next ≡ true
     → IsLoaded sizes.processes v.loaded (states (loaded_tag v.loaded))
 loaded_is sizes words states v fits h has = whole_record sizes words states v fits h (record_whole (record_words sizes) v.next has)
+
+-- where a try has ended no record is loaded
+pub ended_has_none : (t : Bool) → has_record (if t then LoadState else LoadFinalState) ≡ false
+ended_has_none t = grind arith

@@ -6,23 +6,17 @@ use Rattle.std.proofs.lemmas.Bool.Decides.{nat_tests}
 use Rattle.word_layout.specs.Sizes.{Sizes}
 use Rattle.word_layout.specs.Names.{record_words}
 use Rattle.word_layout.specs.Packing.{tag_of, value_of}
-use Rattle.word_layout.specs.declared.announced.Wish.{Wish}
-use Rattle.word_layout.specs.declared.announced.Wish.TheVariants.{Take, Give}
 use Rattle.transfer_machine.specs.Loads.{loaded_tag, loaded_reply, overlay_length}
-use Rattle.transfer_machine.specs.Tries.{granted, is_pending, announced_wish, after_announcement, pops_slot, begun_plan}
+use Rattle.transfer_machine.specs.Tries.{is_pending, announced_wish, after_announcement, pops_slot, begun_plan}
 use Rattle.transfer_machine.specs.Machine.{met_at, try_ended, installed, after_slot, after_heard}
 use Rattle.transfer_machine.specs.declared.loaded.Loaded.{Loaded}
 use Rattle.transfer_machine.specs.declared.try_plan.TryPlan.{TryPlan}
 use Rattle.transfer_machine.specs.declared.transfer.TransferView.{TransferView}
 use Rattle.transfer_machine.specs.declared.stage.NextStep.{NextStep}
 use Rattle.transfer_machine.specs.declared.stage.NextStep.TheVariants.{Rest, Announce, LoadState, LoadRecordWord, LoadCoveredSlot, ExchangeSlot, LoadAnnouncement, LoadPoppedSlot, StoreRecordWord, ExchangeState, LoadFinalState, LoadReply}
+use Rattle.transfer_machine.proofs.Plans.{granted_few}
 use Rattle.transfer_invariant.specs.Memory.{Views, Moved}
 use Rattle.transfer_invariant.specs.Plans.{OverlayFitsAt, OverlayFits}
-
--- an announcement adds at most one head
-granted_few : (wish : Wish) (plan : TryPlan) → (granted wish plan).overlay ≤ plan.overlay + 1
-granted_few Take plan = grind (arith, nat_tests)
-granted_few (Give head) plan = omega arith
 
 either_few : (t : Bool) (a b : TryPlan) (most : ℕ) → a.overlay ≤ most → b.overlay ≤ most → (if t then a else b).overlay ≤ most
 either_few true a b most h k = h

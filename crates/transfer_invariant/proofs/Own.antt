@@ -110,9 +110,6 @@ stores_count sizes index = grind (arith, nat_tests)
 pub stores_loaded : (sizes : Sizes) (index : ℕ) → loaded_words (record_words sizes) (after_stored sizes index) ≡ record_words sizes
 stores_loaded sizes index = grind (arith, nat_tests)
 
-pub stores_has : (sizes : Sizes) (index : ℕ) → has_loaded (after_stored sizes index) ≡ true
-stores_has sizes index = grind (arith, nat_tests)
-
 -- its words with one more
 pub one_more_tag : (sizes : Sizes) (m n : Words) (row index tag value : ℕ) → row < records sizes → index < record_words sizes → WordStored sizes m n row index tag value → ((k : ℕ) → k < index → word_tag m row k ≡ tag) → (k : ℕ) → k < index + 1 → word_tag n row k ≡ tag
 one_more_tag sizes m n row index tag value lr low s h k lt = elim (cases_eq k index) [

@@ -8,7 +8,6 @@ use Rattle.word_layout.specs.Packing.{tag_of, value_of}
 use Rattle.transfer_machine.specs.Loads.{loaded_tag, loaded_record}
 use Rattle.transfer_machine.specs.Tries.{begun_plan, after_announcement}
 use Rattle.transfer_machine.specs.Machine.{try_ended, after_slot, after_record, after_heard, record_word_loaded, popped_loaded}
-use Rattle.transfer_machine.specs.declared.loaded.Loaded.{Loaded}
 use Rattle.transfer_machine.specs.declared.transfer.TransferView.{TransferView}
 use Rattle.transfer_machine.specs.declared.stage.NextStep.TheVariants.{LoadRecordWord, LoadCoveredSlot, ExchangeSlot, LoadAnnouncement, LoadPoppedSlot}
 use Rattle.transfer_invariant.specs.Memory.{Words, Views, States, Moved, word_tag, word_value}
@@ -24,9 +23,6 @@ leaves sizes m views after states i x li inv h t none l en ei el moved =
     goes_same sizes m views after states i x li inv (record { next_record = en; installed = ei; state = ap (λ k. k.state) el; has = λ k. absurd (grind (arith, h, k)); tries = λ k. absurd (grind (arith, t, k)) }) none (ap (λ k. k.record_words) el) (omega arith) moved
 
 -- a word of the record is loaded
-word_count : (sizes : Sizes) (index : ℕ) (loaded : Loaded) (t : Bool) → (t ≡ true → index + 1 ≡ record_words sizes) → loaded_words (record_words sizes) (if t then after_record loaded else LoadRecordWord (index + 1)) ≤ index + 1
-word_count sizes index loaded t last = grind (arith, nat_tests)
-
 word_goes_on : (sizes : Sizes) (m : Words) (views after : Views) (states : States) (i index word : ℕ) → sizes.processes ≤ 32 → i < sizes.processes → RecordsHold sizes m views states → (views i).next ≡ LoadRecordWord index
     → tag_of word ≡ word_tag m (loaded_record (views i).loaded) index → value_of word ≡ word_value m (loaded_record (views i).loaded) index → tag_of word ≤ loaded_tag (views i).loaded
     → (x : TransferView) → GoesOn (views i) x → StoresNone sizes x.next → x.loaded.record_words ≡ set (views i).loaded.record_words index word → loaded_words (record_words sizes) x.next ≤ index + 1

@@ -17,10 +17,10 @@ use Rattle.transfer_machine.specs.declared.try_plan.TryPlan.{TryPlan}
 use Rattle.transfer_machine.proofs.Plans.{planned_room, planned_replies, planned_few, granted_replies}
 
 -- a value that is put is read, and the others stay
-put_here : (i x : ℕ) (f : ℕ → ℕ) → put i x f i ≡ x
+pub put_here : (i x : ℕ) (f : ℕ → ℕ) → put i x f i ≡ x
 put_here i x f = grind (arith, nat_tests)
 
-put_away : (i x k : ℕ) (f : ℕ → ℕ) → k ≢ i → put i x f k ≡ f k
+pub put_away : (i x k : ℕ) (f : ℕ → ℕ) → k ≢ i → put i x f k ≡ f k
 put_away i x k f ne = grind (arith, nat_tests)
 
 -- a give

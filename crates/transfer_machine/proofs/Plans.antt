@@ -91,7 +91,7 @@ granted_room : (wish : Wish) (plan : TryPlan) → length (granted wish plan).hea
 granted_room Take plan = grind (arith, nat_tests)
 granted_room (Give head) plan = length-set plan.heads plan.overlay head
 
-granted_few : (wish : Wish) (plan : TryPlan) → (granted wish plan).overlay ≤ plan.overlay + 1
+pub granted_few : (wish : Wish) (plan : TryPlan) → (granted wish plan).overlay ≤ plan.overlay + 1
 granted_few Take plan = grind (arith, nat_tests)
 granted_few (Give head) plan = omega arith
 
@@ -124,7 +124,7 @@ planned_few processes loaded zero = omega arith
 planned_few processes loaded (suc k) = either_few (is_pending (get_or loaded.announcements k 0) (loaded_reply processes loaded k)) k _ _ (suc k) _ _ (omega (arith, granted_few (announced_wish (get_or loaded.announcements k 0)) (planned processes loaded k), planned_few processes loaded k)) (omega (arith, planned_few processes loaded k))
 
 -- the plan reads the loaded record, and no more announcements and popped slots than it applies
-planned_reads : (processes : ℕ) (loaded other : Loaded) (k : ℕ) → loaded.record_words ≡ other.record_words → ((j : ℕ) → j < k → get_or loaded.announcements j 0 ≡ get_or other.announcements j 0) → ((j : ℕ) → j < k → get_or loaded.popped j 0 ≡ get_or other.popped j 0)
+pub planned_reads : (processes : ℕ) (loaded other : Loaded) (k : ℕ) → loaded.record_words ≡ other.record_words → ((j : ℕ) → j < k → get_or loaded.announcements j 0 ≡ get_or other.announcements j 0) → ((j : ℕ) → j < k → get_or loaded.popped j 0 ≡ get_or other.popped j 0)
     → planned processes loaded k ≡ planned processes other k
 unfolding planned
 planned_reads processes loaded other zero e a b = rw e refl
