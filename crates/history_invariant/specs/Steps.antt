@@ -3,29 +3,10 @@ use Rattle.std.specs.Prelude.{◌≡◌, ◌≢◌, ◌==◌, ℕ, ◌+◌, ◌<
 use Rattle.pool_model.specs.declared.entry.Entry.{Entry}
 use Rattle.pool_model.specs.Limits.{Limits, slack}
 use Rattle.pool_model.specs.History.{unheld}
-use Rattle.transfer_schedule.specs.Numbers.{is_taking, is_giving, after_steps, after_end, after_took_one, after_gave_one}
-use Rattle.transfer_schedule.specs.Account.{Account, Between, Moving, Own, after_move, last_take, Follows}
+use Rattle.transfer_schedule.specs.Numbers.{is_taking, is_giving}
+pub use Rattle.transfer_schedule.specs.Account.{stepped, ended_with, got_one, got_none, gave_back}
+use Rattle.transfer_schedule.specs.Account.{Account, Between, Moving, Follows}
 use Rattle.history_invariant.specs.Ledger.{Ledger, Ledgers, IsAnnounced}
-
--- the account after a step of the transfer that goes on, the present call having made so many before
-abbrev pub stepped : ℕ → Account → Account
-stepped made a = record a { plan = after_steps 1 a.plan; phase = after_move a.plan.quantum made }
-
--- the account after the last step of the transfer
-abbrev pub ended_with : Bool → Account → Account
-ended_with found a = record a { plan = after_end found (after_steps 1 a.plan); phase = Own; ended = last_take a }
-
--- the account after an allocate that was given a block
-abbrev pub got_one : Account → Account
-got_one a = record a { plan = after_took_one a.plan; phase = Between; entries = a.entries + 1; gots = a.gots + 1 }
-
--- the account after an allocate that was refused
-abbrev pub got_none : Account → Account
-got_none a = record a { plan = after_took_one a.plan; phase = Between; entries = a.entries + 1 }
-
--- the account after a free
-abbrev pub gave_back : Account → Account
-gave_back a = record a { plan = after_gave_one a.plan; phase = Between; entries = a.entries + 1; backs = a.backs + 1 }
 
 -- the ledger when the transfer is announced: its place is kept, and what a take of it finds is still open
 abbrev pub announced : ℕ → Ledger → Ledger
