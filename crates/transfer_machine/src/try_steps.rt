@@ -81,6 +81,7 @@ impl TransferView {
         ensures action { result ≡ try_action shape.now self.now step }
         ensures within { InRange shape.now (name_of result) }
     {
+        prove!(shape.processes() <= 32);
         match step {
             TryStep::LoadState => load(WordName::State),
             TryStep::LoadRecordWord { index } => load(WordName::RecordWord {
