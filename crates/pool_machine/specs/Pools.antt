@@ -6,18 +6,19 @@ use Rattle.word_layout.specs.declared.announced.Wish.{Wish}
 use Rattle.word_layout.specs.declared.announced.Wish.TheVariants.{Take, Give}
 use Rattle.word_layout.specs.declared.reply.Reply.{Reply}
 use Rattle.word_layout.specs.declared.reply.Reply.TheVariants.{Nothing, Took, Gave}
+use Rattle.transfer_schedule.specs.Beginning as beginning
 use Rattle.transfer_schedule.specs.Numbers as schedule
 use Rattle.transfer_schedule.specs.declared.pending.Pending.{Pending}
 use Rattle.transfer_schedule.specs.declared.pending.Pending.TheVariants.{Idle, Taking, Giving}
 use Rattle.transfer_machine.specs.Machine.{met_of, begun}
 use Rattle.transfer_machine.specs.Opening.{opening_transfer}
-use Rattle.transfer_machine.specs.declared.call.CallView.{CallView}
-use Rattle.transfer_machine.specs.declared.call.CallStage.TheVariants.{Between}
-use Rattle.transfer_machine.specs.declared.call.Way.TheVariants.{Fresh}
-use Rattle.transfer_machine.specs.declared.view.PoolView.{PoolView}
-use Rattle.transfer_machine.specs.declared.view.ProcessView.{ProcessView}
+use Rattle.pool_machine.specs.declared.call.CallView.{CallView}
+use Rattle.pool_machine.specs.declared.call.CallStage.TheVariants.{Between}
+use Rattle.pool_machine.specs.declared.call.Way.TheVariants.{Fresh}
+use Rattle.pool_machine.specs.declared.view.PoolView.{PoolView}
+use Rattle.pool_machine.specs.declared.view.ProcessView.{ProcessView}
 use Rattle.transfer_machine.specs.declared.stage.NextStep.{NextStep}
-use Rattle.transfer_machine.specs.declared.stage.NextStep.TheVariants.{Rest, Announce, LoadState, LoadRecordWord, LoadCoveredSlot, ExchangeSlot, LoadAnnouncement, LoadPoppedSlot, StoreRecordWord, ExchangeState, LoadFinalState, LoadReply}
+use Rattle.transfer_machine.specs.declared.stage.NextStep.TheVariants.{Rest, Announce, Try, LoadFinalState, LoadReply}
 
 -- the pool of a process at the opening: a full current list, and one spare after it
 abbrev pub opening_pool : Sizes → ℕ → PoolView
@@ -41,10 +42,11 @@ abbrev pub pending_of : Wish → Pending
 pending_of Take = Taking
 pending_of (Give head) = Giving
 
--- a transfer with this wish may begin: a take with at most one spare, a give of the newest spare
+-- a transfer with this wish may begin: the plan has the spares for it, and what is given is the newest one
 abbrev pub MayBegin : Wish → PoolView → Type 0
-MayBegin Take pool = pool.plan.spares ≤ 1
-MayBegin (Give head) pool = (1 ≤ length pool.heads) × (1 ≤ pool.plan.spares) × (slice_index pool.heads (length pool.heads - 1) ≡ head)
+MayBegin Take pool = beginning.MayBegin Taking pool.plan.spares
+MayBegin (Give head) pool =
+    (1 ≤ length pool.heads) × beginning.MayBegin Giving pool.plan.spares × (slice_index pool.heads (length pool.heads - 1) ≡ head)
 
 -- the spares and the begun give once this wish is begun: a given batch leaves the spares at once
 abbrev pub wish_begun : Wish → PoolView → PoolView
@@ -73,14 +75,7 @@ step_counted pool = record pool { plan = schedule.after_steps 1 pool.plan }
 abbrev pub pool_met_at : ℕ → PoolView → NextStep → PoolView
 pool_met_at word pool Rest = pool
 pool_met_at word pool Announce = record (step_counted pool) { giving = 0 }
-pool_met_at word pool LoadState = step_counted pool
-pool_met_at word pool (LoadRecordWord index) = step_counted pool
-pool_met_at word pool (LoadCoveredSlot offset) = step_counted pool
-pool_met_at word pool (ExchangeSlot offset) = step_counted pool
-pool_met_at word pool (LoadAnnouncement process) = step_counted pool
-pool_met_at word pool (LoadPoppedSlot process) = step_counted pool
-pool_met_at word pool (StoreRecordWord index) = step_counted pool
-pool_met_at word pool ExchangeState = step_counted pool
+pool_met_at word pool (Try second step) = step_counted pool
 pool_met_at word pool LoadFinalState = step_counted pool
 pool_met_at word pool LoadReply = pool_ended (reply_of (value_of word)) (step_counted pool)
 
