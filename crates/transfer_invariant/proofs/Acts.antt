@@ -1,9 +1,9 @@
 -- what the actions of the views change
-use Rattle.std.proofs.Common.{◌≡◌, ◌≢◌, ℕ, ◌<◌, ◌==◌, Bool, true, false, refl, sym, ◌∙◌, ap, inl, inr, arith}
+use Rattle.std.proofs.Common.{◌≡◌, ◌≢◌, ℕ, ◌<◌, ◌==◌, Bool, true, false, refl, sym, ◌∙◌, ap, inl, inr}
 use Rattle.std.specs.Prelude.{◌⊎◌}
 use Rattle.std.proofs.lemmas.Bool.{cases_eq, false≢true}
 use Rattle.word_layout.specs.Sizes.{Sizes}
-use Rattle.word_layout.specs.Names.{InRange, records, record_words}
+use Rattle.word_layout.specs.Names.{InRange}
 use Rattle.word_layout.specs.Packing.{tag_of, value_of, tagged, value_limit}
 use Rattle.word_layout.specs.declared.name.WordName.{WordName}
 use Rattle.word_layout.specs.declared.name.WordName.TheVariants.{State, Announcement, RecordWord, Slot, Next, Data}
@@ -93,13 +93,11 @@ pub misses_records : (sizes : Sizes) (action : Action) (m n : Words) → Acted s
 unfolding state_tag current_record word_tag word_value
 misses_records sizes action m n a no_state no_word =
     let state : n State ≡ m State = a.elsewhere State tt (λ e. false≢true (sym no_state ∙ sym (ap is_state e))) in
-    let words : (r k : ℕ) → r < records sizes → k < record_words sizes → n (RecordWord r k) ≡ m (RecordWord r k) =
-    λ r k lr lk. a.elsewhere (RecordWord r k) (lr, lk) (λ e. false≢true (sym no_word ∙ sym (ap is_record_word e))) in
     record {
       state = ap tag_of state;
       current = ap value_of state;
-      tags = λ r k lr lk. ap tag_of (words r k lr lk);
-      values = λ r k lr lk. ap value_of (words r k lr lk);
+      tags = λ r k lr lk. ap tag_of (a.elsewhere (RecordWord r k) (lr, lk) (λ e. false≢true (sym no_word ∙ sym (ap is_record_word e))));
+      values = λ r k lr lk. ap value_of (a.elsewhere (RecordWord r k) (lr, lk) (λ e. false≢true (sym no_word ∙ sym (ap is_record_word e))));
     }
 
 pub announces : (sizes : Sizes) (process word : ℕ) (m n : Words) → Acted sizes (Store (Announcement process) word) m n
@@ -116,19 +114,15 @@ pub stores_word : (sizes : Sizes) (row index tag value : ℕ) (m n : Words) → 
 unfolding state_tag current_record word_tag word_value
 stores_word sizes row index tag value m n fits a =
     let state : n State ≡ m State = a.elsewhere State tt (λ e. false≢true (sym (ap is_state e))) in
-    let row_apart : (r k : ℕ) → r < records sizes → k < record_words sizes → r ≢ row → n (RecordWord r k) ≡ m (RecordWord r k) =
-    λ r k lr lk ne. a.elsewhere (RecordWord r k) (lr, lk) (λ e. ne (ap row_of e)) in
-    let index_apart : (r k : ℕ) → r < records sizes → k < record_words sizes → k ≢ index → n (RecordWord r k) ≡ m (RecordWord r k) =
-    λ r k lr lk ne. a.elsewhere (RecordWord r k) (lr, lk) (λ e. ne (ap index_of e)) in
     record {
       state = ap tag_of state;
       current = ap value_of state;
       tag_here = ap tag_of a.here ∙ tag_of-tagged tag value fits;
       value_here = ap value_of a.here ∙ value_of-tagged tag value fits;
-      row_tags = λ r k lr lk ne. ap tag_of (row_apart r k lr lk ne);
-      row_values = λ r k lr lk ne. ap value_of (row_apart r k lr lk ne);
-      index_tags = λ r k lr lk ne. ap tag_of (index_apart r k lr lk ne);
-      index_values = λ r k lr lk ne. ap value_of (index_apart r k lr lk ne);
+      row_tags = λ r k lr lk ne. ap tag_of (a.elsewhere (RecordWord r k) (lr, lk) (λ e. ne (ap row_of e)));
+      row_values = λ r k lr lk ne. ap value_of (a.elsewhere (RecordWord r k) (lr, lk) (λ e. ne (ap row_of e)));
+      index_tags = λ r k lr lk ne. ap tag_of (a.elsewhere (RecordWord r k) (lr, lk) (λ e. ne (ap index_of e)));
+      index_values = λ r k lr lk ne. ap value_of (a.elsewhere (RecordWord r k) (lr, lk) (λ e. ne (ap index_of e)));
     }
 
 -- the state is exchanged, or not
@@ -137,13 +131,11 @@ pub exchanges_state : (sizes : Sizes) (old tag row : ℕ) (m n : Words) → row 
 unfolding state_tag current_record word_tag word_value
 exchanges_state sizes old tag row m n fits same a =
     let state : n State ≡ tagged tag row = rw same at a.here in
-    let words : (r k : ℕ) → r < records sizes → k < record_words sizes → n (RecordWord r k) ≡ m (RecordWord r k) =
-    λ r k lr lk. a.elsewhere (RecordWord r k) (lr, lk) (λ e. false≢true (sym (ap is_record_word e))) in
     record {
       state = ap tag_of state ∙ tag_of-tagged tag row fits;
       current = ap value_of state ∙ value_of-tagged tag row fits;
-      tags = λ r k lr lk. ap tag_of (words r k lr lk);
-      values = λ r k lr lk. ap value_of (words r k lr lk);
+      tags = λ r k lr lk. ap tag_of (a.elsewhere (RecordWord r k) (lr, lk) (λ e. false≢true (sym (ap is_record_word e))));
+      values = λ r k lr lk. ap value_of (a.elsewhere (RecordWord r k) (lr, lk) (λ e. false≢true (sym (ap is_record_word e))));
     }
 
 pub keeps_state : (sizes : Sizes) (old new : ℕ) (m n : Words) → (m State == old) ≡ false → Acted sizes (Exchange State old new) m n
