@@ -1,7 +1,7 @@
 -- what the actions of the views do to the slots
-use Rattle.std.proofs.Common.{false≢true, ◌≡◌, ◌≢◌, ℕ, ◌<◌, ◌^◌, ◌==◌, Bool, true, false, refl, sym, ◌∙◌, ap, inl, inr, arith}
+use Rattle.std.proofs.Common.{◌≡◌, ◌≢◌, ℕ, ◌<◌, ◌==◌, Bool, true, false, refl, sym, ◌∙◌, ap, inl, inr}
 use Rattle.std.specs.Prelude.{◌⊎◌}
-use Rattle.std.proofs.lemmas.Bool.{cases_eq}
+use Rattle.std.proofs.lemmas.Bool.{cases_eq, false≢true}
 use Rattle.word_layout.specs.Sizes.{Sizes}
 use Rattle.word_layout.specs.Packing.{tag_of, value_of, tagged, value_limit}
 use Rattle.word_layout.specs.declared.name.WordName.{WordName}
