@@ -1,8 +1,9 @@
 -- how the number of states that a view may have installed goes on
-use Rattle.std.proofs.Common.{◌*◌, ◌≡◌, ◌≢◌, ℕ, zero, suc, ◌+◌, ◌<◌, ◌≤◌, Bool, true, false, refl, ap, inl, inr, arith}
+use Rattle.std.proofs.Common.{◌*◌, ◌≡◌, ℕ, ◌+◌, ◌<◌, ◌≤◌, Bool, true, false, refl, ap, inl, inr, arith}
 use Rattle.std.specs.Prelude.{if◌then◌else◌}
 use Rattle.std.proofs.lemmas.Bool.{cases_eq}
 use Rattle.std.proofs.lemmas.Bool.Decides.{nat_tests}
+use Rattle.process_sums.proofs.Sums.{total_moved, total_at_most}
 use Rattle.word_layout.specs.Sizes.{Sizes}
 use Rattle.word_layout.specs.Packing.{most_age}
 use Rattle.transfer_machine.specs.Loads.{loaded_tag}
@@ -13,22 +14,7 @@ use Rattle.transfer_machine.specs.declared.stage.NextStep.TheVariants.{Announce,
 use Rattle.transfer_machine.specs.declared.stage.TryStep.TheVariants.{LoadState, LoadRecordWord, ExchangeState}
 use Rattle.transfer_invariant.specs.Memory.{Words, Views, Moved, state_tag}
 use Rattle.transfer_invariant.specs.Progress.{in_try, has_announced, has_begun_try}
-use Rattle.transfer_invariant.specs.Tags.{InstallOrder, TagsHold, installs, total}
-
--- the sum where one number changes
-pub total_same : (count : ℕ) (f g : ℕ → ℕ) → ((o : ℕ) → o < count → g o ≡ f o) → total count g ≡ total count f
-unfolding total
-total_same zero f g h = refl
-total_same (suc count) f g h = omega (arith, total_same count f g (λ o lt. h o (omega arith)), h count (omega arith))
-
-pub total_moved : (count i : ℕ) (f g : ℕ → ℕ) → i < count → ((o : ℕ) → o < count → o ≢ i → g o ≡ f o)
-    → total count g + f i ≡ total count f + g i
-unfolding total
-total_moved zero i f g lt h = absurd (omega arith)
-total_moved (suc count) i f g lt h = elim (cases_eq count i) [
-  | inl e ↦ rw (← e) (omega (arith, total_same count f g (λ o l. h o (omega arith) (omega arith))))
-  | inr ne ↦ omega (arith, total_moved count i f g (omega arith) (λ o l. h o (omega arith)), h count (omega arith) ne)
-]
+use Rattle.transfer_invariant.specs.Tags.{InstallOrder, TagsHold, installs}
 
 -- the number of states rises only with what the moving view may have installed
 pub order_stays : (m n : Words) (v : TransferView) → InstallOrder m v → state_tag m ≤ state_tag n → InstallOrder n v
@@ -141,19 +127,15 @@ pub idle_installs : (v x : TransferView) → has_announced x.next ≡ false → 
 unfolding installs
 idle_installs v x h ea = grind (arith, nat_tests)
 
--- at most as many each as its age
-installs_age : (v : TransferView) → installs v ≤ v.age
+-- at most as many each as its age may be
+installs_few : (v : TransferView) (most : ℕ) → v.age ≤ most → installs v ≤ most
 unfolding installs
-installs_age v = omega arith
-
-total_le : (count : ℕ) (f : ℕ → ℕ) → ((o : ℕ) → o < count → f o ≤ most_age) → total count f ≤ count * most_age
-unfolding total
-total_le zero f h = omega arith
-total_le (suc count) f h = omega (arith, total_le count f (λ o lt. h o (omega arith)), h count (omega arith))
+installs_few v most le = omega arith
 
 pub few_tags : (sizes : Sizes) (words : Words) (views : Views) → sizes.processes ≤ 32 → TagsHold sizes words views
     → ((i : ℕ) → i < sizes.processes → (views i).age ≤ most_age) → state_tag words ≤ 32 * most_age + 1
 few_tags sizes words views few h ages =
-    let most =
-    total_le sizes.processes (λ i. installs (views i)) (λ o lo. let a = installs_age (views o) in let b = ages o lo in omega arith) in
-    let count = h.count in omega arith
+    let each = λ (o : ℕ) (lo : o < sizes.processes). installs_few (views o) most_age (ages o lo) in
+    let most = total_at_most most_age sizes.processes (λ i. installs (views i)) each in
+    let count = h.count in
+    omega arith

@@ -147,8 +147,7 @@ store_own_view sizes m n i second index v li h e low s =
     let row = next_low sizes.processes i v.next_record li h.next in
     let tag = loaded_tag v.loaded + 1 in
     let planned = planned_value sizes.processes v.plan in
-    let stored : (k : ℕ) → k < stored_in_try (record_words sizes) (after_stored sizes index) → k < index + 1 =
-    λ k lt. rw (stores_count sizes index) at lt in
+    let count = stores_count sizes index in
     record {
       index = stores_next sizes index low;
       next = h.next;
@@ -156,9 +155,9 @@ store_own_view sizes m n i second index v li h e low s =
       installed = rw s.state h.installed;
       tried = λ t. h.tried (rw e refl);
       stored_tags = λ k lt.
-          one_more_tag sizes m n v.next_record index tag (planned index) row low s (λ j lj. h.stored_tags j (rw e lj)) k (stored k lt);
+          one_more_tag sizes m n v.next_record index tag (planned index) row low s (λ j lj. h.stored_tags j (rw e lj)) k (rw count at lt);
       stored_values = λ k lt.
-          one_more_value sizes m n v.next_record index tag planned row low s (λ j lj. h.stored_values j (rw e lj)) k (stored k lt);
+          one_more_value sizes m n v.next_record index tag planned row low s (λ j lj. h.stored_values j (rw e lj)) k (rw count at lt);
     }
 
 -- the state is installed: the process goes over to its other record

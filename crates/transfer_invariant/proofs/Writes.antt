@@ -43,8 +43,8 @@ store_step sizes m n views after states i second index li inv e s moved =
     let past : loaded_tag v.loaded ≤ state_tag m = loaded.past (rw e refl) in
     let below : v.installed < tag = omega arith in
     let g : KeepsLoaded v x = within v x (rw e refl) refl refl refl in
-    let loads : (w : TransferView) → LoadedState sizes m states w → OwnerWentOn w v → LoadedState sizes n states w =
-    λ w h o. store_loaded sizes m n states index tag value v w h o below low s in
+    let loads = λ (w : TransferView) (h : LoadedState sizes m states w) (o : OwnerWentOn w v).
+    store_loaded sizes m n states index tag value v w h o below low s in
     assemble sizes n views after states i x moved (record {
       current = store_current sizes m n states i index tag value v own inv.current s;
       states_fit = stay_states sizes m n states inv.states_fit s.state;
