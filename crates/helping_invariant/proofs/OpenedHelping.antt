@@ -20,7 +20,8 @@ unfolding opening_state is_odd_reply
 opened_counts sizes words = record { rises = λ o a b lo le lb. omega arith; parities = λ o m lo le. refl }
 
 -- no announcement was made
-opened_announced : (sizes : Sizes) (words : Words) (i : ℕ) → words (Announcement i) ≡ 0 → AnnouncementHolds words (λ m. opening_state sizes) i (opening_transfer i)
+opened_announced : (sizes : Sizes) (words : Words) (i : ℕ) → words (Announcement i) ≡ 0
+    → AnnouncementHolds words (λ m. opening_state sizes) i (opening_transfer i)
 unfolding opening_state tag_of
 opened_announced sizes words i e = record {
   number = refl;
@@ -35,7 +36,9 @@ opened_announced sizes words i e = record {
     false_true : false ≡ true → ⊥
     false_true h = grind arith
 
-pub opened_helping : (sizes : Sizes) (words : Words) (views : Views) → ((name : WordName) → InRange sizes name → words name ≡ opening_word sizes name) → ((i : ℕ) → i < sizes.processes → views i ≡ opening_transfer i) → HelpingHolds sizes words views (λ m. opening_state sizes)
+pub opened_helping : (sizes : Sizes) (words : Words) (views : Views)
+    → ((name : WordName) → InRange sizes name → words name ≡ opening_word sizes name)
+    → ((i : ℕ) → i < sizes.processes → views i ≡ opening_transfer i) → HelpingHolds sizes words views (λ m. opening_state sizes)
 opened_helping sizes words views opened seats = record {
   counts = opened_counts sizes words;
   announced = λ i li. rw (seats i li) (opened_announced sizes words i (opened (Announcement i) li));

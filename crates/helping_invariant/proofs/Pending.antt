@@ -1,5 +1,5 @@
 -- whether an announcement pends, as a comparison of parities, and what the planned state applies
-use Rattle.std.proofs.Common.{◌≡◌, ◌≢◌, ℕ, ◌+◌, ◌%◌, ◌<◌, ◌==◌, true, false, not, refl, sym, ◌∙◌, inl, inr, arith}
+use Rattle.std.proofs.Common.{◌≡◌, ◌≢◌, ℕ, ◌+◌, ◌%◌, ◌<◌, ◌==◌, Bool, true, false, not, refl, sym, ◌∙◌, inl, inr, arith}
 use Rattle.std.specs.Prelude.{if◌then◌else◌}
 use Rattle.std.proofs.lemmas.Bool.Decides.{nat_tests}
 use Rattle.std.proofs.lemmas.Bool.{cases_eq}
@@ -9,7 +9,8 @@ use Rattle.transfer_machine.specs.Tries.{is_pending}
 use Rattle.transfer_machine.specs.NextStates.{IsLoaded}
 use Rattle.transfer_machine.specs.States.{StackState}
 use Rattle.transfer_machine.specs.declared.transfer.TransferView.{TransferView}
-use Rattle.transfer_machine.specs.declared.stage.NextStep.TheVariants.{ExchangeState}
+use Rattle.transfer_machine.specs.declared.stage.NextStep.TheVariants.{Try}
+use Rattle.transfer_machine.specs.declared.stage.TryStep.TheVariants.{ExchangeState}
 use Rattle.transfer_invariant.specs.Installing.{planned_state}
 use Rattle.transfer_invariant.specs.Plans.{RepliesPlanned}
 use Rattle.helping_invariant.specs.Parts.{heard}
@@ -29,16 +30,20 @@ pends_test a b = elim (cases_eq (a % 2) 1) [
 ]
 
 -- an announcement pends against the reply to so many transfers where the parities differ
-pub pends_where : (word reply applied : ℕ) → is_odd_reply reply ≡ (applied % 2 == 1) → is_pending word reply ≡ not (tag_of word % 2 == applied % 2)
+pub pends_where : (word reply applied : ℕ) → is_odd_reply reply ≡ (applied % 2 == 1)
+    → is_pending word reply ≡ not (tag_of word % 2 == applied % 2)
 pends_where word reply applied e = rw e (pends_test (tag_of word) applied)
 
-pub pends_not : (word reply applied : ℕ) → is_odd_reply reply ≡ (applied % 2 == 1) → tag_of word % 2 ≡ applied % 2 → is_pending word reply ≡ false
+pub pends_not : (word reply applied : ℕ) → is_odd_reply reply ≡ (applied % 2 == 1) → tag_of word % 2 ≡ applied % 2
+    → is_pending word reply ≡ false
 pends_not word reply applied e same = let test : (tag_of word % 2 == applied % 2) ≡ true = grind (arith, nat_tests) in rw (pends_where word reply applied e, test) refl
 
-pub pends_so : (word reply applied : ℕ) → is_odd_reply reply ≡ (applied % 2 == 1) → tag_of word % 2 ≢ applied % 2 → is_pending word reply ≡ true
+pub pends_so : (word reply applied : ℕ) → is_odd_reply reply ≡ (applied % 2 == 1) → tag_of word % 2 ≢ applied % 2
+    → is_pending word reply ≡ true
 pends_so word reply applied e ne = let test : (tag_of word % 2 == applied % 2) ≡ false = grind (arith, nat_tests) in rw (pends_where word reply applied e, test) refl
 
-pub pends_differs : (word reply applied : ℕ) → is_odd_reply reply ≡ (applied % 2 == 1) → is_pending word reply ≡ true → tag_of word % 2 ≢ applied % 2
+pub pends_differs : (word reply applied : ℕ) → is_odd_reply reply ≡ (applied % 2 == 1) → is_pending word reply ≡ true
+    → tag_of word % 2 ≢ applied % 2
 pends_differs word reply applied e p = λ same. true_false (sym p ∙ pends_not word reply applied e same)
   where
     true_false : true ≡ false → ⊥
@@ -52,10 +57,12 @@ same_parity : (a b : ℕ) → a % 2 ≡ b % 2 → (a % 2 == 1) ≡ (b % 2 == 1)
 same_parity a b e = rw e refl
 
 -- the planned state applies what its view heard
-pub planned_applies : (sizes : Sizes) (s : StackState) (v : TransferView) → v.next ≡ ExchangeState → IsLoaded sizes.processes v.loaded s → RepliesPlanned sizes.processes v
-    → ((o : ℕ) → o < sizes.processes → is_odd_reply (s.reply o) ≡ (s.applied o % 2 == 1)) → AppliesHeard sizes.processes s (planned_state s v) v
+pub planned_applies : (sizes : Sizes) (s : StackState) (second : Bool) (v : TransferView) → v.next ≡ Try second ExchangeState
+    → IsLoaded sizes.processes v.loaded s → RepliesPlanned sizes.processes v
+    → ((o : ℕ) → o < sizes.processes → is_odd_reply (s.reply o) ≡ (s.applied o % 2 == 1))
+    → AppliesHeard sizes.processes s (planned_state s v) v
 unfolding planned_state
-planned_applies sizes s v e loaded plans parities = record {
+planned_applies sizes s second v e loaded plans parities = record {
   same_applied = λ o lo same. rw (pends_not (heard v o) (s.reply o) (s.applied o) (parities o lo) same) refl;
   more_applied = λ o lo ne. rw (pends_so (heard v o) (s.reply o) (s.applied o) (parities o lo) ne) refl;
   same_reply = λ o lo same. plans.kept o (rw e lo) (rw (loaded.replies o lo) (pends_not (heard v o) (s.reply o) (s.applied o) (parities o lo) same)) ∙ loaded.replies o lo;
