@@ -1,5 +1,6 @@
 -- what the views have heard of each other, where one of them moves
-use Rattle.std.proofs.Common.{◌≡◌, ◌≢◌, ℕ, ◌+◌, ◌<◌, ◌≤◌, Bool, true, false, inl, inr, arith, length, set, get_or-set_same, get_or-set_other}
+use Rattle.std.proofs.Common.{◌≡◌, ◌≢◌, ℕ, ◌+◌, ◌<◌, ◌≤◌, Bool, true, false, inl, inr, arith}
+use Rattle.std.proofs.Common.{length, set, get_or-set_same, get_or-set_other}
 use Rattle.std.specs.Prelude.{if◌then◌else◌}
 use Rattle.std.proofs.lemmas.Bool.{cases_eq}
 use Rattle.std.proofs.lemmas.Bool.Decides.{nat_tests}
@@ -38,11 +39,11 @@ pub hears_more : (processes : ℕ) (m : Words) (states : States) (o process : �
     → x.loaded.announcements ≡ set w.loaded.announcements process (m (Announcement process))
     → heard_announcements processes x.next ≤ process + 1 → HearsPresent processes m states o x v
 hears_more processes m states o process second w x v low room h g e ex le =
-    let heard_before = w.loaded.announcements in
+    let old = w.loaded.announcements in
     let word = m (Announcement process) in
     elim (cases_eq o process) [
-      | inl same ↦ hears_now processes m states o x v (rw (ex, same) (get_or-set_same heard_before process word 0 (omega arith)))
-      | inr ne ↦ hears_on processes m states o w x v h g (λ lt. rw e (omega arith)) (rw ex (get_or-set_other heard_before process o word 0 ne))
+      | inl same ↦ hears_now processes m states o x v (rw (ex, same) (get_or-set_same old process word 0 (omega arith)))
+      | inr ne ↦ hears_on processes m states o w x v h g (λ lt. rw e (omega arith)) (rw ex (get_or-set_other old process o word 0 ne))
     ]
 
 -- the heard view goes on, and has begun no more

@@ -34,8 +34,8 @@ pub grow_tries : (processes : ℕ) (m n : Words) (states later : States) (next :
     → AppliesHeard processes (states (state_tag m)) next v → TwoTries n later o w
 grow_tries processes m n states later next o second v w lo h t p e now past g a = grind arith
 
-pub grow_settled : (sizes : Sizes) (m n : Words) (states later : States) (next : StackState) (o row : ℕ) (second : Bool) (v w : TransferView)
-    → o < sizes.processes → TagsBelow sizes m → AppliedRises sizes m states → AnnouncementHolds m states o w
+pub grow_settled : (sizes : Sizes) (m n : Words) (states later : States) (next : StackState) (o row : ℕ) (second : Bool)
+    (v w : TransferView) → o < sizes.processes → TagsBelow sizes m → AppliedRises sizes m states → AnnouncementHolds m states o w
     → SettledReply sizes m states o w → HearsPresent sizes.processes m states o v w → v.next ≡ Try second ExchangeState
     → loaded_tag v.loaded ≡ state_tag m
     → StateInstalled sizes m n (state_tag m + 1) row → StatesGrow m n states later next

@@ -1,4 +1,4 @@
--- every step of every process keeps the parts of helping
+-- every step of every process keeps the parts of helping, and so do beginnings
 use Rattle.std.proofs.Common.{◌≡◌, ℕ, ◌+◌, ◌-◌, ◌%◌, ◌<◌, ◌≤◌, ◌==◌, Bool, true, false, refl, sym, ◌∙◌, ap, arith, get_or}
 use Rattle.std.specs.Prelude.{if◌then◌else◌, nat_lt}
 use Rattle.std.proofs.lemmas.Bool.{eqb-true, eqb-false}
@@ -9,8 +9,8 @@ use Rattle.word_layout.specs.declared.name.WordName.TheVariants.{State, Announce
 use Rattle.transfer_machine.specs.Loads.{loaded_tag, loaded_record, loaded_base}
 use Rattle.transfer_machine.specs.Tries.{planned_value, pops_slot, is_pending, after_announcement}
 use Rattle.transfer_machine.specs.NextStates.{IsLoaded}
-use Rattle.transfer_machine.specs.Machine.{action_at, try_action, met_at, met_in_try, own_announcement, next_state, try_ended, installed}
-use Rattle.transfer_machine.specs.Machine.{after_slot, after_heard, after_stored}
+use Rattle.transfer_machine.specs.Machine.{action_at, try_action, met_at, met_in_try, begun, own_announcement, next_state}
+use Rattle.transfer_machine.specs.Machine.{try_ended, installed, after_slot, after_heard, after_stored}
 use Rattle.transfer_machine.specs.Words.{name_of}
 use Rattle.transfer_machine.specs.declared.try_plan.TryPlan.{TryPlan}
 use Rattle.transfer_machine.specs.declared.transfer.TransferView.{TransferView}
@@ -35,13 +35,15 @@ use Rattle.transfer_invariant.proofs.Acts.{announces, exchanges_slot, stores_wor
 use Rattle.transfer_invariant.proofs.Counts.{slot_follows, heard_follows, stored_follows}
 use Rattle.helping_invariant.specs.Parts.{heard, AnnouncementHolds, HearsPresent}
 use Rattle.helping_invariant.specs.Holds.{HelpingHolds}
-use Rattle.helping_invariant.proofs.Changes.{AnnouncementsStay, AnnouncementStored, StatesGrow, AppliesHeard}
+use Rattle.helping_invariant.specs.Laws.{StepsKeepHelping, BeginningsKeepHelping}
+use Rattle.helping_invariant.proofs.Changes.{AnnouncementStored, StatesGrow, AppliesHeard}
 use Rattle.helping_invariant.proofs.Pending.{pends_not, planned_applies}
 use Rattle.helping_invariant.proofs.Stored.{misses_announcements, stores_announcement}
 use Rattle.helping_invariant.proofs.Moves.{stay, store, view_idle}
 use Rattle.helping_invariant.proofs.Turns.{view_same, view_ends_try, view_loads_state, view_loads_final}
 use Rattle.helping_invariant.proofs.Makes.{view_announces, view_installs}
-use Rattle.helping_invariant.proofs.LoadSteps.{past, loads, going, exchange_failed, slot_deaf, heard_more, stored_heard, word_step, announcement_step}
+use Rattle.helping_invariant.proofs.LoadSteps.{past, loads, going, exchange_failed, slot_deaf, heard_more, stored_heard}
+use Rattle.helping_invariant.proofs.LoadSteps.{word_step, announcement_step}
 
 -- the reply that is planned for an applied transfer is the present one
 final_reply : (processes : ℕ) (m : Words) (states : States) (o : ℕ) (v w : TransferView) → o < processes → RepliesPlanned processes v
@@ -75,8 +77,8 @@ stored_reply sizes m views states i second index o li inv h plans e lo pends app
     let le : loaded_tag v.loaded ≤ state_tag m = (inv.loaded i li).past (rw e refl) in
     let whole = whole_record sizes m states v inv.states_fit (inv.loaded i li) (rw e refl) in
     let parity = h.counts.parities o (loaded_tag v.loaded) lo le in
-    rw (← ei) (planned_reply sizes.processes o v.plan ∙ final_reply sizes.processes m states o v (views o) lo plans whole (rw e lo) (rw e lo)
-    (rw e refl) le parity (h.hears i o li lo) (h.announced o lo) ((h.settled o lo).in_states pends) pends applied)
+    rw (← ei) (planned_reply sizes.processes o v.plan ∙ final_reply sizes.processes m states o v (views o) lo plans whole (rw e lo)
+    (rw e lo) (rw e refl) le parity (h.hears i o li lo) (h.announced o lo) ((h.settled o lo).in_states pends) pends applied)
 
 -- a record word is stored
 store_step : (sizes : Sizes) (m n : Words) (views after : Views) (states : States) (i : ℕ) (second : Bool) (index : ℕ)
@@ -189,7 +191,7 @@ try_step_helps sizes m n views after states i second ExchangeState few li inv h 
     exchange_step sizes m n views after states i second (m State == (views i).loaded.state) few li inv h plans e refl a moved
 
 -- the step at each stage
-pub step_helps : (sizes : Sizes) (m n : Words) (views after : Views) (states : States) (i : ℕ) (s : NextStep) → sizes.processes ≤ 32
+step_helps : (sizes : Sizes) (m n : Words) (views after : Views) (states : States) (i : ℕ) (s : NextStep) → sizes.processes ≤ 32
     → i < sizes.processes → Invariant sizes m views states → HelpingHolds sizes m views states → WritesFit sizes m (views i)
     → RepliesPlanned sizes.processes (views i) → ((views i).next ≡ Announce → FitsWish (views i).wish) → (views i).next ≡ s
     → Acted sizes (action_at sizes (views i) s) m n
@@ -217,3 +219,13 @@ step_helps sizes m n views after states i LoadReply few li inv h w plans wish e 
     let applied = (h.tries i li).ended (rw e refl) in
     loads sizes name m n after states a
     (view_idle sizes m views after states i (met_at sizes v (m name) LoadReply) li h moved applied refl refl refl refl refl)
+
+pub steps_keep_helping : StepsKeepHelping
+steps_keep_helping sizes words new views after states i shape li inv h fits plans wish acted moved =
+    step_helps sizes words new views after states i (views i).next shape.few_processes li inv h fits plans wish refl acted moved
+
+-- a beginning
+pub beginnings_keep_helping : BeginningsKeepHelping
+beginnings_keep_helping sizes words views after states i wish li h rest moved =
+    let applied = (h.announced i li).idle (rw rest refl) in
+    view_idle sizes words views after states i (begun wish (views i)) li h moved applied refl refl refl refl refl

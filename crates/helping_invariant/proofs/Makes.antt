@@ -45,7 +45,8 @@ view_announces sizes m n views after states i li h past low e fits s a moved =
       into = λ b lb ne. heard_announced sizes m n states i (own_announcement v) (views b) v li h.counts
           (λ t. past b lb (try_has (views b).next t)) (rw (h.announced b lb).number ne) (h.announced i li) (h.hears b i lb li) e s.state a;
       self = hears_none sizes.processes n states i x x refl;
-      rest = λ b o lb lo nb no. stay_hears sizes.processes m n states o (views b) (views o) (h.hears b o lb lo) s.state (a.elsewhere o lo no);
+      rest = λ b o lb lo nb no.
+          stay_hears sizes.processes m n states o (views b) (views o) (h.hears b o lb lo) s.state (a.elsewhere o lo no);
     })
 
 -- a state is installed, by a view that loaded the present one
@@ -65,13 +66,14 @@ view_installs sizes m n views after states later next i second li h past low e n
         λ o lo. grow_settled sizes m n states later next o v.next_record second v (views o) lo low h.counts (h.announced o lo)
         (h.settled o lo) (h.hears i o li lo) e now s g applies in
     let hears : (b o : ℕ) → b < sizes.processes → o < sizes.processes → HearsPresent sizes.processes n later o (views b) (views o) =
-        λ b o lb lo. grow_hears sizes.processes m n states later next o (views b) (views o) (past b lb) (h.hears b o lb lo) (a.each o lo) g in
+        λ b o lb lo. grow_hears sizes.processes m n states later next o (views b) (views o) (past b lb) (h.hears b o lb lo)
+        (a.each o lo) g in
     let pends : Pends v x = record { was = rw e refl; pends = refl; number = refl; age = refl; wish = refl; room = refl } in
     assemble sizes n views after later i x moved (record {
       counts = grow_counts sizes m n states later next v h.counts g applies;
       announced = pends_announced n later i v x (announced i li) pends;
-      tries =
-          installed_tries sizes.processes m n states later next i second v li (h.announced i li) (h.tries i li) (h.hears i i li li) e g applies;
+      tries = installed_tries sizes.processes m n states later next i second v li (h.announced i li) (h.tries i li) (h.hears i i li li)
+          e g applies;
       settled = pends_settled sizes n later i v x (settled i li) pends;
       others_announced = λ o lo ne. announced o lo;
       others_tries = λ o lo ne. grow_tries sizes.processes m n states later next o second v (views o) lo (h.announced o lo) (h.tries o lo)

@@ -34,6 +34,7 @@ stay_settled sizes m n states o w lo h s = grind arith
 -- a record word is stored: for the next state of one that has applied a pending transfer, it has the present reply
 pub store_settled : (sizes : Sizes) (m n : Words) (states : States) (o row index tag value : ℕ) (w : TransferView) → o < sizes.processes
     → SettledReply sizes m states o w → WordStored sizes m n row index (tag + 1) value
-    → (has_announced w.next ≡ true → (states tag).applied o ≡ w.age → sizes.processes + 2 + o ≡ index → value ≡ (states (state_tag m)).reply o)
+    → (has_announced w.next ≡ true → (states tag).applied o ≡ w.age → sizes.processes + 2 + o ≡ index
+    → value ≡ (states (state_tag m)).reply o)
     → SettledReply sizes n states o w
 store_settled sizes m n states o row index tag value w lo h s final = grind arith

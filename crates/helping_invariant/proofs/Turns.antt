@@ -14,7 +14,8 @@ use Rattle.transfer_invariant.proofs.Installs.{try_announced, try_begun}
 use Rattle.transfer_invariant.proofs.Steps.{try_has}
 use Rattle.helping_invariant.specs.Parts.{HearsPresent}
 use Rattle.helping_invariant.specs.Holds.{HelpingHolds}
-use Rattle.helping_invariant.proofs.Own.{Pends, pends_announced, pends_settled, StaysInTry, stays_tries, tries_ended, tries_loaded, tries_final}
+use Rattle.helping_invariant.proofs.Own.{Pends, pends_announced, pends_settled}
+use Rattle.helping_invariant.proofs.Own.{StaysInTry, stays_tries, tries_ended, tries_loaded, tries_final}
 use Rattle.helping_invariant.proofs.Between.{hears_on, hears_none, hears_more, HeardOn, heard_on, heard_loaded}
 use Rattle.helping_invariant.proofs.Moves.{LoadedPast, view_moves}
 
