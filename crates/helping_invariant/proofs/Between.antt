@@ -23,7 +23,7 @@ pub hears_on : (processes : ℕ) (m : Words) (states : States) (o : ℕ) (w x v 
 hears_on processes m states o w x v h g le eh = grind arith
 
 -- it has just heard the present one
-pub hears_now : (processes : ℕ) (m : Words) (states : States) (o : ℕ) (x v : TransferView) → heard x o ≡ m (Announcement o)
+hears_now : (processes : ℕ) (m : Words) (states : States) (o : ℕ) (x v : TransferView) → heard x o ≡ m (Announcement o)
     → HearsPresent processes m states o x v
 hears_now processes m states o x v e = grind arith
 

@@ -59,7 +59,7 @@ final_reply processes m states o v w lo plans loaded met heard_it trying le pari
     let present : heard v o ≡ m (Announcement o) = h.heard_present trying pends applied heard_it in
     let number : tag_of (heard v o) ≡ s.applied o = rw present (a.tag ∙ sym applied) in
     let not_pending : is_pending (heard v o) (s.reply o) ≡ false =
-        pends_not (heard v o) (s.reply o) (s.applied o) parity (ap (λ k. k % 2) number) in
+    pends_not (heard v o) (s.reply o) (s.applied o) parity (ap (λ k. k % 2) number) in
     plans.kept o met (rw (loaded.replies o lo) not_pending) ∙ loaded.replies o lo ∙ settled (loaded_tag v.loaded) le applied
 
 -- it stands in the reply's word
@@ -115,7 +115,7 @@ exchange_step sizes m n views after states i second true few li inv h plans e te
     let there : StateInstalled sizes m n (state_tag m + 1) v.next_record = rw now at made in
     let others = misses_announcements sizes (Exchange State v.loaded.state (next_state v)) m n a (λ o d. cc) in
     let whole : IsLoaded sizes.processes v.loaded (states (loaded_tag v.loaded)) =
-        whole_record sizes m states v inv.states_fit (inv.loaded i li) (rw e refl) in
+    whole_record sizes m states v inv.states_fit (inv.loaded i li) (rw e refl) in
     let s = states (state_tag m) in
     let next = planned_state s v in
     let later = states_with_planned m v states in
@@ -205,7 +205,7 @@ step_helps sizes m n views after states i Announce few li inv h w plans wish e a
     let v = views i in
     let s = announces sizes v.number (own_announcement v) m n a in
     let stored : AnnouncementStored sizes m n i (own_announcement v) =
-        rw (h.announced i li).number at (stores_announcement sizes v.number (own_announcement v) m n a) in
+    rw (h.announced i li).number at (stores_announcement sizes v.number (own_announcement v) m n a) in
     view_announces sizes m n views after states i li h (past sizes m views states inv.records)
     (stay_tags sizes m n inv.records.tags_below s) e (wish e) s stored moved
 step_helps sizes m n views after states i (Try second step) few li inv h w plans wish e a moved =

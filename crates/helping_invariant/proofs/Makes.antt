@@ -60,14 +60,14 @@ view_installs sizes m n views after states later next i second li h past low e n
     let v = views i in
     let x = installed v in
     let announced : (o : ℕ) → o < sizes.processes → AnnouncementHolds n later o (views o) =
-        λ o lo. grow_announced sizes.processes m n states later next o second v (views o) lo (h.announced o lo) (h.hears i o li lo) e now
-        (a.each o lo) g applies in
+    λ o lo. grow_announced sizes.processes m n states later next o second v (views o) lo (h.announced o lo) (h.hears i o li lo) e now
+    (a.each o lo) g applies in
     let settled : (o : ℕ) → o < sizes.processes → SettledReply sizes n later o (views o) =
-        λ o lo. grow_settled sizes m n states later next o v.next_record second v (views o) lo low h.counts (h.announced o lo)
-        (h.settled o lo) (h.hears i o li lo) e now s g applies in
+    λ o lo. grow_settled sizes m n states later next o v.next_record second v (views o) lo low h.counts (h.announced o lo)
+    (h.settled o lo) (h.hears i o li lo) e now s g applies in
     let hears : (b o : ℕ) → b < sizes.processes → o < sizes.processes → HearsPresent sizes.processes n later o (views b) (views o) =
-        λ b o lb lo. grow_hears sizes.processes m n states later next o (views b) (views o) (past b lb) (h.hears b o lb lo)
-        (a.each o lo) g in
+    λ b o lb lo. grow_hears sizes.processes m n states later next o (views b) (views o) (past b lb) (h.hears b o lb lo)
+    (a.each o lo) g in
     let pends : Pends v x = record { was = rw e refl; pends = refl; number = refl; age = refl; wish = refl; room = refl } in
     assemble sizes n views after later i x moved (record {
       counts = grow_counts sizes m n states later next v h.counts g applies;

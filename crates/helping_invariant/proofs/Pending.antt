@@ -30,7 +30,7 @@ pends_test a b = elim (cases_eq (a % 2) 1) [
 ]
 
 -- an announcement pends against the reply to so many transfers where the parities differ
-pub pends_where : (word reply applied : ℕ) → is_odd_reply reply ≡ (applied % 2 == 1)
+pends_where : (word reply applied : ℕ) → is_odd_reply reply ≡ (applied % 2 == 1)
     → is_pending word reply ≡ not (tag_of word % 2 == applied % 2)
 pends_where word reply applied e = rw e (pends_test (tag_of word) applied)
 
