@@ -12,7 +12,7 @@ use Rattle.transfer_invariant.specs.Memory.{Words, Views, States, Moved, state_t
 use Rattle.transfer_invariant.specs.Records.{TagsBelow}
 use Rattle.transfer_invariant.proofs.Changes.{RecordsStay, StateInstalled}
 use Rattle.transfer_invariant.proofs.Steps.{try_has}
-use Rattle.helping_invariant.specs.Parts.{AppliedRises, AnnouncementHolds, SettledReply, HearsPresent}
+use Rattle.helping_invariant.specs.Parts.{AppliedRises}
 use Rattle.helping_invariant.specs.Holds.{HelpingHolds}
 use Rattle.helping_invariant.proofs.Changes.{AnnouncementsStay, AnnouncementStored, StatesGrow, AppliesHeard}
 use Rattle.helping_invariant.proofs.Stable.{stay_counts, stay_tries, stay_announced, stay_hears, stay_settled}
@@ -59,15 +59,12 @@ pub view_installs : (sizes : Sizes) (m n : Words) (views after : Views) (states 
 view_installs sizes m n views after states later next i second li h past low e now s a g applies moved =
     let v = views i in
     let x = installed v in
-    let announced : (o : ℕ) → o < sizes.processes → AnnouncementHolds n later o (views o) =
-    λ o lo. grow_announced sizes.processes m n states later next o second v (views o) lo (h.announced o lo) (h.hears i o li lo) e now
-    (a.each o lo) g applies in
-    let settled : (o : ℕ) → o < sizes.processes → SettledReply sizes n later o (views o) =
-    λ o lo. grow_settled sizes m n states later next o v.next_record second v (views o) lo low h.counts (h.announced o lo)
-    (h.settled o lo) (h.hears i o li lo) e now s g applies in
-    let hears : (b o : ℕ) → b < sizes.processes → o < sizes.processes → HearsPresent sizes.processes n later o (views b) (views o) =
-    λ b o lb lo. grow_hears sizes.processes m n states later next o (views b) (views o) (past b lb) (h.hears b o lb lo)
-    (a.each o lo) g in
+    let announced = λ (o : ℕ) (lo : o < sizes.processes). grow_announced sizes.processes m n states later next o second v (views o) lo
+    (h.announced o lo) (h.hears i o li lo) e now (a.each o lo) g applies in
+    let settled = λ (o : ℕ) (lo : o < sizes.processes). grow_settled sizes m n states later next o v.next_record second v (views o) lo low
+    h.counts (h.announced o lo) (h.settled o lo) (h.hears i o li lo) e now s g applies in
+    let hears = λ (b o : ℕ) (lb : b < sizes.processes) (lo : o < sizes.processes). grow_hears sizes.processes m n states later next o
+    (views b) (views o) (past b lb) (h.hears b o lb lo) (a.each o lo) g in
     let pends : Pends v x = record { was = rw e refl; pends = refl; number = refl; age = refl; wish = refl; room = refl } in
     assemble sizes n views after later i x moved (record {
       counts = grow_counts sizes m n states later next v h.counts g applies;
