@@ -20,7 +20,8 @@ use Rattle.batch_invariant.specs.Places.{given, taken, moving}
 use Rattle.batch_invariant.specs.Batches.{ProcessViews, ReplyMatches, weight}
 use Rattle.batch_invariant.proofs.Sums.{total_more}
 use Rattle.batch_invariant.proofs.Moving.{moving_same_state, moving_pending, moving_applied}
-use Rattle.batch_invariant.proofs.Transit.{transit_weight, HeadsFit, content_fits, Carried}
+use Rattle.batch_invariant.specs.Transit.{transit_weight, HeadsFit, Carried}
+use Rattle.batch_invariant.proofs.Transit.{content_fits}
 
 -- the state once a wish of a process is granted and answered
 abbrev pub with_granted : ℕ → Bool → Wish → StackState → StackState

@@ -1,27 +1,23 @@
--- pending announcements are applied one after the other, and the state that comes of it is installed
+-- pending announcements are applied one after the other, and so are those of the state that a view installs
 use Rattle.std.proofs.Common.{◌≡◌, ℕ, zero, suc, ◌+◌, ◌<◌, ◌≤◌, Bool, true, false, refl, sym, ap, subst, ◌∙◌, arith}
-use Rattle.std.specs.Prelude.{if◌then◌else◌}
-use Rattle.word_layout.specs.Sizes.{Sizes, IsShape}
+use Rattle.std.specs.Prelude.{if◌then◌else◌, slice_index}
+use Rattle.word_layout.specs.Sizes.{Sizes}
 use Rattle.word_layout.specs.Packing.{announced_word, wish_code, FitsWish}
 use Rattle.word_layout.specs.declared.announced.Wish.{Wish}
 use Rattle.word_layout.proofs.Packed.{value_of-tagged, wish_code_lt, wish_of-wish_code}
-use Rattle.transfer_machine.specs.Machine.{installed}
-use Rattle.transfer_machine.specs.Pools.{step_counted}
 use Rattle.transfer_machine.specs.States.{StackState, with_transfer, try_begun, next_of}
 use Rattle.transfer_machine.specs.Tries.{is_pending, is_odd_transfer, announced_wish}
 use Rattle.transfer_machine.specs.declared.transfer.TransferView.{TransferView}
-use Rattle.transfer_machine.specs.declared.stage.NextStep.{NextStep}
-use Rattle.transfer_machine.specs.declared.stage.NextStep.TheVariants.{ExchangeState}
 use Rattle.transfer_invariant.specs.Progress.{has_announced}
+use Rattle.transfer_invariant.specs.Installing.{planned_state}
 use Rattle.transfer_invariant.specs.Tags.{total}
 use Rattle.transfer_invariant.proofs.Installs.{total_same}
 use Rattle.batch_invariant.specs.Places.{moving}
-use Rattle.batch_invariant.specs.Batches.{ProcessViews, MovedProcess, BatchesHold, weight}
-use Rattle.batch_invariant.specs.Premises.{PendingIsPresent, SameStack}
+use Rattle.batch_invariant.specs.Batches.{ProcessViews, weight}
+use Rattle.batch_invariant.specs.Transit.{transit_weight, HeadsFit, Carried}
+use Rattle.batch_invariant.specs.Premises.{PendingIsPresent, SameStack, InstallsNext}
 use Rattle.batch_invariant.proofs.Moving.{moving_same_state}
-use Rattle.batch_invariant.proofs.Going.{installed_goes_on}
-use Rattle.batch_invariant.proofs.Steps.{batches_move, goes_on_keeps}
-use Rattle.batch_invariant.proofs.Transit.{transit_weight, HeadsFit, pending_fits, placed_fit, Carried, carried_fits, carried_on, carried_holds}
+use Rattle.batch_invariant.proofs.Transit.{pending_fits, carried_fits, carried_on}
 use Rattle.batch_invariant.proofs.Applied.{with_granted, granted_carried, same_matches, put_elsewhere}
 
 -- the wish of the present announcement is read back
@@ -85,26 +81,11 @@ next_carried sizes s views announcements (suc k) le fits present =
     carried_on sizes s met (next_of (suc k) announcements s) views before (announcement_carried sizes met views k (announcements k) (is_pending (announcements k) (met.reply k)) (omega arith)
     (carried_fits sizes s met views before fits) (present_stays s met (announcements k) k (views k).transfer unmet.0 unmet.1 (present k (omega arith))) refl)
 
-pub next_holds : (sizes : Sizes) (s : StackState) (views : ProcessViews) (announcements : ℕ → ℕ) (k : ℕ) → IsShape sizes → k ≤ sizes.processes → BatchesHold sizes s views
-    → ((o : ℕ) → o < sizes.processes → PendingIsPresent s (announcements o) o (views o).transfer) → BatchesHold sizes (next_of k announcements s) views
-next_holds sizes s views announcements k shape le hold present =
-    carried_holds sizes s (next_of k announcements s) views (next_carried sizes s views announcements k le (placed_fit sizes s views shape hold.placed) present) hold
-
--- so is the state that an exchange installs
-pub planned_carried : (sizes : Sizes) (s t : StackState) (views : ProcessViews) (announcements : ℕ → ℕ) → HeadsFit sizes s views
-    → ((o : ℕ) → o < sizes.processes → PendingIsPresent s (announcements o) o (views o).transfer) → SameStack sizes.processes (next_of sizes.processes announcements s) t → Carried sizes s t views
-planned_carried sizes s t views announcements fits present same =
+-- so does the state that a view installs
+pub planned_carried : (sizes : Sizes) (s : StackState) (views : ProcessViews) (v : TransferView) → HeadsFit sizes s views → InstallsNext sizes s views v
+    → Carried sizes s (planned_state s v) views
+planned_carried sizes s views v fits installs =
+    let announcements = λ (o : ℕ). slice_index v.loaded.announcements o in
     let next = next_of sizes.processes announcements s in
-    carried_on sizes s next t views (next_carried sizes s views announcements sizes.processes (omega arith) fits present) (same_carried sizes next t views same)
-
--- the state is installed
-exchange_announced : (next : NextStep) → next ≡ ExchangeState → has_announced next ≡ true
-exchange_announced next e = rw e refl
-
-pub installing_holds : (sizes : Sizes) (s t : StackState) (views after : ProcessViews) (announcements : ℕ → ℕ) (i : ℕ) → IsShape sizes → i < sizes.processes → BatchesHold sizes s views
-    → ((o : ℕ) → o < sizes.processes → PendingIsPresent s (announcements o) o (views o).transfer) → (views i).transfer.next ≡ ExchangeState → SameStack sizes.processes (next_of sizes.processes announcements s) t
-    → MovedProcess i (record (views i) { transfer = installed (views i).transfer; pool = step_counted (views i).pool }) views after → BatchesHold sizes t after
-installing_holds sizes s t views after announcements i shape li hold present e same moved =
-    batches_move sizes t views after i (record (views i) { transfer = installed (views i).transfer; pool = step_counted (views i).pool }) li
-    (carried_holds sizes s t views (planned_carried sizes s t views announcements (placed_fit sizes s views shape hold.placed) present same) hold) moved
-    (goes_on_keeps t i (views i) (record (views i) { transfer = installed (views i).transfer; pool = step_counted (views i).pool }) (installed_goes_on (views i).transfer (exchange_announced (views i).transfer.next e)) refl refl)
+    carried_on sizes s next (planned_state s v) views (next_carried sizes s views announcements sizes.processes (omega arith) fits installs.present)
+    (same_carried sizes next (planned_state s v) views installs.planned)

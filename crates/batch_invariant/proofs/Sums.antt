@@ -1,17 +1,12 @@
 -- sums of a number of each of so many
-use Rattle.std.proofs.Common.{◌≡◌, ◌≢◌, ℕ, zero, suc, ◌+◌, ◌*◌, ◌<◌, ◌≤◌, refl, inl, inr, arith, add-one}
+use Rattle.std.proofs.Common.{◌≡◌, ℕ, zero, suc, ◌+◌, ◌*◌, ◌<◌, ◌≤◌, refl, inl, inr, arith, add-one}
 use Rattle.std.proofs.lemmas.Bool.{cases_eq}
 use Rattle.transfer_invariant.specs.Tags.{total}
-use Rattle.transfer_invariant.proofs.Installs.{total_same}
 
 -- one more
 pub total_more : (count : ℕ) (f : ℕ → ℕ) → total (count + 1) f ≡ total count f + f count
 unfolding total
 total_more count f = rw add-one refl
-
--- a term that changes and keeps its value
-pub total_kept : (count i : ℕ) (f g : ℕ → ℕ) → ((o : ℕ) → o < count → o ≢ i → g o ≡ f o) → g i ≡ f i → total count g ≡ total count f
-total_kept count i f g others here = total_same count f g (λ o lt. elim (cases_eq o i) [ inl e ↦ rw e here | inr ne ↦ others o lt ne ])
 
 -- term by term
 pub total_sums : (count : ℕ) (f g : ℕ → ℕ) → total count (λ i. f i + g i) ≡ total count f + total count g
@@ -32,12 +27,6 @@ total_pairs (suc count) f =
     let twice : 2 * suc count ≡ (2 * count + 1) + 1 = omega arith in
     rw (twice, total_more (2 * count + 1) f, total_more (2 * count) f) (omega (arith, total_pairs count f))
 
--- ones
-pub total_ones : (count : ℕ) → total count (λ k. 1) ≡ count
-unfolding total
-total_ones zero = refl
-total_ones (suc count) = omega (arith, total_ones count)
-
 -- a term is at most the sum, and so are two
 pub term_of_total : (count i : ℕ) (f : ℕ → ℕ) → i < count → f i ≤ total count f
 unfolding total
@@ -52,16 +41,8 @@ terms_of_total (suc count) i later f lt low = elim (cases_eq later count) [
   | inr ne ↦ omega (arith, terms_of_total count i later f lt (omega arith))
 ]
 
--- no term, and one term at most
+-- no term
 pub total_nothing : (count : ℕ) (f : ℕ → ℕ) → ((o : ℕ) → o < count → f o ≡ 0) → total count f ≡ 0
 unfolding total
 total_nothing zero f none = refl
 total_nothing (suc count) f none = omega (arith, none count (omega arith), total_nothing count f (λ o lt. none o (omega arith)))
-
-pub total_once : (count : ℕ) (f : ℕ → ℕ) → ((o : ℕ) → o < count → f o ≤ 1) → ((o k : ℕ) → o < k → k < count → 1 ≤ f k → f o ≡ 0) → total count f ≤ 1
-unfolding total
-total_once zero f one apart = omega arith
-total_once (suc count) f one apart = elim (cases_eq (f count) 0) [
-  | inl e ↦ omega (arith, total_once count f (λ o lt. one o (omega arith)) (λ o k ok lk. apart o k ok (omega arith)))
-  | inr ne ↦ omega (arith, one count (omega arith), total_nothing count f (λ o lt. apart o count lt (omega arith) (omega arith)))
-]
