@@ -17,10 +17,10 @@ use Rattle.transfer_invariant.specs.Progress.{has_announced}
 use Rattle.transfer_invariant.specs.Tags.{total}
 use Rattle.transfer_invariant.proofs.Installs.{total_same}
 use Rattle.batch_invariant.specs.Places.{given, moving}
-use Rattle.batch_invariant.specs.Batches.{ProcessViews, weight, is_head}
+use Rattle.batch_invariant.specs.Batches.{ProcessViews, weight}
 use Rattle.batch_invariant.proofs.Sums.{total_sums}
 use Rattle.batch_invariant.proofs.Moving.{moving_begun, moving_pending}
-use Rattle.chain_invariant.specs.Chains.{BlockLists, ChainsHold, pool_weight, times_pooled, blocks_weight}
+use Rattle.chain_invariant.specs.Chains.{BlockLists, ChainsHold, pool_weight, times_pooled, blocks_weight, is_head}
 use Rattle.chain_invariant.specs.Laws.{IsFree, WishIsBlock, kept_blocks}
 use Rattle.chain_invariant.proofs.Weights.{counts_itself, has_weighs, weighs_none, weight_each, total_each, total_le}
 use Rattle.chain_invariant.proofs.Pool.{pool_same, pool_each, content_pooled, spare_pooled, moving_pooled}

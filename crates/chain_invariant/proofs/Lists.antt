@@ -3,8 +3,8 @@ use Rattle.std.proofs.Common.{◌≡◌, ℕ, ◌+◌, ◌<◌, ◌≤◌, refl,
 use Rattle.std.proofs.lemmas.List.Sums.{sum_by-cons}
 use Rattle.word_layout.specs.declared.name.WordName.TheVariants.{Next}
 use Rattle.transfer_invariant.specs.Memory.{Words}
-use Rattle.batch_invariant.specs.Batches.{weight, is_head}
-use Rattle.chain_invariant.specs.Chains.{IsChain, IsChainOf}
+use Rattle.batch_invariant.specs.Batches.{weight}
+use Rattle.chain_invariant.specs.Chains.{IsChain, IsChainOf, is_head}
 use Rattle.chain_invariant.proofs.Weights.{counts_itself}
 
 -- a chain with a block: that block, and the chain of its next word

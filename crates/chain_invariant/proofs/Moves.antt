@@ -1,6 +1,6 @@
 -- beginnings and steps of transfers, and changes of the state, move batches alone: the blocks stay where they are
-use Rattle.std.proofs.Common.{sym, ◌∙◌, ◌≡◌, ℕ, ◌+◌, ◌*◌, ◌<◌, ◌≤◌, true, false, refl, inl, inr, length, arith}
-use Rattle.std.specs.Prelude.{slice_index}
+use Rattle.std.proofs.Common.{◌≡◌, ℕ, ◌+◌, ◌*◌, ◌<◌, ◌≤◌, Bool, true, false, not, refl, inl, inr, length, arith}
+use Rattle.std.specs.Prelude.{if◌then◌else◌}
 use Rattle.std.proofs.lemmas.Bool.{cases_eq}
 use Rattle.word_layout.specs.Sizes.{Sizes, IsShape}
 use Rattle.word_layout.specs.Packing.{value_of, reply_of}
@@ -9,6 +9,8 @@ use Rattle.word_layout.specs.declared.announced.Wish.TheVariants.{Take, Give}
 use Rattle.word_layout.specs.declared.reply.Reply.{Reply}
 use Rattle.word_layout.specs.declared.reply.Reply.TheVariants.{Nothing, Took, Gave}
 use Rattle.word_layout.proofs.Limits.{two_blocks_a_batch}
+use Rattle.transfer_schedule.specs.Numbers as schedule
+use Rattle.transfer_schedule.specs.declared.pending.Pending.TheVariants.{Idle}
 use Rattle.transfer_machine.specs.Pools.{MayBegin, view_begun, view_met, pool_begun, pool_met_at, pool_ended, step_counted}
 use Rattle.transfer_machine.specs.States.{StackState, next_of}
 use Rattle.transfer_machine.specs.declared.transfer.TransferView.{TransferView}
@@ -18,15 +20,15 @@ use Rattle.transfer_machine.specs.declared.stage.NextStep.{NextStep}
 use Rattle.transfer_machine.specs.declared.stage.NextStep.TheVariants.{Rest, Announce, LoadState, LoadRecordWord, LoadCoveredSlot, ExchangeSlot, LoadAnnouncement, LoadPoppedSlot, StoreRecordWord, ExchangeState, LoadFinalState, LoadReply}
 use Rattle.transfer_invariant.specs.Installing.{planned_state}
 use Rattle.transfer_invariant.specs.Memory.{Words}
-use Rattle.batch_invariant.specs.Places.{moving, current_batch, process_batches}
-use Rattle.batch_invariant.specs.Batches.{ProcessViews, MovedProcess, ReplyMatches, weight, is_head}
+use Rattle.batch_invariant.specs.Places.{moving}
+use Rattle.batch_invariant.specs.Batches.{ProcessViews, MovedProcess, ReplyMatches, KeepsBatches, weight}
+use Rattle.batch_invariant.specs.Transit.{HeadsFit, Carried, is_large}
 use Rattle.batch_invariant.specs.Premises.{InStep, PendingIsPresent, InstallsNext}
 use Rattle.batch_invariant.proofs.Sums.{total_nothing}
-use Rattle.batch_invariant.proofs.Moving.{parts_weight}
-use Rattle.batch_invariant.proofs.Transit.{HeadsFit, Carried, is_large, small_where}
-use Rattle.batch_invariant.proofs.Steps.{KeepsBatches, stage_keeps, begun_keeps, ended_current}
+use Rattle.batch_invariant.proofs.Transit.{small_where}
+use Rattle.batch_invariant.proofs.Steps.{stage_keeps, begun_keeps}
 use Rattle.batch_invariant.proofs.Installing.{next_carried, planned_carried}
-use Rattle.chain_invariant.specs.Chains.{BlockLists, ChainsHold, NextsStay, pool_weight, blocks_weight}
+use Rattle.chain_invariant.specs.Chains.{BlockLists, ChainsHold, NextsStay, pool_weight, blocks_weight, is_head}
 use Rattle.chain_invariant.specs.Steps.{SameParts}
 use Rattle.chain_invariant.proofs.Lists.{chain_stays}
 use Rattle.chain_invariant.proofs.Pool.{pool_parts, pool_moved, pool_le, pool_each}
@@ -65,30 +67,21 @@ words_stay sizes words new s views batch_blocks current_blocks held_blocks hold 
 }
 
 -- one process moves, and keeps its batches and its current list
-batches_same : (s : StackState) (i : ℕ) (v x : ProcessView) (f : ℕ → ℕ) → weight f (current_batch x.pool) ≡ weight f (current_batch v.pool) → KeepsBatches s i v x
-    → weight f x.pool.heads + weight f (moving s i x.transfer) ≡ weight f v.pool.heads + weight f (moving s i v.transfer)
-batches_same s i v x f current keeps = omega (arith, keeps.same_weight f, parts_weight f s i x, parts_weight f s i v, current)
-
-current_same : (f : ℕ → ℕ) (v x : PoolView) → KeepsCurrent v x → weight f (current_batch x) ≡ weight f (current_batch v)
-current_same f v x keeps = rw (keeps.current, keeps.head) refl
-
 same_parts_keep : (s : StackState) (i : ℕ) (v x y : ProcessView) → SameParts x y → KeepsBatches s i v y → KeepsBatches s i v x
 same_parts_keep s i v x y same keeps = record {
-  same_weight = λ f. sym (weight_of f) ∙ keeps.same_weight f;
+  same_weight = λ f. rw (same.pool, same.transfer) (keeps.same_weight f);
   matches = λ h. rw same.transfer (keeps.matches h);
 }
-  where
-    weight_of : (f : ℕ → ℕ) → weight f (process_batches s i y) ≡ weight f (process_batches s i x)
-    weight_of f = rw (parts_weight f s i x, parts_weight f s i y, same.transfer, same.pool) refl
 
-pub process_moves : (sizes : Sizes) (words : Words) (s : StackState) (views after : ProcessViews) (batch_blocks current_blocks held_blocks : BlockLists) (i : ℕ) (x y : ProcessView) → i < sizes.processes
-    → ChainsHold sizes words s views batch_blocks current_blocks held_blocks → SameParts x y → MovedProcess i x views after → KeepsBatches s i (views i) y → KeepsCurrent (views i).pool y.pool
+process_moves : (sizes : Sizes) (words : Words) (s : StackState) (views after : ProcessViews) (batch_blocks current_blocks held_blocks : BlockLists) (i : ℕ) (x y : ProcessView)
+    → i < sizes.processes → ChainsHold sizes words s views batch_blocks current_blocks held_blocks
+    → SameParts x y → MovedProcess i x views after → KeepsBatches s i (views i) y → KeepsCurrent (views i).pool y.pool
     → ChainsHold sizes words s after batch_blocks current_blocks held_blocks
 process_moves sizes words s views after batch_blocks current_blocks held_blocks i x y li hold same moved keeps_y current_y =
     let keeps = same_parts_keep s i (views i) x y same keeps_y in
     let current : KeepsCurrent (views i).pool x.pool = rw same.pool current_y in
     chains_stay sizes words s s views after batch_blocks current_blocks held_blocks hold
-    (λ f. omega (arith, pool_moved sizes s views after i x f li moved, batches_same s i (views i) x f (current_same f (views i).pool x.pool current) keeps))
+    (λ f. omega (arith, pool_moved sizes s views after i x f li moved, keeps.same_weight f))
     (λ o lo. elim (cases_eq o i) [ inl e ↦ rw e (rw moved.here current) | inr ne ↦ rw (moved.elsewhere o ne) (record { head = refl; current = refl }) ])
     (λ o lo. elim (cases_eq o i) [ inl e ↦ rw e (rw moved.here (keeps.matches (hold.replies i li))) | inr ne ↦ rw (moved.elsewhere o ne) (hold.replies o lo) ])
 
@@ -96,6 +89,15 @@ process_moves sizes words s views after batch_blocks current_blocks held_blocks 
 begun_keeps_current : (wish : Wish) (pool : PoolView) → KeepsCurrent pool (pool_begun wish pool)
 begun_keeps_current Take pool = record { head = refl; current = refl }
 begun_keeps_current (Give head) pool = record { head = refl; current = refl }
+
+either_current : (t : Bool) (x y : schedule.Numbers) (current : ℕ) → x.current ≡ current → y.current ≡ current → (if t then x else y).current ≡ current
+either_current true x y current ex ey = ex
+either_current false x y current ex ey = ey
+
+ended_current : (found : Bool) (x : schedule.Numbers) → (schedule.after_end found x).current ≡ x.current
+ended_current found x = either_current (schedule.is_taking x.pending)
+    (record x { pending = Idle; done = 0; spares = if found then schedule.one_more x.spares else x.spares; dry = not found })
+    (record x { pending = Idle; done = 0 }) x.current refl refl
 
 ended_keeps_current : (reply : Reply) (pool : PoolView) → KeepsCurrent pool (pool_ended reply pool)
 ended_keeps_current Nothing pool = record { head = refl; current = ended_current false pool.plan }
@@ -105,7 +107,7 @@ ended_keeps_current Gave pool = record { head = refl; current = ended_current tr
 counted_ended : (pool x : PoolView) → KeepsCurrent (step_counted pool) x → KeepsCurrent pool x
 counted_ended pool x keeps = record { head = keeps.head; current = keeps.current }
 
-pub met_keeps_current : (word : ℕ) (pool : PoolView) (stage : NextStep) → KeepsCurrent pool (pool_met_at word pool stage)
+met_keeps_current : (word : ℕ) (pool : PoolView) (stage : NextStep) → KeepsCurrent pool (pool_met_at word pool stage)
 met_keeps_current word pool Rest = record { head = refl; current = refl }
 met_keeps_current word pool Announce = record { head = refl; current = refl }
 met_keeps_current word pool LoadState = record { head = refl; current = refl }
@@ -167,4 +169,4 @@ pub installs_carry : (sizes : Sizes) (words : Words) (s : StackState) (views : P
     → ChainsHold sizes words s views batch_blocks current_blocks held_blocks → InstallsNext sizes s views v → ChainsHold sizes words (planned_state s v) views batch_blocks current_blocks held_blocks
 installs_carry sizes words s views batch_blocks current_blocks held_blocks v shape hold installs =
     carried_chains sizes words s (planned_state s v) views batch_blocks current_blocks held_blocks hold
-    (planned_carried sizes s (planned_state s v) views (λ o. slice_index v.loaded.announcements o) (chains_fit sizes words s views batch_blocks current_blocks held_blocks shape hold) installs.present installs.planned)
+    (planned_carried sizes s views v (chains_fit sizes words s views batch_blocks current_blocks held_blocks shape hold) installs)

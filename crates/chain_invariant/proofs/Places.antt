@@ -5,11 +5,10 @@ use Rattle.std.proofs.lemmas.List.Sums.{sum_by-cons}
 use Rattle.word_layout.specs.Sizes.{Sizes, blocks}
 use Rattle.transfer_machine.specs.States.{StackState}
 use Rattle.transfer_invariant.specs.Memory.{Words}
-use Rattle.batch_invariant.specs.Batches.{ProcessViews, weight, is_head}
+use Rattle.batch_invariant.specs.Batches.{ProcessViews, weight}
 use Rattle.batch_invariant.proofs.Sums.{term_of_total, terms_of_total}
-use Rattle.chain_invariant.specs.Chains.{BlockLists, ChainsHold, NextsStay, OtherNextsStay, times_pooled, blocks_weight}
-use Rattle.batch_invariant.proofs.Apart.{counts_equal}
-use Rattle.chain_invariant.proofs.Weights.{counts_itself, total_past, total_one}
+use Rattle.chain_invariant.specs.Chains.{BlockLists, ChainsHold, NextsStay, OtherNextsStay, times_pooled, blocks_weight, is_head}
+use Rattle.chain_invariant.proofs.Weights.{counts_itself, counts_equal, total_past, total_one}
 use Rattle.chain_invariant.proofs.Pool.{pool_part, pool_le}
 use Rattle.chain_invariant.proofs.Lists.{Begins, begins, StaysAlong}
 

@@ -9,12 +9,11 @@ use Rattle.transfer_machine.specs.declared.view.ProcessView.{ProcessView}
 use Rattle.transfer_invariant.specs.Tags.{total}
 use Rattle.transfer_invariant.proofs.Installs.{total_same, total_moved}
 use Rattle.batch_invariant.specs.Places.{moving}
-use Rattle.batch_invariant.specs.Batches.{ProcessViews, MovedProcess, weight, is_head}
+use Rattle.batch_invariant.specs.Batches.{ProcessViews, MovedProcess, weight}
 use Rattle.batch_invariant.proofs.Sums.{term_of_total, total_sums}
-use Rattle.batch_invariant.proofs.Transit.{transit_weight}
-use Rattle.chain_invariant.specs.Chains.{pool_weight, times_pooled}
-use Rattle.batch_invariant.proofs.Apart.{counts_equal}
-use Rattle.chain_invariant.proofs.Weights.{counts_itself, weight_part, weight_le, total_le, weight_each, total_each, total_part}
+use Rattle.batch_invariant.specs.Transit.{transit_weight}
+use Rattle.chain_invariant.specs.Chains.{pool_weight, times_pooled, is_head}
+use Rattle.chain_invariant.proofs.Weights.{counts_itself, counts_equal, weight_part, weight_le, total_le, weight_each, total_each, total_part}
 
 -- the spares, and what is in transit or in the content
 pub pool_parts : (sizes : Sizes) (s : StackState) (views : ProcessViews) (f : ℕ → ℕ)

@@ -15,11 +15,11 @@ use Rattle.transfer_invariant.specs.Installing.{planned_state, states_after}
 use Rattle.transfer_invariant.specs.Memory.{Words, States, Acted, state_tag}
 use Rattle.batch_invariant.specs.Batches.{ProcessViews, MovedProcess}
 use Rattle.batch_invariant.specs.Premises.{InStep, InstallsNext}
-use Rattle.batch_invariant.proofs.Steps.{exchange_keeps_at}
-use Rattle.batch_invariant.proofs.Machine.{step_carries}
+use Rattle.batch_invariant.proofs.Steps.{exchange_in_step}
 use Rattle.chain_invariant.specs.Chains.{BlockLists, ChainsHold, NextsStay}
 use Rattle.chain_invariant.specs.Steps.{SameParts}
-use Rattle.chain_invariant.proofs.Moves.{words_stay, process_moves, met_keeps_current, step_keeps, installs_carry}
+use Rattle.chain_invariant.proofs.Moves.{words_stay, step_keeps, installs_carry}
+use Rattle.chain_invariant.proofs.Present.{step_carries}
 
 -- the word is the next word of a block
 abbrev pub is_next : WordName → Bool
@@ -75,8 +75,7 @@ transfer_keeps sizes m n views after states batch_blocks current_blocks held_blo
     let next = installs is same in
     let planned = planned_state now v in (
       next.row,
-      process_moves sizes m planned views after batch_blocks current_blocks held_blocks i x (view_met sizes (views i) word) li
-          (installs_carry sizes m now views batch_blocks current_blocks held_blocks v shape hold next) parts moved
-          (exchange_keeps_at sizes planned i (views i) word v.next refl is) (met_keeps_current word (views i).pool v.next),
+      step_keeps sizes m planned views after batch_blocks current_blocks held_blocks i word x li
+          (installs_carry sizes m now views batch_blocks current_blocks held_blocks v shape hold next) (exchange_in_step planned i v word is) parts moved,
     )) a)
     (transfer_keeps_nexts sizes v m n a)

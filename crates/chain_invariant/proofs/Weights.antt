@@ -1,17 +1,22 @@
 -- weights of lists and of all batches
-use Rattle.std.proofs.Common.{◌≡◌, ℕ, zero, suc, ◌+◌, ◌*◌, ◌<◌, ◌≤◌, ◌==◌, Bool, true, false, not, refl, ap, inl, inr, List, [], ◌∷◌, length, arith}
+use Rattle.std.proofs.Common.{◌≡◌, ◌≢◌, ℕ, zero, suc, ◌+◌, ◌*◌, ◌<◌, ◌≤◌, ◌==◌, Bool, true, false, not, refl, ap, inl, inr, List, [], ◌∷◌, length, arith}
 use Rattle.std.specs.Prelude.{Contains, if◌then◌else◌}
 use Rattle.std.proofs.lemmas.Bool.{cases_eq, cases_lt}
 use Rattle.std.proofs.lemmas.Bool.Decides.{nat_tests}
 use Rattle.std.proofs.lemmas.List.Sums.{sum_by-cons, get_or-le-sum_by}
 use Rattle.transfer_invariant.specs.Tags.{total}
-use Rattle.batch_invariant.specs.Batches.{weight, is_head}
-use Rattle.batch_invariant.proofs.Apart.{counts_no_other}
-use Rattle.chain_invariant.specs.Chains.{without}
+use Rattle.batch_invariant.specs.Batches.{weight}
+use Rattle.chain_invariant.specs.Chains.{without, is_head}
 
--- a block counts for itself alone
+-- a head or block counts for itself alone
 pub counts_itself : (this : ℕ) → is_head this this ≡ 1
 counts_itself this = grind (arith, nat_tests)
+
+pub counts_equal : (this head : ℕ) → 1 ≤ is_head this head → head ≡ this
+counts_equal this head h = grind (arith, nat_tests)
+
+pub counts_no_other : (this head : ℕ) → head ≢ this → is_head this head ≡ 0
+counts_no_other this head h = grind (arith, nat_tests)
 
 -- a list that has a block weighs as much as it at least
 pub has_weighs : (xs : List ℕ) (b : ℕ) → Contains xs b → 1 ≤ weight (is_head b) xs

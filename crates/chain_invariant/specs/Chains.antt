@@ -1,12 +1,11 @@
 -- the part of the invariant that says where each block is
-use Rattle.std.specs.Prelude.{◌≡◌, ◌≢◌, ℕ, ◌+◌, ◌<◌, ◌≤◌, ◌==◌, not, List, [], ◌∷◌, length, filter}
+use Rattle.std.specs.Prelude.{◌≡◌, ◌≢◌, ℕ, ◌+◌, ◌<◌, ◌≤◌, ◌==◌, not, if◌then◌else◌, List, [], ◌∷◌, length, filter}
 use Rattle.word_layout.specs.Sizes.{Sizes, blocks}
 use Rattle.word_layout.specs.declared.name.WordName.TheVariants.{Next}
 use Rattle.transfer_machine.specs.States.{StackState}
 use Rattle.transfer_invariant.specs.Memory.{Words}
 use Rattle.transfer_invariant.specs.Tags.{total}
-use Rattle.batch_invariant.specs.Places.{moving}
-use Rattle.batch_invariant.specs.Batches.{ProcessViews, ReplyMatches, weight, is_head}
+use Rattle.batch_invariant.specs.Batches.{ProcessViews, ReplyMatches, weight, process_weight}
 
 -- the blocks that a code leads to by next words: none from 0, from `block + 1` that block and then those that its next word leads to
 unfoldable pub IsChain : Words → ℕ → List ℕ → Type 0
@@ -24,7 +23,11 @@ BlockLists = ℕ → List ℕ
 
 -- the weight of all batches: of the spares of the processes, in transit, and in the content
 unfoldable pub pool_weight : Sizes → StackState → ProcessViews → (ℕ → ℕ) → ℕ
-pool_weight sizes s views f = total sizes.processes (λ i. weight f (views i).pool.heads + weight f (moving s i (views i).transfer)) + total s.height (λ k. f (s.content k))
+pool_weight sizes s views f = total sizes.processes (λ i. process_weight s i (views i) f) + total s.height (λ k. f (s.content k))
+
+-- counts 1 for this head or block, 0 for any other
+abbrev pub is_head : ℕ → ℕ → ℕ
+is_head this head = if head == this then 1 else 0
 
 -- at how many places among them a head is
 abbrev pub times_pooled : Sizes → StackState → ProcessViews → ℕ → ℕ

@@ -23,9 +23,9 @@ use Rattle.transfer_invariant.specs.Memory.{Words, States, Acted, state_tag}
 use Rattle.transfer_invariant.specs.Tags.{total}
 use Rattle.transfer_invariant.specs.Laws.{PlanFits}
 use Rattle.batch_invariant.specs.Places.{moving}
-use Rattle.batch_invariant.specs.Batches.{ProcessViews, MovedProcess, is_head}
+use Rattle.batch_invariant.specs.Batches.{ProcessViews, MovedProcess}
 use Rattle.batch_invariant.specs.Premises.{InStep, PendingIsPresent, InstallsNext, SameStack}
-use Rattle.chain_invariant.specs.Chains.{BlockLists, ChainsHold, Chains, MovedList, NextsStay, OtherNextsStay, times_pooled, blocks_weight, without}
+use Rattle.chain_invariant.specs.Chains.{BlockLists, ChainsHold, Chains, MovedList, NextsStay, OtherNextsStay, times_pooled, blocks_weight, without, is_head}
 use Rattle.chain_invariant.specs.Steps.{SameParts, KeepsLists, FirstLeaves, SpareOpens, FirstComes, ListStarts}
 
 -- at the opening each block is at one place, and none is held
