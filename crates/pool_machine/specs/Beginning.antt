@@ -3,14 +3,14 @@ use Rattle.std.specs.Prelude.{ℕ, ◌-◌, ◌==◌, nat_lt, if◌then◌else�
 use Rattle.word_layout.specs.declared.announced.Wish.{Wish}
 use Rattle.word_layout.specs.declared.announced.Wish.TheVariants.{Take, Give}
 use Rattle.transfer_schedule.specs.Numbers.{is_idle}
-use Rattle.transfer_machine.specs.Pools.{view_begun}
-use Rattle.transfer_machine.specs.declared.call.Call.{Call}
-use Rattle.transfer_machine.specs.declared.call.Call.TheVariants.{Allocate, Free, Read, Write}
-use Rattle.transfer_machine.specs.declared.call.CallStage.{CallStage}
-use Rattle.transfer_machine.specs.declared.call.CallStage.TheVariants.{Moving, Own}
-use Rattle.transfer_machine.specs.declared.call.Way.TheVariants.{Alone, Calls}
-use Rattle.transfer_machine.specs.declared.view.PoolView.{PoolView}
-use Rattle.transfer_machine.specs.declared.view.ProcessView.{ProcessView}
+use Rattle.pool_machine.specs.Pools.{view_begun}
+use Rattle.pool_machine.specs.declared.call.Call.{Call}
+use Rattle.pool_machine.specs.declared.call.Call.TheVariants.{Allocate, Free, Read, Write}
+use Rattle.pool_machine.specs.declared.call.CallStage.{CallStage}
+use Rattle.pool_machine.specs.declared.call.CallStage.TheVariants.{Moving, Own}
+use Rattle.pool_machine.specs.declared.call.Way.TheVariants.{Alone, Calls}
+use Rattle.pool_machine.specs.declared.view.PoolView.{PoolView}
+use Rattle.pool_machine.specs.declared.view.ProcessView.{ProcessView}
 
 -- the head of the newest spare
 abbrev pub newest : PoolView → ℕ

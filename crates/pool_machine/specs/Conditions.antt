@@ -1,11 +1,11 @@
 -- when a process may begin a call, or a transfer alone
 use Rattle.std.specs.Prelude.{◌≢◌, ◌^◌, ◌<◌, Bool, IsTrue, true, false, ◌&&◌, nat_lt}
 use Rattle.word_layout.specs.Sizes.{Sizes}
-use Rattle.transfer_machine.specs.declared.call.Call.{Call}
-use Rattle.transfer_machine.specs.declared.call.Call.TheVariants.{Allocate, Free, Read, Write}
-use Rattle.transfer_machine.specs.declared.call.Way.{Way}
-use Rattle.transfer_machine.specs.declared.call.Way.TheVariants.{Fresh, Alone, Calls}
-use Rattle.transfer_machine.specs.declared.view.ProcessView.{ProcessView}
+use Rattle.pool_machine.specs.declared.call.Call.{Call}
+use Rattle.pool_machine.specs.declared.call.Call.TheVariants.{Allocate, Free, Read, Write}
+use Rattle.pool_machine.specs.declared.call.Way.{Way}
+use Rattle.pool_machine.specs.declared.call.Way.TheVariants.{Fresh, Alone, Calls}
+use Rattle.pool_machine.specs.declared.view.ProcessView.{ProcessView}
 
 -- the block of a call is held, and its index is one of the block's data words; `holds` says whether the process holds the block
 abbrev pub NamesFit : Sizes → Bool → Call → Type 0

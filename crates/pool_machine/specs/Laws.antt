@@ -5,12 +5,12 @@ use Rattle.word_layout.specs.Packing.{FitsWish}
 use Rattle.word_layout.specs.declared.announced.Wish.{Wish}
 use Rattle.transfer_schedule.specs.Numbers as schedule
 use Rattle.transfer_schedule.specs.declared.pending.Pending.TheVariants.{Idle}
-use Rattle.transfer_machine.specs.Pools.{opening_view, MayBegin}
-use Rattle.transfer_machine.specs.declared.call.Call.{Call}
-use Rattle.transfer_machine.specs.declared.call.Call.TheVariants.{Allocate, Free, Read, Write}
-use Rattle.transfer_machine.specs.declared.call.CallStage.TheVariants.{Between}
+use Rattle.pool_machine.specs.Pools.{opening_view, MayBegin}
+use Rattle.pool_machine.specs.declared.call.Call.{Call}
+use Rattle.pool_machine.specs.declared.call.Call.TheVariants.{Allocate, Free, Read, Write}
+use Rattle.pool_machine.specs.declared.call.CallStage.TheVariants.{Between}
 use Rattle.transfer_machine.specs.declared.stage.NextStep.TheVariants.{Rest}
-use Rattle.transfer_machine.specs.declared.view.ProcessView.{ProcessView}
+use Rattle.pool_machine.specs.declared.view.ProcessView.{ProcessView}
 use Rattle.pool_machine.specs.Beginning.{due, before_call, call_begun}
 use Rattle.pool_machine.specs.Conditions.{MayCall, MayMove, may_call, may_move}
 use Rattle.pool_machine.specs.OwnSteps.{own_met}

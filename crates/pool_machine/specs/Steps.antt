@@ -3,16 +3,16 @@ use Rattle.std.specs.Prelude.{ℕ, ◌+◌, ◌==◌, ◌||◌, if◌then◌else
 use Rattle.word_layout.specs.Sizes.{Sizes}
 use Rattle.word_layout.specs.declared.name.WordName.TheVariants.{State}
 use Rattle.transfer_machine.specs.Machine.{action_of}
-use Rattle.transfer_machine.specs.Pools.{view_met}
-use Rattle.transfer_machine.specs.Phases.{is_rest}
+use Rattle.pool_machine.specs.Pools.{view_met}
+use Rattle.transfer_machine.specs.Stages.{is_rest}
 use Rattle.transfer_machine.specs.Stages.{kind_of}
 use Rattle.transfer_machine.specs.declared.action.Action.{Action}
 use Rattle.transfer_machine.specs.declared.action.Action.TheVariants.{Load}
 use Rattle.transfer_machine.specs.declared.kind.Kind.{Kind}
 use Rattle.transfer_machine.specs.declared.stage.NextStep.{NextStep}
-use Rattle.transfer_machine.specs.declared.call.CallStage.{CallStage}
-use Rattle.transfer_machine.specs.declared.call.CallStage.TheVariants.{Between, Moving, Own}
-use Rattle.transfer_machine.specs.declared.view.ProcessView.{ProcessView}
+use Rattle.pool_machine.specs.declared.call.CallStage.{CallStage}
+use Rattle.pool_machine.specs.declared.call.CallStage.TheVariants.{Between, Moving, Own}
+use Rattle.pool_machine.specs.declared.view.ProcessView.{ProcessView}
 use Rattle.pool_machine.specs.declared.answer.OwnAnswer.{OwnAnswer}
 use Rattle.pool_machine.specs.declared.answer.OwnAnswer.TheVariants as answer
 use Rattle.pool_machine.specs.declared.event.Happened.{Happened}

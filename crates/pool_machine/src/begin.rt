@@ -3,7 +3,7 @@ ghost use Rattle.std.specs.Prelude.{◌≡◌, ◌<◌, ◌≤◌, ◌^◌, leng
 ghost use Rattle.word_layout.specs.Packing.{FitsWish};
 ghost use Rattle.transfer_schedule.specs.declared.pending.Pending.TheVariants.{Idle};
 ghost use Rattle.transfer_machine.specs.declared.stage.NextStep.TheVariants.{Rest};
-ghost use Rattle.transfer_machine.specs.Pools.{MayBegin};
+ghost use Rattle.pool_machine.specs.Pools.{MayBegin};
 ghost use Rattle.pool_machine.specs.Beginning.{newest, due, before_call, first_stage, entered, call_begun, alone_begun};
 ghost use Rattle.pool_machine.specs.Ready.{CanBegin};
 

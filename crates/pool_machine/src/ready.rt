@@ -2,7 +2,7 @@
 ghost use Rattle.std.specs.Prelude.{◌≡◌, ◌≢◌, ◌↔◌, IsTrue};
 ghost use Rattle.transfer_schedule.specs.Numbers.{source_of, target_of};
 ghost use Rattle.transfer_machine.specs.Machine.{CanAct};
-ghost use Rattle.transfer_machine.specs.Pools.{CanEnd};
+ghost use Rattle.pool_machine.specs.Pools.{CanEnd};
 ghost use Rattle.pool_machine.specs.Ready.{PlanFits, CanBegin, CanMove, CanMeetMoving, CanAllocate, CanFree, CanFollow, CanOwn, CanMeetOwn, CanActCall, CanMeetCall, CanStepCall};
 
 use crate::begin::newest;

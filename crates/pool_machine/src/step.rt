@@ -4,7 +4,7 @@ ghost use Rattle.word_layout.specs.Names.{InRange};
 ghost use Rattle.transfer_machine.specs.Words.{acted, met_word, name_of};
 ghost use Rattle.pool_machine.specs.Steps.{call_action, call_met, call_answer, happened, move_counted};
 ghost use Rattle.pool_machine.specs.Ready.{CanActCall, CanMeetCall, CanMove, CanMeetMoving, CanStepCall};
-ghost use Rattle.transfer_machine.specs.Pools.{view_met};
+ghost use Rattle.pool_machine.specs.Pools.{view_met};
 
 use crate::answer::OwnAnswer;
 use crate::event::Happened;

@@ -63,7 +63,6 @@ opening_transfer process = record {
   installed = 0;
   first_loaded = 0;
   wish = Take;
-  turn = 0;
   next = Rest;
   loaded = nothing_loaded;
   plan = nothing_planned;

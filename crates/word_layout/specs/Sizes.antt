@@ -21,6 +21,10 @@ pub record IsLength (processes quantum length : ℕ) : Type 0 where
   pub enough : transfer_steps processes ≤ quantum * length
   pub least : (n : ℕ) → transfer_steps processes ≤ quantum * n → length ≤ n
 
+-- the most blocks of a pool
+abbrev pub most_blocks : ℕ
+most_blocks = 2 ^ 22
+
 -- how many blocks there are
 unfoldable pub blocks : Sizes → ℕ
 blocks sizes = sizes.batches * sizes.length
@@ -32,7 +36,7 @@ pub record IsShape (sizes : Sizes) : Type 0 where
   pub two_batches_each : 2 * sizes.processes ≤ sizes.batches
   pub a_quantum : IsQuantum sizes.quantum
   pub least_length : IsLength sizes.processes sizes.quantum sizes.length
-  pub few_blocks : blocks sizes ≤ 2 ^ 22
+  pub few_blocks : blocks sizes ≤ most_blocks
   pub few_words : sizes.words ≤ 8
 
 -- a refused call has had a moment with at most so many unheld blocks

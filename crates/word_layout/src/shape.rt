@@ -1,6 +1,6 @@
 // The numbers of a pool.
 ghost use Rattle.std.specs.Prelude.{◌≡◌, ◌≤◌, ◌↔◌, IsTrue, IfOk, IfErr};
-ghost use Rattle.word_layout.specs.Sizes.{IsLength, IsQuantum};
+ghost use Rattle.word_layout.specs.Sizes.{IsLength, IsQuantum, transfer_steps};
 ghost use Rattle.word_layout.specs.Faults.{IsFirstFault};
 
 mod places;
@@ -37,7 +37,7 @@ impl Shape {
     const MOST_PROCESSES: u32 = 32;
 
     /// The most blocks of a pool.
-    const MOST_BLOCKS: u64 = 1 << 22;
+    pub const MOST_BLOCKS: u32 = 1 << 22;
 
     /// The most data words of a block.
     const MOST_WORDS: u32 = 8;
@@ -86,7 +86,7 @@ impl Shape {
         }
         let length = least_length(processes, quantum);
         let blocks = u64::from(batches) * u64::from(length);
-        if blocks > Shape::MOST_BLOCKS {
+        if blocks > u64::from(Shape::MOST_BLOCKS) {
             return Err(ShapeFault::ManyBlocks);
         }
         if words > Shape::MOST_WORDS {
@@ -162,7 +162,7 @@ impl Shape {
     pub fn transfer_bound(&self) -> u32
         ensures { result ≡ transfer_bound self.now }
     {
-        16 * self.processes + 15
+        transfer_steps(self.processes)
     }
 }
 
@@ -173,7 +173,15 @@ fn least_length(processes: u32, quantum: u32) -> u32
     requires some_step { 1 ≤ quantum }
     ensures { IsLength processes quantum result }
 {
-    (16 * processes + 15).div_ceil(quantum)
+    transfer_steps(processes).div_ceil(quantum)
+}
+
+/// How many steps a transfer among so many processes takes at most.
+fn transfer_steps(processes: u32) -> u32
+    requires { processes ≤ 32 }
+    ensures { result ≡ transfer_steps processes }
+{
+    16 * processes + 15
 }
 
 /// Whether a call may have this quantum.

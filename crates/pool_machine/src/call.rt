@@ -1,6 +1,6 @@
 // The calls of a process.
 ghost use Rattle.std.specs.Prelude.{◌≡◌};
-ghost use Rattle.transfer_machine.specs.Pools.{opening_calls};
+ghost use Rattle.pool_machine.specs.Pools.{opening_calls};
 
 /// What a process calls for.
 #[derive(Clone, Copy, Debug, PartialEq, Eq, Hash)]

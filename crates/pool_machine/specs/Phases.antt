@@ -1,31 +1,14 @@
 -- what a process is at
 use Rattle.std.specs.Prelude.{Bool, true, false, ◌||◌, if◌then◌else◌, Option, None, Some}
-use Rattle.transfer_machine.specs.Stages.{stage_of}
-use Rattle.transfer_machine.specs.declared.call.CallStage.{CallStage}
-use Rattle.transfer_machine.specs.declared.call.CallStage.TheVariants as call
-use Rattle.transfer_machine.specs.declared.call.Way.{Way}
-use Rattle.transfer_machine.specs.declared.call.Way.TheVariants.{Fresh, Alone, Calls}
-use Rattle.transfer_machine.specs.declared.stage.NextStep.{NextStep}
-use Rattle.transfer_machine.specs.declared.stage.NextStep.TheVariants.{Rest, Announce, LoadState, LoadRecordWord, LoadCoveredSlot, ExchangeSlot, LoadAnnouncement, LoadPoppedSlot, StoreRecordWord, ExchangeState, LoadFinalState, LoadReply}
-use Rattle.transfer_machine.specs.declared.stage.Phase.{Phase}
-use Rattle.transfer_machine.specs.declared.stage.Phase.TheVariants as phase
+use Rattle.transfer_machine.specs.Stages.{stage_of, is_rest}
+use Rattle.pool_machine.specs.declared.call.CallStage.{CallStage}
+use Rattle.pool_machine.specs.declared.call.CallStage.TheVariants as call
+use Rattle.pool_machine.specs.declared.call.Way.{Way}
+use Rattle.pool_machine.specs.declared.call.Way.TheVariants.{Fresh, Alone, Calls}
+use Rattle.pool_machine.specs.declared.phase.Phase.{Phase}
+use Rattle.pool_machine.specs.declared.phase.Phase.TheVariants as phase
 use Rattle.transfer_machine.specs.declared.stage.Stage.{Stage}
-use Rattle.transfer_machine.specs.declared.view.ProcessView.{ProcessView}
-
--- no transfer is begun
-abbrev pub is_rest : NextStep → Bool
-is_rest Rest = true
-is_rest Announce = false
-is_rest LoadState = false
-is_rest (LoadRecordWord index) = false
-is_rest (LoadCoveredSlot offset) = false
-is_rest (ExchangeSlot offset) = false
-is_rest (LoadAnnouncement process) = false
-is_rest (LoadPoppedSlot process) = false
-is_rest (StoreRecordWord index) = false
-is_rest ExchangeState = false
-is_rest LoadFinalState = false
-is_rest LoadReply = false
+use Rattle.pool_machine.specs.declared.view.ProcessView.{ProcessView}
 
 -- the process has begun a call
 abbrev pub has_called : Way → Bool

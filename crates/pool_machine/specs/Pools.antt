@@ -11,13 +11,13 @@ use Rattle.transfer_schedule.specs.declared.pending.Pending.{Pending}
 use Rattle.transfer_schedule.specs.declared.pending.Pending.TheVariants.{Idle, Taking, Giving}
 use Rattle.transfer_machine.specs.Machine.{met_of, begun}
 use Rattle.transfer_machine.specs.Opening.{opening_transfer}
-use Rattle.transfer_machine.specs.declared.call.CallView.{CallView}
-use Rattle.transfer_machine.specs.declared.call.CallStage.TheVariants.{Between}
-use Rattle.transfer_machine.specs.declared.call.Way.TheVariants.{Fresh}
-use Rattle.transfer_machine.specs.declared.view.PoolView.{PoolView}
-use Rattle.transfer_machine.specs.declared.view.ProcessView.{ProcessView}
+use Rattle.pool_machine.specs.declared.call.CallView.{CallView}
+use Rattle.pool_machine.specs.declared.call.CallStage.TheVariants.{Between}
+use Rattle.pool_machine.specs.declared.call.Way.TheVariants.{Fresh}
+use Rattle.pool_machine.specs.declared.view.PoolView.{PoolView}
+use Rattle.pool_machine.specs.declared.view.ProcessView.{ProcessView}
 use Rattle.transfer_machine.specs.declared.stage.NextStep.{NextStep}
-use Rattle.transfer_machine.specs.declared.stage.NextStep.TheVariants.{Rest, Announce, LoadState, LoadRecordWord, LoadCoveredSlot, ExchangeSlot, LoadAnnouncement, LoadPoppedSlot, StoreRecordWord, ExchangeState, LoadFinalState, LoadReply}
+use Rattle.transfer_machine.specs.declared.stage.NextStep.TheVariants.{Rest, Announce, Try, LoadFinalState, LoadReply}
 
 -- the pool of a process at the opening: a full current list, and one spare after it
 abbrev pub opening_pool : Sizes → ℕ → PoolView
@@ -73,14 +73,7 @@ step_counted pool = record pool { plan = schedule.after_steps 1 pool.plan }
 abbrev pub pool_met_at : ℕ → PoolView → NextStep → PoolView
 pool_met_at word pool Rest = pool
 pool_met_at word pool Announce = record (step_counted pool) { giving = 0 }
-pool_met_at word pool LoadState = step_counted pool
-pool_met_at word pool (LoadRecordWord index) = step_counted pool
-pool_met_at word pool (LoadCoveredSlot offset) = step_counted pool
-pool_met_at word pool (ExchangeSlot offset) = step_counted pool
-pool_met_at word pool (LoadAnnouncement process) = step_counted pool
-pool_met_at word pool (LoadPoppedSlot process) = step_counted pool
-pool_met_at word pool (StoreRecordWord index) = step_counted pool
-pool_met_at word pool ExchangeState = step_counted pool
+pool_met_at word pool (Try second step) = step_counted pool
 pool_met_at word pool LoadFinalState = step_counted pool
 pool_met_at word pool LoadReply = pool_ended (reply_of (value_of word)) (step_counted pool)
 

@@ -4,8 +4,8 @@ ghost use Rattle.word_layout.specs.Packing.{FitsWish};
 ghost use Rattle.transfer_schedule.specs.declared.pending.Pending.TheVariants.{Idle};
 ghost use Rattle.transfer_machine.specs.declared.stage.NextStep.TheVariants.{Rest};
 ghost use Rattle.transfer_machine.specs.Machine.{CanAct, CanMeet};
-ghost use Rattle.transfer_machine.specs.Phases.{phase_of, waiting_of};
-ghost use Rattle.transfer_machine.specs.Pools.{opening_pool, opening_view, pool_begun, view_begun, pool_met_at, view_met, pool_ended, MayBegin, CanCount, CanMeetPool, CanEnd};
+ghost use Rattle.pool_machine.specs.Phases.{phase_of, waiting_of};
+ghost use Rattle.pool_machine.specs.Pools.{opening_pool, opening_view, pool_begun, view_begun, pool_met_at, view_met, pool_ended, MayBegin, CanCount, CanMeetPool, CanEnd};
 
 use crate::call::{CallStage, CallView, Way};
 use crate::heads::Heads;
