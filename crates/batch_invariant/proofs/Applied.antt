@@ -1,10 +1,10 @@
 -- a pending transfer is applied: its batch goes from the process to the stack, or from the stack to the process
-use Rattle.std.proofs.Common.{◌≡◌, ◌≢◌, ℕ, ◌+◌, ◌-◌, ◌<◌, ◌≤◌, ◌^◌, ◌==◌, Bool, true, false, refl, sym, ap, ◌∙◌, inl, inr, arith, []}
+use Rattle.std.proofs.Common.{◌≡◌, ◌≢◌, ℕ, ◌+◌, ◌-◌, ◌<◌, ◌≤◌, ◌==◌, Bool, true, false, refl, sym, ap, ◌∙◌, inl, inr, arith, []}
 use Rattle.std.specs.Prelude.{if◌then◌else◌}
 use Rattle.std.proofs.lemmas.Bool.{cases_eq}
 use Rattle.std.proofs.lemmas.Bool.Decides.{nat_tests}
 use Rattle.std.proofs.lemmas.List.Sums.{sum_by-cons}
-use Rattle.word_layout.specs.Sizes.{Sizes}
+use Rattle.word_layout.specs.Sizes.{Sizes, most_blocks}
 use Rattle.word_layout.specs.Packing.{reply_value, reply_of, FitsReply}
 use Rattle.word_layout.specs.declared.announced.Wish.{Wish}
 use Rattle.word_layout.specs.declared.announced.Wish.TheVariants.{Take, Give}
@@ -34,11 +34,11 @@ pub put_elsewhere : (place value : ℕ) (values : ℕ → ℕ) (k : ℕ) → k �
 put_elsewhere place value values k ne = let test : (k == place) ≡ false = grind (arith, nat_tests) in rw test refl
 
 -- replies that fit
-taken_fits : (t : Bool) (head : ℕ) → (t ≡ false → head < 2 ^ 22) → FitsReply (if t then Nothing else Took head)
+taken_fits : (t : Bool) (head : ℕ) → (t ≡ false → head < most_blocks) → FitsReply (if t then Nothing else Took head)
 taken_fits true head h = tt
 taken_fits false head h = h refl
 
-pub answer_fits : (s : StackState) (wish : Wish) → ((place : ℕ) → place < s.height → s.content place < 2 ^ 22) → FitsReply (answer_to wish s)
+pub answer_fits : (s : StackState) (wish : Wish) → ((place : ℕ) → place < s.height → s.content place < most_blocks) → FitsReply (answer_to wish s)
 answer_fits s Take heads = taken_fits (s.height == 0) (s.content (s.height - 1)) (λ e. heads (s.height - 1) (not_empty s.height e))
   where
     not_empty : (n : ℕ) → (n == 0) ≡ false → n - 1 < n

@@ -9,14 +9,15 @@ use Rattle.word_layout.specs.declared.announced.Wish.TheVariants.{Take, Give}
 use Rattle.word_layout.specs.declared.reply.Reply.{Reply}
 use Rattle.word_layout.specs.declared.reply.Reply.TheVariants.{Nothing, Took, Gave}
 use Rattle.transfer_machine.specs.Machine.{met_at, begun}
-use Rattle.transfer_machine.specs.Pools.{MayBegin, view_begun, pool_met_at, pool_ended, step_counted}
+use Rattle.pool_machine.specs.Pools.{MayBegin, view_begun, pool_met_at, pool_ended, step_counted}
 use Rattle.transfer_machine.specs.States.{StackState}
 use Rattle.transfer_machine.specs.Tries.{is_take}
 use Rattle.transfer_machine.specs.declared.transfer.TransferView.{TransferView}
-use Rattle.transfer_machine.specs.declared.view.PoolView.{PoolView}
-use Rattle.transfer_machine.specs.declared.view.ProcessView.{ProcessView}
+use Rattle.pool_machine.specs.declared.view.PoolView.{PoolView}
+use Rattle.pool_machine.specs.declared.view.ProcessView.{ProcessView}
 use Rattle.transfer_machine.specs.declared.stage.NextStep.{NextStep}
-use Rattle.transfer_machine.specs.declared.stage.NextStep.TheVariants.{Rest, Announce, LoadState, LoadRecordWord, LoadCoveredSlot, ExchangeSlot, LoadAnnouncement, LoadPoppedSlot, StoreRecordWord, ExchangeState, LoadFinalState, LoadReply}
+use Rattle.transfer_machine.specs.declared.stage.NextStep.TheVariants.{Rest, Announce, Try, LoadFinalState, LoadReply}
+use Rattle.transfer_machine.specs.declared.stage.TryStep.TheVariants.{ExchangeState}
 use Rattle.transfer_invariant.specs.Memory.{Moved}
 use Rattle.transfer_invariant.specs.Progress.{has_announced}
 use Rattle.batch_invariant.specs.Places.{taken, brought}
@@ -106,21 +107,14 @@ pub stage_keeps : (sizes : Sizes) (s : StackState) (i : ℕ) (v : ProcessView) (
 stage_keeps sizes s i v word Rest e h matches = record { same_weight = λ f. refl; matches = λ m. m }
 stage_keeps sizes s i v word Announce e h matches =
     announced_keeps s i v (record v { transfer = met_at sizes v.transfer word Announce; pool = pool_met_at word v.pool Announce }) e (h.calm (rw e refl)) refl refl refl refl
-stage_keeps sizes s i v word LoadState e h matches = trying_keeps sizes s i v word LoadState refl e
-stage_keeps sizes s i v word (LoadRecordWord index) e h matches = trying_keeps sizes s i v word (LoadRecordWord index) refl e
-stage_keeps sizes s i v word (LoadCoveredSlot offset) e h matches = trying_keeps sizes s i v word (LoadCoveredSlot offset) refl e
-stage_keeps sizes s i v word (ExchangeSlot offset) e h matches = trying_keeps sizes s i v word (ExchangeSlot offset) refl e
-stage_keeps sizes s i v word (LoadAnnouncement process) e h matches = trying_keeps sizes s i v word (LoadAnnouncement process) refl e
-stage_keeps sizes s i v word (LoadPoppedSlot process) e h matches = trying_keeps sizes s i v word (LoadPoppedSlot process) refl e
-stage_keeps sizes s i v word (StoreRecordWord index) e h matches = trying_keeps sizes s i v word (StoreRecordWord index) refl e
-stage_keeps sizes s i v word ExchangeState e h matches = trying_keeps sizes s i v word ExchangeState refl e
+stage_keeps sizes s i v word (Try second step) e h matches = trying_keeps sizes s i v word (Try second step) refl e
 stage_keeps sizes s i v word LoadFinalState e h matches = trying_keeps sizes s i v word LoadFinalState refl e
 stage_keeps sizes s i v word LoadReply e h matches =
     ended_keeps s i v (record v { transfer = met_at sizes v.transfer word LoadReply; pool = pool_met_at word v.pool LoadReply }) (reply_of (value_of word)) e (h.applied e) (ap reply_of (sym (h.reply e))) matches refl refl
 
 -- a view that exchanges the state is in step with whatever state is there
-pub exchange_in_step : (s : StackState) (i : ℕ) (v : TransferView) (word : ℕ) → v.next ≡ ExchangeState → InStep s i v word
-exchange_in_step s i v word e = record { calm = λ h. absurd (grind arith); reply = λ last. absurd cc; applied = λ last. absurd cc }
+pub exchange_in_step : (s : StackState) (i : ℕ) (v : TransferView) (word : ℕ) (second : Bool) → v.next ≡ Try second ExchangeState → InStep s i v word
+exchange_in_step s i v word second e = record { calm = λ h. absurd (grind arith); reply = λ last. absurd cc; applied = λ last. absurd cc }
 
 -- a beginning: the given batch leaves the spares and is in transit
 pub spares_parted : (f : ℕ → ℕ) (heads : List ℕ) (head : ℕ) → 1 ≤ length heads → slice_index heads (length heads - 1) ≡ head → weight f (take (length heads - 1) heads) + f head ≡ weight f heads

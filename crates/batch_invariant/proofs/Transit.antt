@@ -1,8 +1,8 @@
 -- what follows where all heads in transit and in the content fit; and batches that are carried stay fitting, and are carried on
-use Rattle.std.proofs.Common.{◌≡◌, ◌≢◌, ℕ, ◌<◌, ◌^◌, true, ◌∙◌, [], arith}
+use Rattle.std.proofs.Common.{◌≡◌, ◌≢◌, ℕ, ◌<◌, true, ◌∙◌, [], arith}
 use Rattle.std.proofs.lemmas.Bool.Decides.{nat_tests}
 use Rattle.std.proofs.lemmas.List.Sums.{sum_by-cons}
-use Rattle.word_layout.specs.Sizes.{Sizes}
+use Rattle.word_layout.specs.Sizes.{Sizes, most_blocks}
 use Rattle.word_layout.specs.Packing.{FitsWish}
 use Rattle.word_layout.specs.declared.announced.Wish.{Wish}
 use Rattle.word_layout.specs.declared.announced.Wish.TheVariants.{Take, Give}
@@ -14,15 +14,15 @@ use Rattle.batch_invariant.specs.Transit.{transit_weight, is_large, HeadsFit, Ca
 use Rattle.batch_invariant.proofs.Sums.{term_of_total}
 use Rattle.batch_invariant.proofs.Moving.{moving_pending}
 
-fits_where : (head : ℕ) → is_large head ≡ 0 → head < 2 ^ 22
+fits_where : (head : ℕ) → is_large head ≡ 0 → head < most_blocks
 fits_where head e = grind (arith, nat_tests)
 
-pub small_where : (head : ℕ) → head < 2 ^ 22 → is_large head ≡ 0
+pub small_where : (head : ℕ) → head < most_blocks → is_large head ≡ 0
 small_where head lt = grind (arith, nat_tests)
 
 -- each head in the content fits
 pub content_fits : (sizes : Sizes) (s : StackState) (views : ProcessViews) (place : ℕ) → HeadsFit sizes s views → place < s.height
-    → s.content place < 2 ^ 22
+    → s.content place < most_blocks
 unfolding transit_weight
 content_fits sizes s views place fits lt =
     let term = term_of_total s.height place (λ k. is_large (s.content k)) lt in

@@ -8,21 +8,14 @@ use Rattle.word_layout.specs.declared.reply.Reply.TheVariants.{Nothing, Took, Ga
 use Rattle.transfer_machine.specs.States.{StackState}
 use Rattle.transfer_machine.specs.declared.transfer.TransferView.{TransferView}
 use Rattle.transfer_machine.specs.declared.stage.NextStep.{NextStep}
-use Rattle.transfer_machine.specs.declared.stage.NextStep.TheVariants.{Rest, Announce, LoadState, LoadRecordWord, LoadCoveredSlot, ExchangeSlot, LoadAnnouncement, LoadPoppedSlot, StoreRecordWord, ExchangeState, LoadFinalState, LoadReply}
+use Rattle.transfer_machine.specs.declared.stage.NextStep.TheVariants.{Rest, Announce, Try, LoadFinalState, LoadReply}
 use Rattle.transfer_invariant.specs.Progress.{has_announced}
 
 -- in a transfer that is begun and not announced yet
 abbrev pub has_only_begun : NextStep → Bool
 has_only_begun Rest = false
 has_only_begun Announce = true
-has_only_begun LoadState = false
-has_only_begun (LoadRecordWord index) = false
-has_only_begun (LoadCoveredSlot offset) = false
-has_only_begun (ExchangeSlot offset) = false
-has_only_begun (LoadAnnouncement process) = false
-has_only_begun (LoadPoppedSlot process) = false
-has_only_begun (StoreRecordWord index) = false
-has_only_begun ExchangeState = false
+has_only_begun (Try second step) = false
 has_only_begun LoadFinalState = false
 has_only_begun LoadReply = false
 

@@ -1,7 +1,7 @@
 -- what other parts of the invariant say of a step, as far as batches need it
-use Rattle.std.specs.Prelude.{◌≡◌, ℕ, ◌+◌, ◌<◌, ◌^◌, true, false, slice_index}
+use Rattle.std.specs.Prelude.{◌≡◌, ℕ, ◌+◌, ◌<◌, true, false, slice_index}
 use Rattle.word_layout.specs.Sizes.{Sizes}
-use Rattle.word_layout.specs.Packing.{value_of, announced_word}
+use Rattle.word_layout.specs.Packing.{value_limit, value_of, announced_word}
 use Rattle.transfer_machine.specs.States.{StackState, next_of}
 use Rattle.transfer_machine.specs.Tries.{is_pending}
 use Rattle.transfer_machine.specs.declared.transfer.TransferView.{TransferView}
@@ -31,6 +31,6 @@ pub record SameStack (processes : ℕ) (s t : StackState) : Type 0 where
 
 -- a view that installs the state after this one: its pending announcements are present, and the state that it planned is what they make of this one
 pub record InstallsNext (sizes : Sizes) (s : StackState) (views : ProcessViews) (v : TransferView) : Type 0 where
-  pub row : v.next_record < 2 ^ 24
+  pub row : v.next_record < value_limit
   pub present : (o : ℕ) → o < sizes.processes → PendingIsPresent s (slice_index v.loaded.announcements o) o (views o).transfer
   pub planned : SameStack sizes.processes (next_of sizes.processes (λ o. slice_index v.loaded.announcements o) s) (planned_state s v)

@@ -1,6 +1,6 @@
 -- the batches in transit and in the content: all that a change of the state moves, wherever the spares of the processes come from
-use Rattle.std.specs.Prelude.{◌≡◌, ℕ, ◌+◌, ◌<◌, ◌^◌, if◌then◌else◌, nat_lt}
-use Rattle.word_layout.specs.Sizes.{Sizes}
+use Rattle.std.specs.Prelude.{◌≡◌, ℕ, ◌+◌, ◌<◌, if◌then◌else◌, nat_lt}
+use Rattle.word_layout.specs.Sizes.{Sizes, most_blocks}
 use Rattle.transfer_machine.specs.States.{StackState}
 use Rattle.transfer_invariant.specs.Tags.{total}
 use Rattle.batch_invariant.specs.Places.{moving}
@@ -12,7 +12,7 @@ transit_weight sizes s views f = total sizes.processes (λ i. weight f (moving s
 
 -- counts 1 for a number that is no head of any pool, 0 for others
 abbrev pub is_large : ℕ → ℕ
-is_large head = if nat_lt head (2 ^ 22) then 0 else 1
+is_large head = if nat_lt head most_blocks then 0 else 1
 
 -- all heads in transit and in the content fit a word
 pub record HeadsFit (sizes : Sizes) (s : StackState) (views : ProcessViews) : Type 0 where

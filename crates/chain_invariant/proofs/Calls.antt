@@ -14,9 +14,9 @@ use Rattle.transfer_schedule.specs.declared.own_step.Target.TheVariants as targe
 use Rattle.transfer_machine.specs.States.{StackState}
 use Rattle.transfer_machine.specs.Words.{name_of}
 use Rattle.transfer_machine.specs.declared.action.Action.TheVariants.{Load, Store}
-use Rattle.transfer_machine.specs.declared.call.Call.{Call}
-use Rattle.transfer_machine.specs.declared.call.Call.TheVariants.{Allocate, Free, Read, Write}
-use Rattle.transfer_machine.specs.declared.view.ProcessView.{ProcessView}
+use Rattle.pool_machine.specs.declared.call.Call.{Call}
+use Rattle.pool_machine.specs.declared.call.Call.TheVariants.{Allocate, Free, Read, Write}
+use Rattle.pool_machine.specs.declared.view.ProcessView.{ProcessView}
 use Rattle.transfer_invariant.specs.Memory.{Words, Acted}
 use Rattle.pool_machine.specs.Beginning.{newest, due, begun_if_due, call_begun}
 use Rattle.pool_machine.specs.OwnSteps.{block_from, next_block, allocate_action, follower, own_action_for, allocated, freed, pool_own_met}

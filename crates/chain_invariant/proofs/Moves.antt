@@ -11,13 +11,13 @@ use Rattle.word_layout.specs.declared.reply.Reply.TheVariants.{Nothing, Took, Ga
 use Rattle.word_layout.proofs.Limits.{two_blocks_a_batch}
 use Rattle.transfer_schedule.specs.Numbers as schedule
 use Rattle.transfer_schedule.specs.declared.pending.Pending.TheVariants.{Idle}
-use Rattle.transfer_machine.specs.Pools.{MayBegin, view_begun, view_met, pool_begun, pool_met_at, pool_ended, step_counted}
+use Rattle.pool_machine.specs.Pools.{MayBegin, view_begun, view_met, pool_begun, pool_met_at, pool_ended, step_counted}
 use Rattle.transfer_machine.specs.States.{StackState, next_of}
 use Rattle.transfer_machine.specs.declared.transfer.TransferView.{TransferView}
-use Rattle.transfer_machine.specs.declared.view.PoolView.{PoolView}
-use Rattle.transfer_machine.specs.declared.view.ProcessView.{ProcessView}
+use Rattle.pool_machine.specs.declared.view.PoolView.{PoolView}
+use Rattle.pool_machine.specs.declared.view.ProcessView.{ProcessView}
 use Rattle.transfer_machine.specs.declared.stage.NextStep.{NextStep}
-use Rattle.transfer_machine.specs.declared.stage.NextStep.TheVariants.{Rest, Announce, LoadState, LoadRecordWord, LoadCoveredSlot, ExchangeSlot, LoadAnnouncement, LoadPoppedSlot, StoreRecordWord, ExchangeState, LoadFinalState, LoadReply}
+use Rattle.transfer_machine.specs.declared.stage.NextStep.TheVariants.{Rest, Announce, Try, LoadFinalState, LoadReply}
 use Rattle.transfer_invariant.specs.Installing.{planned_state}
 use Rattle.transfer_invariant.specs.Memory.{Words}
 use Rattle.batch_invariant.specs.Places.{moving}
@@ -110,14 +110,7 @@ counted_ended pool x keeps = record { head = keeps.head; current = keeps.current
 met_keeps_current : (word : ℕ) (pool : PoolView) (stage : NextStep) → KeepsCurrent pool (pool_met_at word pool stage)
 met_keeps_current word pool Rest = record { head = refl; current = refl }
 met_keeps_current word pool Announce = record { head = refl; current = refl }
-met_keeps_current word pool LoadState = record { head = refl; current = refl }
-met_keeps_current word pool (LoadRecordWord index) = record { head = refl; current = refl }
-met_keeps_current word pool (LoadCoveredSlot offset) = record { head = refl; current = refl }
-met_keeps_current word pool (ExchangeSlot offset) = record { head = refl; current = refl }
-met_keeps_current word pool (LoadAnnouncement process) = record { head = refl; current = refl }
-met_keeps_current word pool (LoadPoppedSlot process) = record { head = refl; current = refl }
-met_keeps_current word pool (StoreRecordWord index) = record { head = refl; current = refl }
-met_keeps_current word pool ExchangeState = record { head = refl; current = refl }
+met_keeps_current word pool (Try second step) = record { head = refl; current = refl }
 met_keeps_current word pool LoadFinalState = record { head = refl; current = refl }
 met_keeps_current word pool LoadReply = counted_ended pool (pool_ended (reply_of (value_of word)) (step_counted pool)) (ended_keeps_current (reply_of (value_of word)) (step_counted pool))
 

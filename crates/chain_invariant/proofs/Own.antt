@@ -6,7 +6,7 @@ use Rattle.std.proofs.lemmas.Bool.{cases_eq, cases_lt}
 use Rattle.std.proofs.lemmas.List.Sums.{sum_by-cons, sum_by_push}
 use Rattle.word_layout.specs.Sizes.{Sizes, blocks}
 use Rattle.transfer_machine.specs.States.{StackState}
-use Rattle.transfer_machine.specs.declared.view.ProcessView.{ProcessView}
+use Rattle.pool_machine.specs.declared.view.ProcessView.{ProcessView}
 use Rattle.transfer_invariant.specs.Memory.{Words}
 use Rattle.batch_invariant.specs.Batches.{ProcessViews, MovedProcess, weight}
 use Rattle.batch_invariant.proofs.Steps.{spares_parted}

@@ -4,7 +4,7 @@ use Rattle.std.specs.Prelude.{Contains}
 use Rattle.word_layout.specs.Sizes.{Sizes, IsShape}
 use Rattle.word_layout.proofs.Limits.{two_blocks_a_batch}
 use Rattle.transfer_machine.specs.States.{StackState}
-use Rattle.transfer_machine.specs.declared.view.ProcessView.{ProcessView}
+use Rattle.pool_machine.specs.declared.view.ProcessView.{ProcessView}
 use Rattle.transfer_invariant.specs.Memory.{Words}
 use Rattle.batch_invariant.specs.Batches.{ProcessViews, MovedProcess}
 use Rattle.chain_invariant.specs.Chains.{BlockLists, Chains, MovedList, NextsStay, OtherNextsStay, without}

@@ -5,7 +5,7 @@ use Rattle.std.proofs.lemmas.Bool.{cases_eq}
 use Rattle.std.proofs.lemmas.Bool.Decides.{nat_tests}
 use Rattle.word_layout.specs.Sizes.{Sizes}
 use Rattle.transfer_machine.specs.States.{StackState}
-use Rattle.transfer_machine.specs.declared.view.ProcessView.{ProcessView}
+use Rattle.pool_machine.specs.declared.view.ProcessView.{ProcessView}
 use Rattle.transfer_invariant.specs.Memory.{Words}
 use Rattle.transfer_invariant.proofs.Installs.{total_moved}
 use Rattle.batch_invariant.specs.Places.{moving}

@@ -5,7 +5,7 @@ use Rattle.std.proofs.lemmas.Bool.{cases_lt}
 use Rattle.std.proofs.lemmas.List.Sums.{get_or-le-sum_by}
 use Rattle.word_layout.specs.Sizes.{Sizes}
 use Rattle.transfer_machine.specs.States.{StackState}
-use Rattle.transfer_machine.specs.declared.view.ProcessView.{ProcessView}
+use Rattle.pool_machine.specs.declared.view.ProcessView.{ProcessView}
 use Rattle.transfer_invariant.specs.Tags.{total}
 use Rattle.transfer_invariant.proofs.Installs.{total_same, total_moved}
 use Rattle.batch_invariant.specs.Places.{moving}

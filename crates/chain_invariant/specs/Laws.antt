@@ -1,5 +1,5 @@
 -- the opening, transfers and the own steps of processes keep each block at one place, and what follows
-use Rattle.std.specs.Prelude.{◌≡◌, ◌≢◌, ℕ, ◌+◌, ◌-◌, ◌*◌, ◌<◌, ◌≤◌, true, false, [], ◌∷◌, length, slice_index, Contains}
+use Rattle.std.specs.Prelude.{◌≡◌, ◌≢◌, ℕ, ◌+◌, ◌-◌, ◌*◌, ◌<◌, ◌≤◌, Bool, true, false, [], ◌∷◌, length, slice_index, Contains}
 use Rattle.std.specs.List.{All}
 use Rattle.word_layout.specs.Sizes.{Sizes, IsShape, blocks, slack}
 use Rattle.word_layout.specs.Packing.{value_of, reply_of}
@@ -10,13 +10,14 @@ use Rattle.word_layout.specs.declared.reply.Reply.TheVariants.{Nothing, Gave}
 use Rattle.transfer_schedule.specs.Numbers.{is_idle, withheld}
 use Rattle.transfer_machine.specs.Machine.{action_of}
 use Rattle.transfer_machine.specs.Opening.{opening_base, opening_slot, opening_next}
-use Rattle.transfer_machine.specs.Pools.{opening_view, view_begun, view_met, MayBegin}
+use Rattle.pool_machine.specs.Pools.{opening_view, view_begun, view_met, MayBegin}
 use Rattle.transfer_machine.specs.States.{StackState, next_of}
 use Rattle.transfer_machine.specs.Tries.{is_take}
 use Rattle.transfer_machine.specs.Words.{name_of}
 use Rattle.transfer_machine.specs.declared.transfer.TransferView.{TransferView}
-use Rattle.transfer_machine.specs.declared.view.ProcessView.{ProcessView}
-use Rattle.transfer_machine.specs.declared.stage.NextStep.TheVariants.{Rest, Announce, ExchangeState, LoadReply}
+use Rattle.pool_machine.specs.declared.view.ProcessView.{ProcessView}
+use Rattle.transfer_machine.specs.declared.stage.NextStep.TheVariants.{Rest, Announce, Try, LoadReply}
+use Rattle.transfer_machine.specs.declared.stage.TryStep.TheVariants.{ExchangeState}
 use Rattle.transfer_invariant.specs.Progress.{has_announced}
 use Rattle.transfer_invariant.specs.Installing.{planned_state, states_after}
 use Rattle.transfer_invariant.specs.Memory.{Words, States, Acted, state_tag}
@@ -76,7 +77,7 @@ abbrev pub TransfersKeepChains : Type 0
 TransfersKeepChains = (sizes : Sizes) (words new : Words) (views after : ProcessViews) (states : States) (held : BlockLists) (i : ℕ) (x : ProcessView) → IsShape sizes → i < sizes.processes
     → Chains sizes words (states (state_tag words)) views held
     → InStep (states (state_tag words)) i (views i).transfer (words (name_of (action_of sizes (views i).transfer)))
-    → ((views i).transfer.next ≡ ExchangeState → words State ≡ (views i).transfer.loaded.state → InstallsNext sizes (states (state_tag words)) views (views i).transfer)
+    → ((second : Bool) → (views i).transfer.next ≡ Try second ExchangeState → words State ≡ (views i).transfer.loaded.state → InstallsNext sizes (states (state_tag words)) views (views i).transfer)
     → Acted sizes (action_of sizes (views i).transfer) words new
     → SameParts x (view_met sizes (views i) (words (name_of (action_of sizes (views i).transfer))))
     → MovedProcess i x views after
