@@ -21,16 +21,21 @@ moving_begun s i v e = rw e refl
 announced_begun : (next : NextStep) → has_announced next ≡ true → has_only_begun next ≡ false
 announced_begun next h = grind arith
 
-pub moving_pending : (s : StackState) (i : ℕ) (v : TransferView) → has_announced v.next ≡ true → s.applied i ≢ v.age → moving s i v ≡ given v.wish
+pub moving_pending : (s : StackState) (i : ℕ) (v : TransferView) → has_announced v.next ≡ true → s.applied i ≢ v.age
+    → moving s i v ≡ given v.wish
 unfolding moving
-moving_pending s i v h ne = let test : (s.applied i == v.age) ≡ false = grind (arith, nat_tests) in rw (announced_begun v.next h, h, test) refl
+moving_pending s i v h ne = let test : (s.applied i == v.age) ≡ false = grind (arith, nat_tests) in
+    rw (announced_begun v.next h, h, test) refl
 
-pub moving_applied : (s : StackState) (i : ℕ) (v : TransferView) → has_announced v.next ≡ true → s.applied i ≡ v.age → moving s i v ≡ taken v.wish (reply_of (s.reply i))
+pub moving_applied : (s : StackState) (i : ℕ) (v : TransferView) → has_announced v.next ≡ true → s.applied i ≡ v.age
+    → moving s i v ≡ taken v.wish (reply_of (s.reply i))
 unfolding moving
-moving_applied s i v h e = let test : (s.applied i == v.age) ≡ true = grind (arith, nat_tests) in rw (announced_begun v.next h, h, test) refl
+moving_applied s i v h e = let test : (s.applied i == v.age) ≡ true = grind (arith, nat_tests) in
+    rw (announced_begun v.next h, h, test) refl
 
 -- it depends only on what the state says of the process, and on the wish, the age and whether it is announced
-pub moving_same_state : (s t : StackState) (i : ℕ) (v : TransferView) → t.reply i ≡ s.reply i → t.applied i ≡ s.applied i → moving t i v ≡ moving s i v
+pub moving_same_state : (s t : StackState) (i : ℕ) (v : TransferView) → t.reply i ≡ s.reply i → t.applied i ≡ s.applied i
+    → moving t i v ≡ moving s i v
 unfolding moving
 moving_same_state s t i v er ea = rw (er, ea) refl
 

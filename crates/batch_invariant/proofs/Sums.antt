@@ -18,7 +18,8 @@ total_sums (suc count) f g = omega (arith, total_sums count f g)
 pub total_parts : (first second : ℕ) (f : ℕ → ℕ) → total (first + second) f ≡ total first f + total second (λ k. f (first + k))
 unfolding total
 total_parts first zero f = let none : first + 0 ≡ first = omega arith in rw none (omega arith)
-total_parts first (suc second) f = let more : first + suc second ≡ (first + second) + 1 = omega arith in rw (more, total_more (first + second) f) (omega (arith, total_parts first second f))
+total_parts first (suc second) f = let more : first + suc second ≡ (first + second) + 1 = omega arith in
+    rw (more, total_more (first + second) f) (omega (arith, total_parts first second f))
 
 pub total_pairs : (count : ℕ) (f : ℕ → ℕ) → total count (λ i. f (2 * i) + f (2 * i + 1)) ≡ total (2 * count) f
 unfolding total
@@ -31,7 +32,10 @@ total_pairs (suc count) f =
 pub term_of_total : (count i : ℕ) (f : ℕ → ℕ) → i < count → f i ≤ total count f
 unfolding total
 term_of_total zero i f lt = absurd (omega arith)
-term_of_total (suc count) i f lt = elim (cases_eq i count) [ inl e ↦ rw e (omega arith) | inr ne ↦ omega (arith, term_of_total count i f (omega arith)) ]
+term_of_total (suc count) i f lt = elim (cases_eq i count) [
+  | inl e ↦ rw e (omega arith)
+  | inr ne ↦ omega (arith, term_of_total count i f (omega arith))
+]
 
 pub terms_of_total : (count i later : ℕ) (f : ℕ → ℕ) → i < later → later < count → f i + f later ≤ total count f
 unfolding total

@@ -42,10 +42,12 @@ pending_fits sizes s views i li fits announced ne =
     given_fits (views i).transfer.wish (rw (moving_pending s i (views i).transfer announced ne) at none)
 
 -- carried batches fit, and are carried on
-pub carried_fits : (sizes : Sizes) (s t : StackState) (views : ProcessViews) → Carried sizes s t views → HeadsFit sizes s views → HeadsFit sizes t views
+pub carried_fits : (sizes : Sizes) (s t : StackState) (views : ProcessViews) → Carried sizes s t views → HeadsFit sizes s views
+    → HeadsFit sizes t views
 carried_fits sizes s t views carried fits = record { none_large = carried.same_weight is_large ∙ fits.none_large }
 
-pub carried_on : (sizes : Sizes) (s t u : StackState) (views : ProcessViews) → Carried sizes s t views → Carried sizes t u views → Carried sizes s u views
+pub carried_on : (sizes : Sizes) (s t u : StackState) (views : ProcessViews) → Carried sizes s t views → Carried sizes t u views
+    → Carried sizes s u views
 carried_on sizes s t u views first second = record {
   same_weight = λ f. second.same_weight f ∙ first.same_weight f;
   matches = λ o lo h. second.matches o lo (first.matches o lo h);

@@ -63,7 +63,8 @@ module _ (sizes : Sizes) (words : Words) (s : StackState) (views : ProcessViews)
     λ some. current_next sizes words s views chains.batch_blocks chains.current_blocks held chains.hold i li some,
   )
 
-  pub spares_are_free : (i place : ℕ) → IsShape sizes → i < sizes.processes → Chains sizes words s views held → place < length (views i).pool.heads
+  pub spares_are_free : (i place : ℕ) → IsShape sizes → i < sizes.processes → Chains sizes words s views held
+      → place < length (views i).pool.heads
       → IsFree sizes held (slice_index (views i).pool.heads place) × (words (Next (slice_index (views i).pool.heads place)) ≤ blocks sizes)
   spares_are_free i place shape li chains lt =
       let head = slice_index (views i).pool.heads place in
@@ -74,7 +75,8 @@ module _ (sizes : Sizes) (words : Words) (s : StackState) (views : ProcessViews)
 
   pub held_are_apart : (i block : ℕ) → i < sizes.processes → Chains sizes words s views held → Contains (held i) block
       → (block < blocks sizes) × ((o : ℕ) → o < sizes.processes → o ≢ i → ¬ Contains (held o) block)
-  held_are_apart i block li chains has = held_apart sizes words s views chains.batch_blocks chains.current_blocks held chains.hold i block li has
+  held_are_apart i block li chains has =
+      held_apart sizes words s views chains.batch_blocks chains.current_blocks held chains.hold i block li has
 
   pub stack_has_room : IsShape sizes → Chains sizes words s views held → s.height ≤ sizes.batches
   stack_has_room shape chains = room sizes words s views chains.batch_blocks chains.current_blocks held chains.hold (some_long sizes shape)
@@ -90,7 +92,8 @@ module _ (sizes : Sizes) (words : Words) (s : StackState) (views : ProcessViews)
   )
 
   pub heads_are_apart : (head : ℕ) → IsShape sizes → Chains sizes words s views held → times_pooled sizes s views head ≤ 1
-  heads_are_apart head shape chains = head_once sizes words s views chains.batch_blocks chains.current_blocks held chains.hold head (some_long sizes shape)
+  heads_are_apart head shape chains =
+      head_once sizes words s views chains.batch_blocks chains.current_blocks held chains.hold head (some_long sizes shape)
 
   pub gives_are_blocks : (i : ℕ) → IsShape sizes → Chains sizes words s views held → i < sizes.processes
       → ((views i).transfer.next ≡ Announce → WishIsBlock sizes (views i).transfer.wish)
@@ -100,7 +103,8 @@ module _ (sizes : Sizes) (words : Words) (s : StackState) (views : ProcessViews)
     pending_low sizes words s views chains.batch_blocks chains.current_blocks held chains.hold i long li,
   )
 
-  pub plans_have_room : (v : TransferView) → IsShape sizes → Chains sizes words s views held → InstallsNext sizes s views v → PlanFits sizes v.plan
+  pub plans_have_room : (v : TransferView) → IsShape sizes → Chains sizes words s views held → InstallsNext sizes s views v
+      → PlanFits sizes v.plan
   plans_have_room v shape chains installs =
       let long = some_long sizes shape in
       let hold = installs_carry sizes words s views chains.batch_blocks chains.current_blocks held v shape chains.hold installs in

@@ -55,7 +55,8 @@ batch_runs f l (suc batches) =
     rw more (omega (arith, total_parts (batches * l) l f, batch_runs f l batches))
 
 -- a run whose next words name the following number, and none at its end
-run_chain : (words : Words) (count start : ℕ) → ((j : ℕ) → j < count → words (Next (start + j)) ≡ start + j + 2) → words (Next (start + count)) ≡ 0 → IsChain words (start + 1) (run start (suc count))
+run_chain : (words : Words) (count start : ℕ) → ((j : ℕ) → j < count → words (Next (start + j)) ≡ start + j + 2)
+    → words (Next (start + count)) ≡ 0 → IsChain words (start + 1) (run start (suc count))
 unfolding run IsChain
 run_chain words zero start inner last = let first : start + 0 ≡ start = omega arith in (refl, rw first at last)
 run_chain words (suc count) start inner last =
@@ -87,19 +88,22 @@ last_at l block e = let test : (block % l == l - 1) ≡ true = rw e (itself (l -
     itself : (n : ℕ) → (n == n) ≡ true
     itself n = grind (arith, nat_tests)
 
-batch_chain : (sizes : Sizes) (words : Words) (b count : ℕ) → b < sizes.batches → count + 1 ≡ sizes.length → ((block : ℕ) → block < blocks sizes → words (Next block) ≡ opening_next sizes block)
+batch_chain : (sizes : Sizes) (words : Words) (b count : ℕ) → b < sizes.batches → count + 1 ≡ sizes.length
+    → ((block : ℕ) → block < blocks sizes → words (Next block) ≡ opening_next sizes block)
     → IsChain words (b * sizes.length + 1) (run (b * sizes.length) (suc count))
 batch_chain sizes words b count lb long next =
     let start = b * sizes.length in
     let within = batch_within_blocks sizes b lb in
     run_chain words count start
     (λ j lt. next (start + j) (omega arith) ∙ next_at sizes.length (start + j) j (rest_of sizes.length b j (omega arith)) (omega arith))
-    (next (start + count) (omega arith) ∙ last_at sizes.length (start + count) (rest_of sizes.length b count (omega arith) ∙ last_of count sizes.length long))
+    (next (start + count) (omega arith) ∙ last_at sizes.length (start + count)
+    (rest_of sizes.length b count (omega arith) ∙ last_of count sizes.length long))
   where
     last_of : (count l : ℕ) → count + 1 ≡ l → count ≡ l - 1
     last_of count l e = omega arith
 
-batch_is_chain : (sizes : Sizes) (words : Words) (b : ℕ) → IsShape sizes → b < sizes.batches → ((block : ℕ) → block < blocks sizes → words (Next block) ≡ opening_next sizes block)
+batch_is_chain : (sizes : Sizes) (words : Words) (b : ℕ) → IsShape sizes → b < sizes.batches
+    → ((block : ℕ) → block < blocks sizes → words (Next block) ≡ opening_next sizes block)
     → IsChainOf words (b * sizes.length + 1) sizes.length (run (b * sizes.length) sizes.length)
 batch_is_chain sizes words b shape lb next = record { leads = leads; size = run_length (b * sizes.length) sizes.length }
   where
@@ -110,7 +114,8 @@ batch_is_chain sizes words b shape lb next = record { leads = leads; size = run_
     more = omega (arith, two_blocks_a_batch sizes shape)
 
     leads : IsChain words (b * sizes.length + 1) (run (b * sizes.length) sizes.length)
-    leads = subst (λ (n : ℕ). IsChain words (b * sizes.length + 1) (run (b * sizes.length) n)) more (batch_chain sizes words b count lb (omega (arith, more)) next)
+    leads = subst (λ (n : ℕ). IsChain words (b * sizes.length + 1) (run (b * sizes.length) n)) more
+        (batch_chain sizes words b count lb (omega (arith, more)) next)
 
 -- a head that is at a place is that of a batch
 total_some : (count : ℕ) (f : ℕ → ℕ) → 1 ≤ total count f → (k : ℕ) × (k < count) × (1 ≤ f k)
@@ -133,12 +138,17 @@ module _ (sizes : Sizes) (words : Words) (s : StackState) (views : ProcessViews)
       below base k lt head = grind (arith, nat_tests)
 
   spare_weight : (f : ℕ → ℕ) (i : ℕ) → i < sizes.processes → f ((2 * i + 1) * sizes.length) ≡ process_weight s i (views i) f
-  spare_weight f i li = rw (seats i li, moving_at_rest s i (opening_view sizes i).transfer refl) (omega (arith, sum_by-cons f ((2 * i + 1) * sizes.length) []))
+  spare_weight f i li =
+      rw (seats i li, moving_at_rest s i (opening_view sizes i).transfer refl)
+      (omega (arith, sum_by-cons f ((2 * i + 1) * sizes.length) []))
 
-  opened_pool : (f : ℕ → ℕ) → total sizes.processes (λ i. f (2 * i * sizes.length)) + pool_weight sizes s views f ≡ total sizes.batches (λ b. f (b * sizes.length))
+  opened_pool : (f : ℕ → ℕ)
+      → total sizes.processes (λ i. f (2 * i * sizes.length)) + pool_weight sizes s views f
+      ≡ total sizes.batches (λ b. f (b * sizes.length))
   unfolding pool_weight
   opened_pool f =
-      let spares = total_same sizes.processes (λ i. process_weight s i (views i) f) (λ i. f ((2 * i + 1) * sizes.length)) (spare_weight f) in
+      let spares = total_same sizes.processes (λ i. process_weight s i (views i) f) (λ i. f ((2 * i + 1) * sizes.length))
+      (spare_weight f) in
       let both = total_sums sizes.processes (λ i. f (2 * i * sizes.length)) (λ i. f ((2 * i + 1) * sizes.length)) in
       let pairs = total_pairs sizes.processes (λ b. f (b * sizes.length)) in
       let stacked = λ (k : ℕ). f ((2 * sizes.processes + k) * sizes.length) in
@@ -158,22 +168,27 @@ module _ (sizes : Sizes) (words : Words) (s : StackState) (views : ProcessViews)
       let (b, lb, here) = batch_of head pooled in
       rw (counts_equal head (b * sizes.length) here) at (batch_is_chain sizes words b shape lb next)
 
-  opened_current : (i : ℕ) → i < sizes.processes → IsChainOf words (views i).pool.head (views i).pool.plan.current (run (2 * i * sizes.length) sizes.length)
+  opened_current : (i : ℕ) → i < sizes.processes
+      → IsChainOf words (views i).pool.head (views i).pool.plan.current (run (2 * i * sizes.length) sizes.length)
   opened_current i li = rw (seats i li) (batch_is_chain sizes words (2 * i) shape (omega (arith, shape.two_batches_each)) next)
 
   -- all runs have all blocks
   all_runs : (f : ℕ → ℕ) → total sizes.batches (λ b. weight f (run (b * sizes.length) sizes.length)) ≡ total (blocks sizes) f
   unfolding blocks
-  all_runs f = total_same sizes.batches (λ b. total sizes.length (λ k. f (b * sizes.length + k))) (λ b. weight f (run (b * sizes.length) sizes.length))
+  all_runs f = total_same sizes.batches (λ b. total sizes.length (λ k. f (b * sizes.length + k)))
+      (λ b. weight f (run (b * sizes.length) sizes.length))
       (λ b lt. run_weight f (b * sizes.length) sizes.length)
       ∙ batch_runs f sizes.length sizes.batches
 
-  opened_placed : (f : ℕ → ℕ) → blocks_weight sizes s views (λ head. run head sizes.length) (λ i. run (2 * i * sizes.length) sizes.length) held f ≡ total (blocks sizes) f
+  opened_placed : (f : ℕ → ℕ)
+      → blocks_weight sizes s views (λ head. run head sizes.length) (λ i. run (2 * i * sizes.length) sizes.length) held f
+      ≡ total (blocks sizes) f
   unfolding blocks_weight
   opened_placed f =
       let g = λ (head : ℕ). weight f (run head sizes.length) in
       let current = λ (i : ℕ). run (2 * i * sizes.length) sizes.length in
-      let lists = total_same sizes.processes (λ i. g (2 * i * sizes.length)) (λ i. weight f (current i) + weight f (held i)) (λ i li. omega (arith, ap (weight f) (none i li))) in
+      let lists = total_same sizes.processes (λ i. g (2 * i * sizes.length)) (λ i. weight f (current i) + weight f (held i))
+      (λ i li. omega (arith, ap (weight f) (none i li))) in
       omega (arith, lists, opened_pool g, all_runs f)
 
   pub opening_chains : Chains sizes words s views held

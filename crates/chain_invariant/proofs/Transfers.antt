@@ -33,7 +33,8 @@ is_next (Next block) = true
 is_next (Data block index) = false
 
 -- an action on another word leaves the next words
-pub acts_elsewhere : (sizes : Sizes) (action : Action) (m n : Words) → is_next (name_of action) ≡ false → Acted sizes action m n → NextsStay sizes m n
+pub acts_elsewhere : (sizes : Sizes) (action : Action) (m n : Words) → is_next (name_of action) ≡ false → Acted sizes action m n
+    → NextsStay sizes m n
 acts_elsewhere sizes action m n other a = λ b lt. a.elsewhere (Next b) lt (λ e. differ (name_of action) b other e)
   where
     apart : true ≡ false → ⊥
@@ -63,10 +64,12 @@ stage_elsewhere sizes v LoadReply = refl
 pub transfer_keeps_nexts : (sizes : Sizes) (v : TransferView) (m n : Words) → Acted sizes (action_of sizes v) m n → NextsStay sizes m n
 transfer_keeps_nexts sizes v m n a = acts_elsewhere sizes (action_of sizes v) m n (stage_elsewhere sizes v v.next) a
 
-pub transfer_keeps : (sizes : Sizes) (m n : Words) (views after : ProcessViews) (states : States) (batch_blocks current_blocks held_blocks : BlockLists) (i : ℕ) (x : ProcessView) → IsShape sizes → i < sizes.processes
+pub transfer_keeps : (sizes : Sizes) (m n : Words) (views after : ProcessViews) (states : States)
+    (batch_blocks current_blocks held_blocks : BlockLists) (i : ℕ) (x : ProcessView) → IsShape sizes → i < sizes.processes
     → ChainsHold sizes m (states (state_tag m)) views batch_blocks current_blocks held_blocks
     → InStep (states (state_tag m)) i (views i).transfer (m (name_of (action_of sizes (views i).transfer)))
-    → ((second : Bool) → (views i).transfer.next ≡ Try second ExchangeState → m State ≡ (views i).transfer.loaded.state → InstallsNext sizes (states (state_tag m)) views (views i).transfer)
+    → ((second : Bool) → (views i).transfer.next ≡ Try second ExchangeState → m State ≡ (views i).transfer.loaded.state
+    → InstallsNext sizes (states (state_tag m)) views (views i).transfer)
     → Acted sizes (action_of sizes (views i).transfer) m n
     → SameParts x (view_met sizes (views i) (m (name_of (action_of sizes (views i).transfer)))) → MovedProcess i x views after
     → ChainsHold sizes n (states_after m (views i).transfer states (state_tag n)) after batch_blocks current_blocks held_blocks
@@ -74,13 +77,15 @@ transfer_keeps sizes m n views after states batch_blocks current_blocks held_blo
     let v = (views i).transfer in
     let now = states (state_tag m) in
     let word = m (name_of (action_of sizes v)) in
-    let stay : ChainsHold sizes m now after batch_blocks current_blocks held_blocks = step_keeps sizes m now views after batch_blocks current_blocks held_blocks i word x li hold step parts moved in
+    let stay : ChainsHold sizes m now after batch_blocks current_blocks held_blocks =
+    step_keeps sizes m now views after batch_blocks current_blocks held_blocks i word x li hold step parts moved in
     words_stay sizes m n (states_after m v states (state_tag n)) after batch_blocks current_blocks held_blocks
     (holds_after (λ t. ChainsHold sizes m t after batch_blocks current_blocks held_blocks) sizes m n v states v.next stay (λ second is same.
     let next = installs second is same in
     let planned = planned_state now v in (
       next.row,
       step_keeps sizes m planned views after batch_blocks current_blocks held_blocks i word x li
-          (installs_carry sizes m now views batch_blocks current_blocks held_blocks v shape hold next) (exchange_in_step planned i v word second is) parts moved,
+          (installs_carry sizes m now views batch_blocks current_blocks held_blocks v shape hold next)
+          (exchange_in_step planned i v word second is) parts moved,
     )) a)
     (transfer_keeps_nexts sizes v m n a)

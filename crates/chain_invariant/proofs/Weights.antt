@@ -32,7 +32,13 @@ pub weight_part : (f : ℕ → ℕ) (b : ℕ) (xs : List ℕ) → 1 ≤ weight (
 weight_part f b [] some = absurd (omega arith)
 weight_part f b (x ∷ xs) some = elim (cases_eq x b) [
   | inl e ↦ rw (← e) (omega (arith, sum_by-cons f x xs))
-  | inr ne ↦ omega (arith, sum_by-cons f x xs, sum_by-cons (is_head b) x xs, counts_no_other b x ne, weight_part f b xs (omega (arith, sum_by-cons (is_head b) x xs, counts_no_other b x ne)))
+  | inr ne ↦ omega (
+    arith,
+    sum_by-cons f x xs,
+    sum_by-cons (is_head b) x xs,
+    counts_no_other b x ne,
+    weight_part f b xs (omega (arith, sum_by-cons (is_head b) x xs, counts_no_other b x ne)),
+  )
 ]
 
 -- a number that is at most another one at each element
@@ -62,7 +68,8 @@ total_each n zero = omega arith
 total_each n (suc count) = omega (arith, total_each n count)
 
 -- a list without a block weighs as much less
-pick_weighs : (f : ℕ → ℕ) (b x : ℕ) (rest less : List ℕ) (t : Bool) → (x == b) ≡ t → weight f less + weight (is_head b) rest * f b ≡ weight f rest
+pick_weighs : (f : ℕ → ℕ) (b x : ℕ) (rest less : List ℕ) (t : Bool) → (x == b) ≡ t
+    → weight f less + weight (is_head b) rest * f b ≡ weight f rest
     → weight f (if not t then x ∷ less else less) + (is_head b x + weight (is_head b) rest) * f b ≡ f x + weight f rest
 pick_weighs f b x rest less true e h =
     let same : x ≡ b = grind (arith, nat_tests) in
@@ -80,7 +87,8 @@ pick_weighs f b x rest less false e h =
 
 pub weight_without : (f : ℕ → ℕ) (b : ℕ) (xs : List ℕ) → weight f (without b xs) + weight (is_head b) xs * f b ≡ weight f xs
 weight_without f b [] = omega arith
-weight_without f b (x ∷ xs) = rw (sum_by-cons (is_head b) x xs, sum_by-cons f x xs) (pick_weighs f b x xs (without b xs) (x == b) refl (weight_without f b xs))
+weight_without f b (x ∷ xs) =
+    rw (sum_by-cons (is_head b) x xs, sum_by-cons f x xs) (pick_weighs f b x xs (without b xs) (x == b) refl (weight_without f b xs))
 
 -- the weight of the numbers below a bound
 pub total_past : (count b : ℕ) → count ≤ b → total count (is_head b) ≡ 0

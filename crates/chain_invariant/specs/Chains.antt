@@ -36,16 +36,18 @@ times_pooled sizes s views head = pool_weight sizes s views (is_head head)
 -- the weight of all blocks at their places: of the current lists, held, and of the batches
 unfoldable pub blocks_weight : Sizes → StackState → ProcessViews → BlockLists → BlockLists → BlockLists → (ℕ → ℕ) → ℕ
 blocks_weight sizes s views batch_blocks current_blocks held_blocks f =
-    total sizes.processes (λ i. weight f (current_blocks i) + weight f (held_blocks i)) + pool_weight sizes s views (λ head. weight f (batch_blocks head))
+    total sizes.processes (λ i. weight f (current_blocks i) + weight f (held_blocks i))
+    + pool_weight sizes s views (λ head. weight f (batch_blocks head))
 
--- Chains: each batch at a place and each current list is a chain, and each block of the pool is at one place, whatever number counts for a block
-pub record ChainsHold (sizes : Sizes) (words : Words) (s : StackState) (views : ProcessViews) (batch_blocks current_blocks held_blocks : BlockLists) : Type 0 where
+-- each batch at a place and each current list is a chain, and each block of the pool is at one place, whatever number counts for it
+pub record ChainsHold (sizes : Sizes) (words : Words) (s : StackState) (views : ProcessViews)
+    (batch_blocks current_blocks held_blocks : BlockLists) : Type 0 where
   pub batches : (head : ℕ) → 1 ≤ times_pooled sizes s views head → IsChainOf words (head + 1) sizes.length (batch_blocks head)
   pub currents : (i : ℕ) → i < sizes.processes → IsChainOf words (views i).pool.head (views i).pool.plan.current (current_blocks i)
   pub placed : (f : ℕ → ℕ) → blocks_weight sizes s views batch_blocks current_blocks held_blocks f ≡ total (blocks sizes) f
   pub replies : (i : ℕ) → i < sizes.processes → ReplyMatches s i (views i).transfer
 
--- Chains, where the processes hold these blocks: there are such blocks of the batches and of the current lists
+-- the same where the processes hold these blocks: there are such blocks of the batches and of the current lists
 pub record Chains (sizes : Sizes) (words : Words) (s : StackState) (views : ProcessViews) (held_blocks : BlockLists) : Type 0 where
   pub batch_blocks : BlockLists
   pub current_blocks : BlockLists

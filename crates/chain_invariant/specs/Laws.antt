@@ -41,7 +41,9 @@ OpeningHasChains = (sizes : Sizes) (words : Words) (s : StackState) (views : Pro
 
 -- a process at rest that begins a transfer keeps that
 abbrev pub BeginningsKeepChains : Type 0
-BeginningsKeepChains = (sizes : Sizes) (words : Words) (s : StackState) (views after : ProcessViews) (held : BlockLists) (i : ℕ) (wish : Wish) (x : ProcessView) → i < sizes.processes
+BeginningsKeepChains =
+    (sizes : Sizes) (words : Words) (s : StackState) (views after : ProcessViews) (held : BlockLists) (i : ℕ) (wish : Wish)
+    (x : ProcessView) → i < sizes.processes
     → Chains sizes words s views held
     → (views i).transfer.next ≡ Rest
     → MayBegin wish (views i).pool
@@ -51,7 +53,8 @@ BeginningsKeepChains = (sizes : Sizes) (words : Words) (s : StackState) (views a
 
 -- so does a step of a transfer that leaves the state
 abbrev pub StepsKeepChains : Type 0
-StepsKeepChains = (sizes : Sizes) (words : Words) (s : StackState) (views after : ProcessViews) (held : BlockLists) (i word : ℕ) (x : ProcessView) → i < sizes.processes
+StepsKeepChains = (sizes : Sizes) (words : Words) (s : StackState) (views after : ProcessViews) (held : BlockLists) (i word : ℕ)
+    (x : ProcessView) → i < sizes.processes
     → Chains sizes words s views held
     → InStep s i (views i).transfer word
     → SameParts x (view_met sizes (views i) word)
@@ -60,7 +63,9 @@ StepsKeepChains = (sizes : Sizes) (words : Words) (s : StackState) (views after 
 
 -- it holds of the states that come of one by the announcements of the first so many processes
 abbrev pub NextStatesKeepChains : Type 0
-NextStatesKeepChains = (sizes : Sizes) (words : Words) (s : StackState) (views : ProcessViews) (held : BlockLists) (announcements : ℕ → ℕ) (heard : ℕ) → IsShape sizes → heard ≤ sizes.processes
+NextStatesKeepChains =
+    (sizes : Sizes) (words : Words) (s : StackState) (views : ProcessViews) (held : BlockLists) (announcements : ℕ → ℕ) (heard : ℕ)
+    → IsShape sizes → heard ≤ sizes.processes
     → Chains sizes words s views held
     → ((o : ℕ) → o < sizes.processes → PendingIsPresent s (announcements o) o (views o).transfer)
     → Chains sizes words (next_of heard announcements s) views held
@@ -74,10 +79,13 @@ SameStatesKeepChains = (sizes : Sizes) (words : Words) (s t : StackState) (views
 
 -- the step of a transfer on the words keeps it, of the present state before and after
 abbrev pub TransfersKeepChains : Type 0
-TransfersKeepChains = (sizes : Sizes) (words new : Words) (views after : ProcessViews) (states : States) (held : BlockLists) (i : ℕ) (x : ProcessView) → IsShape sizes → i < sizes.processes
+TransfersKeepChains =
+    (sizes : Sizes) (words new : Words) (views after : ProcessViews) (states : States) (held : BlockLists) (i : ℕ) (x : ProcessView)
+    → IsShape sizes → i < sizes.processes
     → Chains sizes words (states (state_tag words)) views held
     → InStep (states (state_tag words)) i (views i).transfer (words (name_of (action_of sizes (views i).transfer)))
-    → ((second : Bool) → (views i).transfer.next ≡ Try second ExchangeState → words State ≡ (views i).transfer.loaded.state → InstallsNext sizes (states (state_tag words)) views (views i).transfer)
+    → ((second : Bool) → (views i).transfer.next ≡ Try second ExchangeState → words State ≡ (views i).transfer.loaded.state
+    → InstallsNext sizes (states (state_tag words)) views (views i).transfer)
     → Acted sizes (action_of sizes (views i).transfer) words new
     → SameParts x (view_met sizes (views i) (words (name_of (action_of sizes (views i).transfer))))
     → MovedProcess i x views after
@@ -85,7 +93,9 @@ TransfersKeepChains = (sizes : Sizes) (words new : Words) (views after : Process
 
 -- a step that changes no next word and no list keeps it: it gets no block, or it is one on data
 abbrev pub QuietStepsKeepChains : Type 0
-QuietStepsKeepChains = (sizes : Sizes) (words new : Words) (s : StackState) (views after : ProcessViews) (held : BlockLists) (i : ℕ) (x : ProcessView) → i < sizes.processes
+QuietStepsKeepChains =
+    (sizes : Sizes) (words new : Words) (s : StackState) (views after : ProcessViews) (held : BlockLists) (i : ℕ) (x : ProcessView)
+    → i < sizes.processes
     → Chains sizes words s views held
     → KeepsLists (views i) x
     → MovedProcess i x views after
@@ -94,7 +104,9 @@ QuietStepsKeepChains = (sizes : Sizes) (words new : Words) (s : StackState) (vie
 
 -- the first block of the current list leaves it, and its process holds it
 abbrev pub LeavingKeepsChains : Type 0
-LeavingKeepsChains = (sizes : Sizes) (words new : Words) (s : StackState) (views after : ProcessViews) (held held_after : BlockLists) (i block : ℕ) (x : ProcessView) → i < sizes.processes
+LeavingKeepsChains =
+    (sizes : Sizes) (words new : Words) (s : StackState) (views after : ProcessViews) (held held_after : BlockLists) (i block : ℕ)
+    (x : ProcessView) → i < sizes.processes
     → Chains sizes words s views held
     → FirstLeaves words block (views i).pool x.pool
     → x.transfer ≡ (views i).transfer
@@ -105,7 +117,9 @@ LeavingKeepsChains = (sizes : Sizes) (words new : Words) (s : StackState) (views
 
 -- the newest spare becomes the current list, and its first block leaves it
 abbrev pub OpeningASpareKeepsChains : Type 0
-OpeningASpareKeepsChains = (sizes : Sizes) (words new : Words) (s : StackState) (views after : ProcessViews) (held held_after : BlockLists) (i block : ℕ) (x : ProcessView) → i < sizes.processes
+OpeningASpareKeepsChains =
+    (sizes : Sizes) (words new : Words) (s : StackState) (views after : ProcessViews) (held held_after : BlockLists) (i block : ℕ)
+    (x : ProcessView) → i < sizes.processes
     → Chains sizes words s views held
     → SpareOpens sizes.length words block (views i).pool x.pool
     → x.transfer ≡ (views i).transfer
@@ -116,7 +130,8 @@ OpeningASpareKeepsChains = (sizes : Sizes) (words new : Words) (s : StackState) 
 
 -- a held block comes before the current list
 abbrev pub ComingKeepsChains : Type 0
-ComingKeepsChains = (sizes : Sizes) (words new : Words) (s : StackState) (views after : ProcessViews) (held held_after : BlockLists) (i block : ℕ) (x : ProcessView) → i < sizes.processes
+ComingKeepsChains = (sizes : Sizes) (words new : Words) (s : StackState) (views after : ProcessViews) (held held_after : BlockLists)
+    (i block : ℕ) (x : ProcessView) → i < sizes.processes
     → Chains sizes words s views held
     → Contains (held i) block
     → FirstComes sizes.length new block (views i).pool x.pool
@@ -128,7 +143,9 @@ ComingKeepsChains = (sizes : Sizes) (words new : Words) (s : StackState) (views 
 
 -- the full current list becomes the newest spare, and a held block begins another list
 abbrev pub StartingKeepsChains : Type 0
-StartingKeepsChains = (sizes : Sizes) (words new : Words) (s : StackState) (views after : ProcessViews) (held held_after : BlockLists) (i block : ℕ) (x : ProcessView) → IsShape sizes → i < sizes.processes
+StartingKeepsChains =
+    (sizes : Sizes) (words new : Words) (s : StackState) (views after : ProcessViews) (held held_after : BlockLists) (i block : ℕ)
+    (x : ProcessView) → IsShape sizes → i < sizes.processes
     → Chains sizes words s views held
     → Contains (held i) block
     → ListStarts sizes.length new block (views i).pool x.pool
@@ -143,9 +160,11 @@ pub record IsFree (sizes : Sizes) (held : BlockLists) (block : ℕ) : Type 0 whe
   pub low : block < blocks sizes
   pub free : (i : ℕ) → i < sizes.processes → ¬ Contains (held i) block
 
--- the code of the current list is that of its first block, which is free, and so is the code that its next word has; 0 is the code of the empty list
+-- a current list that isn't empty has the code of its first block, which is free, and its next word is the code of a block or 0; the code
+-- of the empty list is 0
 abbrev pub CurrentListsAreFree : Type 0
-CurrentListsAreFree = (sizes : Sizes) (words : Words) (s : StackState) (views : ProcessViews) (held : BlockLists) (i : ℕ) → i < sizes.processes
+CurrentListsAreFree = (sizes : Sizes) (words : Words) (s : StackState) (views : ProcessViews) (held : BlockLists) (i : ℕ)
+    → i < sizes.processes
     → Chains sizes words s views held
     → ((views i).pool.plan.current ≡ 0 → (views i).pool.head ≡ 0)
     × ((views i).pool.plan.current ≢ 0 → 1 ≤ (views i).pool.head)
@@ -154,7 +173,8 @@ CurrentListsAreFree = (sizes : Sizes) (words : Words) (s : StackState) (views : 
 
 -- the head of each spare is free, and its next word is the code of a block or 0
 abbrev pub SparesAreFree : Type 0
-SparesAreFree = (sizes : Sizes) (words : Words) (s : StackState) (views : ProcessViews) (held : BlockLists) (i place : ℕ) → IsShape sizes → i < sizes.processes
+SparesAreFree = (sizes : Sizes) (words : Words) (s : StackState) (views : ProcessViews) (held : BlockLists) (i place : ℕ) → IsShape sizes
+    → i < sizes.processes
     → Chains sizes words s views held
     → place < length (views i).pool.heads
     → IsFree sizes held (slice_index (views i).pool.heads place)
@@ -162,32 +182,37 @@ SparesAreFree = (sizes : Sizes) (words : Words) (s : StackState) (views : Proces
 
 -- a held block is one of the pool, and no other process holds it
 abbrev pub HeldAreApart : Type 0
-HeldAreApart = (sizes : Sizes) (words : Words) (s : StackState) (views : ProcessViews) (held : BlockLists) (i block : ℕ) → i < sizes.processes
+HeldAreApart = (sizes : Sizes) (words : Words) (s : StackState) (views : ProcessViews) (held : BlockLists) (i block : ℕ)
+    → i < sizes.processes
     → Chains sizes words s views held
     → Contains (held i) block
     → (block < blocks sizes) × ((o : ℕ) → o < sizes.processes → o ≢ i → ¬ Contains (held o) block)
 
 -- each block of the pool is at one place, and each at a place is one of the pool
 abbrev pub BlocksAreOnce : Type 0
-BlocksAreOnce = (sizes : Sizes) (words : Words) (s : StackState) (views : ProcessViews) (batch_blocks current_blocks held_blocks : BlockLists) (block : ℕ)
+BlocksAreOnce = (sizes : Sizes) (words : Words) (s : StackState) (views : ProcessViews)
+    (batch_blocks current_blocks held_blocks : BlockLists) (block : ℕ)
     → ChainsHold sizes words s views batch_blocks current_blocks held_blocks
     → (block < blocks sizes → blocks_weight sizes s views batch_blocks current_blocks held_blocks (is_head block) ≡ 1)
     × (blocks sizes ≤ block → blocks_weight sizes s views batch_blocks current_blocks held_blocks (is_head block) ≡ 0)
 
 -- the stack has no more batches than there are
 abbrev pub StackHasRoom : Type 0
-StackHasRoom = (sizes : Sizes) (words : Words) (s : StackState) (views : ProcessViews) (held : BlockLists) → IsShape sizes → Chains sizes words s views held → s.height ≤ sizes.batches
+StackHasRoom = (sizes : Sizes) (words : Words) (s : StackState) (views : ProcessViews) (held : BlockLists) → IsShape sizes
+    → Chains sizes words s views held → s.height ≤ sizes.batches
 
 -- all heads are blocks: of the content, of the spares, in transit
 abbrev pub HeadsAreBlocks : Type 0
-HeadsAreBlocks = (sizes : Sizes) (words : Words) (s : StackState) (views : ProcessViews) (held : BlockLists) → IsShape sizes → Chains sizes words s views held
+HeadsAreBlocks = (sizes : Sizes) (words : Words) (s : StackState) (views : ProcessViews) (held : BlockLists) → IsShape sizes
+    → Chains sizes words s views held
     → ((place : ℕ) → place < s.height → s.content place < blocks sizes)
     × ((i place : ℕ) → i < sizes.processes → place < length (views i).pool.heads → slice_index (views i).pool.heads place < blocks sizes)
     × ((i : ℕ) → i < sizes.processes → All (λ head. head < blocks sizes) (moving s i (views i).transfer))
 
 -- no head is at two places
 abbrev pub HeadsAreApart : Type 0
-HeadsAreApart = (sizes : Sizes) (words : Words) (s : StackState) (views : ProcessViews) (held : BlockLists) (head : ℕ) → IsShape sizes → Chains sizes words s views held → times_pooled sizes s views head ≤ 1
+HeadsAreApart = (sizes : Sizes) (words : Words) (s : StackState) (views : ProcessViews) (held : BlockLists) (head : ℕ) → IsShape sizes
+    → Chains sizes words s views held → times_pooled sizes s views head ≤ 1
 
 -- the head of a give is a block
 abbrev pub WishIsBlock : Sizes → Wish → Type 0
@@ -196,18 +221,21 @@ WishIsBlock sizes (Give head) = head < blocks sizes
 
 -- a give that is begun, or announced and not applied, is of a block
 abbrev pub GivesAreBlocks : Type 0
-GivesAreBlocks = (sizes : Sizes) (words : Words) (s : StackState) (views : ProcessViews) (held : BlockLists) (i : ℕ) → IsShape sizes → Chains sizes words s views held → i < sizes.processes
+GivesAreBlocks = (sizes : Sizes) (words : Words) (s : StackState) (views : ProcessViews) (held : BlockLists) (i : ℕ) → IsShape sizes
+    → Chains sizes words s views held → i < sizes.processes
     → ((views i).transfer.next ≡ Announce → WishIsBlock sizes (views i).transfer.wish)
     × (has_announced (views i).transfer.next ≡ true → s.applied i ≢ (views i).transfer.age → WishIsBlock sizes (views i).transfer.wish)
 
 -- a plan that a view installs has room
 abbrev pub PlansHaveRoom : Type 0
-PlansHaveRoom = (sizes : Sizes) (words : Words) (s : StackState) (views : ProcessViews) (held : BlockLists) (v : TransferView) → IsShape sizes → Chains sizes words s views held
+PlansHaveRoom = (sizes : Sizes) (words : Words) (s : StackState) (views : ProcessViews) (held : BlockLists) (v : TransferView)
+    → IsShape sizes → Chains sizes words s views held
     → InstallsNext sizes s views v → PlanFits sizes v.plan
 
 -- the reply that ends a transfer is one to its wish: a give is answered that it gave, a take never
 abbrev pub EndsAnswerWishes : Type 0
-EndsAnswerWishes = (sizes : Sizes) (words : Words) (s : StackState) (views : ProcessViews) (held : BlockLists) (i word : ℕ) → i < sizes.processes
+EndsAnswerWishes = (sizes : Sizes) (words : Words) (s : StackState) (views : ProcessViews) (held : BlockLists) (i word : ℕ)
+    → i < sizes.processes
     → Chains sizes words s views held
     → InStep s i (views i).transfer word
     → (views i).transfer.next ≡ LoadReply
@@ -226,12 +254,15 @@ pub record CountsItsBatches (sizes : Sizes) (v : ProcessView) : Type 0 where
 
 -- so what it keeps is at most what its plan says that it withholds, in whatever state
 abbrev pub KeptIsWithheld : Type 0
-KeptIsWithheld = (sizes : Sizes) (s : StackState) (i : ℕ) (v : ProcessView) → CountsItsBatches sizes v → kept_blocks sizes s i v ≤ withheld v.pool.plan
+KeptIsWithheld = (sizes : Sizes) (s : StackState) (i : ℕ) (v : ProcessView) → CountsItsBatches sizes v
+    → kept_blocks sizes s i v ≤ withheld v.pool.plan
 
 -- what the processes keep, what they hold, and the batches of the content are all blocks
 abbrev pub BlocksAreCounted : Type 0
-BlocksAreCounted = (sizes : Sizes) (words : Words) (s : StackState) (views : ProcessViews) (held : BlockLists) → Chains sizes words s views held
-    → total sizes.processes (λ i. kept_blocks sizes s i (views i)) + total sizes.processes (λ i. length (held i)) + sizes.length * s.height ≡ blocks sizes
+BlocksAreCounted = (sizes : Sizes) (words : Words) (s : StackState) (views : ProcessViews) (held : BlockLists)
+    → Chains sizes words s views held
+    → total sizes.processes (λ i. kept_blocks sizes s i (views i)) + total sizes.processes (λ i. length (held i)) + sizes.length * s.height
+    ≡ blocks sizes
 
 -- where the content is empty and each process keeps at most five batches, all blocks but the slack are held
 abbrev pub FewAreFree : Type 0
@@ -242,7 +273,8 @@ FewAreFree = (sizes : Sizes) (words : Words) (s : StackState) (views : ProcessVi
 
 -- a take that the installed state applied and answered with nothing met an empty stack, so all blocks but the slack are held
 abbrev pub EmptyTakesFindFew : Type 0
-EmptyTakesFindFew = (sizes : Sizes) (words : Words) (s : StackState) (views : ProcessViews) (held : BlockLists) (v : TransferView) (i : ℕ) → IsShape sizes → i < sizes.processes
+EmptyTakesFindFew = (sizes : Sizes) (words : Words) (s : StackState) (views : ProcessViews) (held : BlockLists) (v : TransferView) (i : ℕ)
+    → IsShape sizes → i < sizes.processes
     → Chains sizes words s views held
     → InstallsNext sizes s views v
     → is_take (views i).transfer.wish ≡ true
