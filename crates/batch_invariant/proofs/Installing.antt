@@ -47,7 +47,7 @@ announcement_carried sizes s views k word true lk fits present e =
 announcement_carried sizes s views k word false lk fits present e = record { same_weight = λ f. refl; matches = λ o lo h. h }
 
 -- those who weren't met yet have their replies and applied transfers
-pub either_state : (t : Bool) (x y : StackState) (o reply applied : ℕ) → (x.reply o ≡ reply) × (x.applied o ≡ applied)
+either_state : (t : Bool) (x y : StackState) (o reply applied : ℕ) → (x.reply o ≡ reply) × (x.applied o ≡ applied)
     → (y.reply o ≡ reply) × (y.applied o ≡ applied)
     → ((if t then x else y).reply o ≡ reply) × ((if t then x else y).applied o ≡ applied)
 either_state true x y o reply applied hx hy = hx

@@ -114,7 +114,7 @@ module _ (sizes : Sizes) (words : Words) (s : StackState) (views : ProcessViews)
       (answer_fits met (announced_wish (slice_index v.loaded.announcements i)) (λ place lt. content_fits sizes met views place fits lt))
       ∙ ap (λ wish. answer_to wish met) wish_is
 
-  pub met_empty : (next_of i (λ o. slice_index v.loaded.announcements o) s).height ≡ 0
+  met_empty : (next_of i (λ o. slice_index v.loaded.announcements o) s).height ≡ 0
   met_empty = take_found_nothing (views i).transfer.wish (next_of i (λ o. slice_index v.loaded.announcements o) s) take
       (sym answer_is ∙ nothing)
 

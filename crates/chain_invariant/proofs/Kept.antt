@@ -36,7 +36,7 @@ announced_one s i v =
     either_one (s.applied i == v.age) (taken v.wish (reply_of (s.reply i))) (given v.wish) (taken_one v.wish (reply_of (s.reply i)))
     (given_one v.wish)
 
-pub moving_one : (s : StackState) (i : ℕ) (v : TransferView) → length (moving s i v) ≤ 1
+moving_one : (s : StackState) (i : ℕ) (v : TransferView) → length (moving s i v) ≤ 1
 unfolding moving
 moving_one s i v = either_one (has_only_begun v.next) (given v.wish) (if has_announced v.next then announced_batch s i v else [])
     (given_one v.wish)

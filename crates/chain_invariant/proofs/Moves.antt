@@ -35,12 +35,12 @@ use Rattle.chain_invariant.proofs.Pool.{pool_parts, pool_moved, pool_le, pool_ea
 use Rattle.chain_invariant.proofs.Places.{batch_stays, current_stays, head_low}
 
 -- a view that keeps its current list
-pub record KeepsCurrent (v x : PoolView) : Type 0 where
+record KeepsCurrent (v x : PoolView) : Type 0 where
   pub head : x.head ≡ v.head
   pub current : x.plan.current ≡ v.plan.current
 
 -- where all batches weigh the same and each current list is kept, the blocks stay
-pub chains_stay : (sizes : Sizes) (words : Words) (s t : StackState) (views after : ProcessViews)
+chains_stay : (sizes : Sizes) (words : Words) (s t : StackState) (views after : ProcessViews)
     (batch_blocks current_blocks held_blocks : BlockLists)
     → ChainsHold sizes words s views batch_blocks current_blocks held_blocks
     → ((f : ℕ → ℕ) → pool_weight sizes t after f ≡ pool_weight sizes s views f)

@@ -90,7 +90,7 @@ module _ (sizes : Sizes) (words : Words) (s : StackState) (views : ProcessViews)
       → weight (is_head b) (held_blocks o) ≡ 0
   held_by_one i b o li lo ne some = omega (arith, once b, list_pair b i o li lo ne)
 
-  pub held_in_no_batch : (i b head : ℕ) → i < sizes.processes → 1 ≤ times_pooled sizes s views head → 1 ≤ weight (is_head b) (held_blocks i)
+  held_in_no_batch : (i b head : ℕ) → i < sizes.processes → 1 ≤ times_pooled sizes s views head → 1 ≤ weight (is_head b) (held_blocks i)
       → weight (is_head b) (batch_blocks head) ≡ 0
   held_in_no_batch i b head li pooled some = omega (arith, once b, list_and_batch b i head li pooled)
 
@@ -104,7 +104,7 @@ module _ (sizes : Sizes) (words : Words) (s : StackState) (views : ProcessViews)
     ]
   ]
 
-  pub held_in_no_list : (i b o : ℕ) → i < sizes.processes → o < sizes.processes → 1 ≤ weight (is_head b) (held_blocks i)
+  held_in_no_list : (i b o : ℕ) → i < sizes.processes → o < sizes.processes → 1 ≤ weight (is_head b) (held_blocks i)
       → weight (is_head b) (current_blocks o) ≡ 0
   held_in_no_list i b o li lo some = elim (cases_lt 0 (weight (is_head b) (current_blocks o))) [
     | inl lt ↦ absurd (held_in_no_list_at i b o li lo some lt)

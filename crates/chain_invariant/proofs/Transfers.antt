@@ -24,7 +24,7 @@ use Rattle.chain_invariant.proofs.Moves.{words_stay, step_keeps, installs_carry}
 use Rattle.chain_invariant.proofs.Present.{holds_after}
 
 -- the word is the next word of a block
-abbrev pub is_next : WordName → Bool
+abbrev is_next : WordName → Bool
 is_next State = false
 is_next (Announcement process) = false
 is_next (RecordWord row index) = false
@@ -61,7 +61,7 @@ stage_elsewhere sizes v (Try second step) = try_elsewhere sizes v step
 stage_elsewhere sizes v LoadFinalState = refl
 stage_elsewhere sizes v LoadReply = refl
 
-pub transfer_keeps_nexts : (sizes : Sizes) (v : TransferView) (m n : Words) → Acted sizes (action_of sizes v) m n → NextsStay sizes m n
+transfer_keeps_nexts : (sizes : Sizes) (v : TransferView) (m n : Words) → Acted sizes (action_of sizes v) m n → NextsStay sizes m n
 transfer_keeps_nexts sizes v m n a = acts_elsewhere sizes (action_of sizes v) m n (stage_elsewhere sizes v v.next) a
 
 pub transfer_keeps : (sizes : Sizes) (m n : Words) (views after : ProcessViews) (states : States)
