@@ -5,12 +5,12 @@ use Rattle.std.proofs.lemmas.Bool.Decides.{nat_tests}
 use Rattle.word_layout.specs.Sizes.{Sizes}
 use Rattle.word_layout.specs.Names.{record_words}
 use Rattle.transfer_machine.specs.Loads.{loaded_tag, loaded_base, overlay_length, record_value}
+use Rattle.transfer_machine.specs.Machine.{after_try}
 use Rattle.transfer_machine.specs.States.{StackState}
 use Rattle.transfer_machine.specs.NextStates.{IsLoaded}
 use Rattle.transfer_machine.specs.declared.loaded.Loaded.{Loaded}
 use Rattle.transfer_machine.specs.declared.transfer.TransferView.{TransferView}
 use Rattle.transfer_machine.specs.declared.stage.NextStep.{NextStep}
-use Rattle.transfer_machine.specs.declared.stage.NextStep.TheVariants.{LoadState, LoadFinalState}
 use Rattle.transfer_invariant.specs.Memory.{Words, States, state_value}
 use Rattle.transfer_invariant.specs.Progress.{has_loaded, has_record, loaded_words}
 use Rattle.transfer_invariant.specs.Records.{StateFits, StatesFit, LoadedState}
@@ -71,5 +71,5 @@ pub loaded_is : (sizes : Sizes) (words : Words) (states : States) (v : TransferV
 loaded_is sizes words states v fits h has = whole_record sizes words states v fits h (record_whole (record_words sizes) v.next has)
 
 -- where a try has ended no record is loaded
-pub ended_has_none : (t : Bool) → has_record (if t then LoadState else LoadFinalState) ≡ false
-ended_has_none t = grind arith
+pub ended_has_none : (second : Bool) → has_record (after_try second) ≡ false
+ended_has_none second = grind arith

@@ -1,5 +1,5 @@
 -- what the moving view keeps of the facts
-use Rattle.std.proofs.Common.{◌≡◌, ◌≢◌, ℕ, ◌+◌, ◌/◌, ◌<◌, ◌≤◌, true, refl, sym, ◌∙◌, inl, inr, arith, length, get_or, set, get_or-set_same, get_or-set_other}
+use Rattle.std.proofs.Common.{◌≡◌, ◌≢◌, ℕ, ◌+◌, ◌/◌, ◌<◌, ◌≤◌, Bool, true, refl, sym, ◌∙◌, inl, inr, arith, length, get_or, set, get_or-set_same, get_or-set_other}
 use Rattle.std.proofs.lemmas.Bool.{cases_eq}
 use Rattle.std.proofs.lemmas.Bool.Decides.{nat_tests}
 use Rattle.word_layout.specs.Sizes.{Sizes}
@@ -10,15 +10,16 @@ use Rattle.transfer_machine.specs.Tries.{planned_value}
 use Rattle.transfer_machine.specs.Machine.{other_record, after_stored, installed}
 use Rattle.transfer_machine.specs.declared.transfer.TransferView.{TransferView}
 use Rattle.transfer_machine.specs.declared.stage.NextStep.{NextStep}
-use Rattle.transfer_machine.specs.declared.stage.NextStep.TheVariants.{LoadRecordWord, StoreRecordWord}
+use Rattle.transfer_machine.specs.declared.stage.NextStep.TheVariants.{Try}
+use Rattle.transfer_machine.specs.declared.stage.TryStep.TheVariants.{LoadRecordWord, StoreRecordWord}
 use Rattle.transfer_invariant.specs.Memory.{Words, States, state_tag, current_record, word_tag, word_value, state_value}
-use Rattle.transfer_invariant.specs.Progress.{in_try, has_loaded, record_index, loaded_words, stored_words}
+use Rattle.transfer_invariant.specs.Progress.{in_try, has_loaded, record_index, record_index_in_try, loaded_words, loaded_in_try, stored_words, stored_in_try}
 use Rattle.transfer_invariant.specs.Records.{CurrentRecord, OwnRecord, LoadedState, OwnerWentOn}
 use Rattle.transfer_invariant.proofs.Changes.{WordStored, StateInstalled}
 use Rattle.transfer_invariant.proofs.Stable.{next_low}
 
 -- a view goes on with the state that it loaded, or leaves it
-pub record GoesOn (v x : TransferView) : Type 0 where
+pub record KeepsLoaded (v x : TransferView) : Type 0 where
   pub next_record : x.next_record ≡ v.next_record
   pub installed : x.installed ≡ v.installed
   pub state : x.loaded.state ≡ v.loaded.state
@@ -30,8 +31,8 @@ pub record StoresNone (sizes : Sizes) (s : NextStep) : Type 0 where
   pub index : record_index s < record_words sizes
   pub stored : stored_words (record_words sizes) s ≡ 0
 
-pub goes_own : (sizes : Sizes) (n : Words) (i : ℕ) (v x : TransferView) → OwnRecord sizes n i v → GoesOn v x → StoresNone sizes x.next → OwnRecord sizes n i x
-goes_own sizes n i v x h g none = record {
+pub keeps_own : (sizes : Sizes) (n : Words) (i : ℕ) (v x : TransferView) → OwnRecord sizes n i v → KeepsLoaded v x → StoresNone sizes x.next → OwnRecord sizes n i x
+keeps_own sizes n i v x h g none = record {
   index = none.index;
   next = rw g.next_record h.next;
   apart = rw g.next_record h.apart;
@@ -41,10 +42,10 @@ goes_own sizes n i v x h g none = record {
   stored_values = λ k lt. absurd (omega (arith, none.stored));
 }
 
-pub goes_loaded : (sizes : Sizes) (n : Words) (states : States) (v x : TransferView) → LoadedState sizes n states v → GoesOn v x → length x.loaded.record_words ≡ 66
+pub keeps_loaded : (sizes : Sizes) (n : Words) (states : States) (v x : TransferView) → LoadedState sizes n states v → KeepsLoaded v x → length x.loaded.record_words ≡ 66
     → ((k : ℕ) → k < loaded_words (record_words sizes) x.next → record_value x.loaded k ≡ state_value sizes.processes (states (loaded_tag v.loaded)) k)
     → LoadedState sizes n states x
-goes_loaded sizes n states v x h g room loads = record {
+keeps_loaded sizes n states v x h g room loads = record {
   room = room;
   past = λ e. rw g.state (h.past (g.has e));
   row = λ e. rw g.state (h.row (g.has e));
@@ -54,17 +55,17 @@ goes_loaded sizes n states v x h g room loads = record {
   loaded = λ k lt. rw g.state (loads k lt);
 }
 
-pub goes_from : (v x w : TransferView) → OwnerWentOn v w → GoesOn v x → OwnerWentOn x w
-goes_from v x w h g = λ e r. rw g.state (h (g.has e) (rw g.state at r))
+pub keeps_from : (v x w : TransferView) → OwnerWentOn v w → KeepsLoaded v x → OwnerWentOn x w
+keeps_from v x w h g = λ e r. rw g.state (h (g.has e) (rw g.state at r))
 
-pub goes_to : (v x w : TransferView) → OwnerWentOn w v → GoesOn v x → OwnerWentOn w x
-goes_to v x w h g = λ e r. rw g.installed (h e (rw g.next_record at r))
+pub keeps_to : (v x w : TransferView) → OwnerWentOn w v → KeepsLoaded v x → OwnerWentOn w x
+keeps_to v x w h g = λ e r. rw g.installed (h e (rw g.next_record at r))
 
 -- a word of the record is loaded whose tag isn't higher
-pub word_loaded : (sizes : Sizes) (n : Words) (states : States) (index word : ℕ) (v : TransferView) → sizes.processes ≤ 32 → LoadedState sizes n states v → v.next ≡ LoadRecordWord index → index < record_words sizes
+pub word_loaded : (sizes : Sizes) (n : Words) (states : States) (second : Bool) (index word : ℕ) (v : TransferView) → sizes.processes ≤ 32 → LoadedState sizes n states v → v.next ≡ Try second (LoadRecordWord index) → index < record_words sizes
     → tag_of word ≡ word_tag n (loaded_record v.loaded) index → value_of word ≡ word_value n (loaded_record v.loaded) index → tag_of word ≤ loaded_tag v.loaded
     → (k : ℕ) → k < index + 1 → value_of (get_or (set v.loaded.record_words index word) k 0) ≡ state_value sizes.processes (states (loaded_tag v.loaded)) k
-word_loaded sizes n states index word v few h e low et ev le k lt =
+word_loaded sizes n states second index word v few h e low et ev le k lt =
     let has : has_loaded v.next ≡ true = rw e refl in
     elim (cases_eq k index) [
       | inl at ↦ rw (at, get_or-set_same v.loaded.record_words index word 0 (omega (arith, h.room))) (ev ∙ h.values has index low (let ge = h.tags has index low in omega (arith, et)))
@@ -101,13 +102,13 @@ pub state_from : (sizes : Sizes) (n : Words) (i : ℕ) (x w : TransferView) → 
 state_from sizes n i x w h er = λ e r. absurd (h.apart (sym er ∙ sym r))
 
 -- a word of the next record is stored
-pub stores_next : (sizes : Sizes) (index : ℕ) → index < record_words sizes → record_index (after_stored sizes index) < record_words sizes
+pub stores_next : (sizes : Sizes) (index : ℕ) → index < record_words sizes → record_index_in_try (after_stored sizes index) < record_words sizes
 stores_next sizes index low = grind (arith, nat_tests)
 
-pub stores_count : (sizes : Sizes) (index : ℕ) → stored_words (record_words sizes) (after_stored sizes index) ≡ index + 1
+pub stores_count : (sizes : Sizes) (index : ℕ) → stored_in_try (record_words sizes) (after_stored sizes index) ≡ index + 1
 stores_count sizes index = grind (arith, nat_tests)
 
-pub stores_loaded : (sizes : Sizes) (index : ℕ) → loaded_words (record_words sizes) (after_stored sizes index) ≡ record_words sizes
+pub stores_loaded : (sizes : Sizes) (index : ℕ) → loaded_in_try (record_words sizes) (after_stored sizes index) ≡ record_words sizes
 stores_loaded sizes index = grind (arith, nat_tests)
 
 -- its words with one more
@@ -123,9 +124,9 @@ one_more_value sizes m n row index tag planned lr low s h k lt = elim (cases_eq 
   | inr ne ↦ s.index_values row k lr (omega arith) ne ∙ h k (omega arith)
 ]
 
-pub store_own_view : (sizes : Sizes) (m n : Words) (i index : ℕ) (v : TransferView) → i < sizes.processes → OwnRecord sizes m i v → v.next ≡ StoreRecordWord index → index < record_words sizes
-    → WordStored sizes m n v.next_record index (loaded_tag v.loaded + 1) (planned_value sizes.processes v.plan index) → OwnRecord sizes n i (record v { next = after_stored sizes index })
-store_own_view sizes m n i index v li h e low s =
+pub store_own_view : (sizes : Sizes) (m n : Words) (i : ℕ) (second : Bool) (index : ℕ) (v : TransferView) → i < sizes.processes → OwnRecord sizes m i v → v.next ≡ Try second (StoreRecordWord index) → index < record_words sizes
+    → WordStored sizes m n v.next_record index (loaded_tag v.loaded + 1) (planned_value sizes.processes v.plan index) → OwnRecord sizes n i (record v { next = Try second (after_stored sizes index) })
+store_own_view sizes m n i second index v li h e low s =
     let row = next_low sizes.processes i v.next_record li h.next in
     record {
       index = stores_next sizes index low;

@@ -1,5 +1,5 @@
 -- what the changes of the words leave of the facts, and of those of other views
-use Rattle.std.proofs.Common.{◌≡◌, ◌≢◌, ℕ, ◌+◌, ◌*◌, ◌/◌, ◌<◌, ◌≤◌, sym, ◌∙◌, ap, inl, inr, arith}
+use Rattle.std.proofs.Common.{◌≡◌, ◌≢◌, ℕ, Bool, ◌+◌, ◌*◌, ◌/◌, ◌<◌, ◌≤◌, sym, ◌∙◌, ap, inl, inr, arith}
 use Rattle.std.proofs.lemmas.Bool.{cases_eq}
 use Rattle.word_layout.specs.Sizes.{Sizes}
 use Rattle.word_layout.specs.Names.{record_words}
@@ -7,7 +7,8 @@ use Rattle.transfer_machine.specs.Loads.{loaded_tag}
 use Rattle.transfer_machine.specs.Tries.{planned_value}
 use Rattle.transfer_machine.specs.declared.transfer.TransferView.{TransferView}
 use Rattle.transfer_machine.specs.declared.stage.NextStep.{NextStep}
-use Rattle.transfer_machine.specs.declared.stage.NextStep.TheVariants.{ExchangeState}
+use Rattle.transfer_machine.specs.declared.stage.NextStep.TheVariants.{Try}
+use Rattle.transfer_machine.specs.declared.stage.TryStep.TheVariants.{ExchangeState}
 use Rattle.transfer_invariant.specs.Memory.{Words, States, state_tag, state_value}
 use Rattle.transfer_invariant.specs.Progress.{record_index, stored_words}
 use Rattle.transfer_invariant.specs.Records.{CurrentRecord, StatesFit, TagsBelow, OwnRecord, LoadedState, OwnerWentOn}
@@ -78,11 +79,11 @@ pub store_loaded : (sizes : Sizes) (m n : Words) (states : States) (index tag va
 store_loaded sizes m n states index tag value v w h owner low lk s = grind arith
 
 -- a state is installed: the new one is that of the words that its process stored
-pub install_current : (sizes : Sizes) (m n : Words) (states later : States) (i : ℕ) (v : TransferView) → i < sizes.processes → OwnRecord sizes m i v → v.next ≡ ExchangeState → loaded_tag v.loaded ≡ state_tag m
+pub install_current : (sizes : Sizes) (m n : Words) (states later : States) (i : ℕ) (second : Bool) (v : TransferView) → i < sizes.processes → OwnRecord sizes m i v → v.next ≡ Try second ExchangeState → loaded_tag v.loaded ≡ state_tag m
     → StateInstalled sizes m n (loaded_tag v.loaded + 1) v.next_record
     → ((k : ℕ) → k < record_words sizes → state_value sizes.processes (later (loaded_tag v.loaded + 1)) k ≡ planned_value sizes.processes v.plan k)
     → CurrentRecord sizes n later
-install_current sizes m n states later i v li own e now s planned =
+install_current sizes m n states later i second v li own e now s planned =
     let low = next_low sizes.processes i v.next_record li own.next in
     record {
       row = rw s.current low;

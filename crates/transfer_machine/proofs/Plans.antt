@@ -13,14 +13,15 @@ use Rattle.word_layout.specs.declared.announced.Wish.TheVariants.{Take, Give}
 use Rattle.transfer_machine.specs.Loads.{popped_head, loaded_reply, loaded_tag, overlay_length}
 use Rattle.transfer_machine.specs.Tries.{begun_plan, after_announcement, granted, replied, wish_reply, take_reply, announced_wish, pops_slot, is_pending, is_odd_transfer, is_take, takes_from_slot}
 use Rattle.transfer_machine.specs.Planned.{planned, SamePlan, HasRoom, PlansLoaded, PlansLoadedAt, PlansLoadedInTry, StepsKeepPlan}
-use Rattle.transfer_machine.specs.Machine.{met_at, met_in_try, CanMeetAt, CanMeetInTry, after_heard, after_slot, after_record, after_try, try_ended, installed, record_word_loaded, announcement_loaded, popped_loaded, slot_loaded}
+use Rattle.transfer_machine.specs.Machine.{met_at, met_in_try, CanMeetAt, CanMeetInTry, after_heard, after_slot, after_record, after_try, try_ended, installed, record_word_loaded, popped_loaded, slot_loaded}
 use Rattle.transfer_machine.specs.declared.loaded.Loaded.{Loaded}
 use Rattle.transfer_machine.specs.declared.try_plan.TryPlan.{TryPlan}
 use Rattle.transfer_machine.specs.declared.transfer.TransferView.{TransferView}
 use Rattle.transfer_machine.specs.declared.stage.NextStep.{NextStep}
 use Rattle.transfer_machine.specs.declared.stage.NextStep.TheVariants.{Rest, Announce, Try, LoadFinalState, LoadReply}
 use Rattle.transfer_machine.specs.declared.stage.TryStep.{TryStep}
-use Rattle.transfer_machine.specs.declared.stage.TryStep.TheVariants.{LoadState, LoadRecordWord, LoadCoveredSlot, ExchangeSlot, LoadAnnouncement, LoadPoppedSlot, StoreRecordWord, ExchangeState}
+use Rattle.transfer_machine.specs.declared.stage.TryStep.TheVariants.{LoadState, LoadRecordWord, LoadCoveredSlot, ExchangeSlot}
+use Rattle.transfer_machine.specs.declared.stage.TryStep.TheVariants.{LoadAnnouncement, LoadPoppedSlot, StoreRecordWord, ExchangeState}
 
 -- lists that agree below a place go on so once both have one value there
 set_both : (xs ys : List ℕ) (n x y k : ℕ) → n < length xs → n < length ys → x ≡ y → ((j : ℕ) → j < n → get_or xs j 0 ≡ get_or ys j 0) → k < n + 1 → get_or (set xs n x) k 0 ≡ get_or (set ys n y) k 0

@@ -1,8 +1,8 @@
 -- The machine of a transfer: what a view does next to which word, and what it becomes once that step met a word.
-use Rattle.std.specs.Prelude.{ℕ, ◌+◌, ◌-◌, ◌%◌, ◌^◌, ◌<◌, ◌≤◌, ◌==◌, nat_lt, Bool, true, false, if◌then◌else◌, slice_index, slice_set}
+use Rattle.std.specs.Prelude.{ℕ, ◌+◌, ◌-◌, ◌%◌, ◌<◌, ◌≤◌, ◌==◌, nat_lt, Bool, true, false, if◌then◌else◌, slice_index, slice_set}
 use Rattle.word_layout.specs.Sizes.{Sizes}
 use Rattle.word_layout.specs.Names.{records, record_words}
-use Rattle.word_layout.specs.Packing.{tag_of, value_of, tagged, announced_word, reply_of, FitsWish}
+use Rattle.word_layout.specs.Packing.{value_limit, tag_limit, most_age, tag_of, value_of, tagged, announced_word, reply_of, FitsWish}
 use Rattle.word_layout.specs.declared.name.WordName.TheVariants.{State, Announcement, RecordWord, Slot}
 use Rattle.word_layout.specs.declared.announced.Wish.{Wish}
 use Rattle.transfer_machine.specs.Loads.{loaded_tag, loaded_record, loaded_base, overlay_length, overlay_head}
@@ -14,7 +14,8 @@ use Rattle.transfer_machine.specs.declared.transfer.TransferView.{TransferView}
 use Rattle.transfer_machine.specs.declared.stage.NextStep.{NextStep}
 use Rattle.transfer_machine.specs.declared.stage.NextStep.TheVariants.{Rest, Announce, Try, LoadFinalState, LoadReply}
 use Rattle.transfer_machine.specs.declared.stage.TryStep.{TryStep}
-use Rattle.transfer_machine.specs.declared.stage.TryStep.TheVariants.{LoadState, LoadRecordWord, LoadCoveredSlot, ExchangeSlot, LoadAnnouncement, LoadPoppedSlot, StoreRecordWord, ExchangeState}
+use Rattle.transfer_machine.specs.declared.stage.TryStep.TheVariants.{LoadState, LoadRecordWord, LoadCoveredSlot, ExchangeSlot}
+use Rattle.transfer_machine.specs.declared.stage.TryStep.TheVariants.{LoadAnnouncement, LoadPoppedSlot, StoreRecordWord, ExchangeState}
 
 -- the word that a view stores to announce its wish: the number is the age after it
 abbrev pub own_announcement : TransferView → ℕ
@@ -37,7 +38,8 @@ abbrev pub try_action : Sizes → TransferView → TryStep → Action
 try_action sizes v LoadState = Load State
 try_action sizes v (LoadRecordWord index) = Load (RecordWord (loaded_record v.loaded) index)
 try_action sizes v (LoadCoveredSlot offset) = Load (Slot (loaded_base v.loaded + offset))
-try_action sizes v (ExchangeSlot offset) = Exchange (Slot (loaded_base v.loaded + offset)) (slice_index v.loaded.slots offset) (covering_word v offset)
+try_action sizes v (ExchangeSlot offset) =
+    Exchange (Slot (loaded_base v.loaded + offset)) (slice_index v.loaded.slots offset) (covering_word v offset)
 try_action sizes v (LoadAnnouncement process) = Load (Announcement process)
 try_action sizes v (LoadPoppedSlot process) = Load (Slot (v.plan.base - 1))
 try_action sizes v (StoreRecordWord index) = Store (RecordWord v.next_record index) (stored_word sizes v index)
@@ -165,8 +167,8 @@ CanStore sizes v index =
     (v.next_record < records sizes)
     × (index < record_words sizes)
     × (v.plan.overlay ≤ 32)
-    × (loaded_tag v.loaded + 1 < 2 ^ 40)
-    × (planned_value sizes.processes v.plan index < 2 ^ 24)
+    × (loaded_tag v.loaded + 1 < tag_limit)
+    × (planned_value sizes.processes v.plan index < value_limit)
 
 -- the numbers that a step of a try names are in their ranges, and what it writes fits a word
 abbrev pub CanActInTry : Sizes → TransferView → TryStep → Type 0
@@ -177,12 +179,12 @@ CanActInTry sizes v (ExchangeSlot offset) = (offset < 32) × (loaded_base v.load
 CanActInTry sizes v (LoadAnnouncement process) = process < sizes.processes
 CanActInTry sizes v (LoadPoppedSlot process) = (process < sizes.processes) × (1 ≤ v.plan.base) × (v.plan.base ≤ sizes.batches)
 CanActInTry sizes v (StoreRecordWord index) = CanStore sizes v index
-CanActInTry sizes v ExchangeState = (v.next_record < records sizes) × (loaded_tag v.loaded + 1 < 2 ^ 40)
+CanActInTry sizes v ExchangeState = (v.next_record < records sizes) × (loaded_tag v.loaded + 1 < tag_limit)
 
 -- the numbers that a step names are in their ranges, and what it writes fits a word
 abbrev pub CanActAt : Sizes → TransferView → NextStep → Type 0
 CanActAt sizes v Rest = Unit {0}
-CanActAt sizes v Announce = (v.number < sizes.processes) × (v.age < 2 ^ 32) × FitsWish v.wish
+CanActAt sizes v Announce = (v.number < sizes.processes) × (v.age < most_age) × FitsWish v.wish
 CanActAt sizes v (Try second step) = CanActInTry sizes v step
 CanActAt sizes v LoadFinalState = Unit {0}
 CanActAt sizes v LoadReply = (loaded_record v.loaded < records sizes) × (v.number < sizes.processes)

@@ -11,13 +11,15 @@ use Rattle.transfer_machine.specs.declared.transfer.TransferView.{TransferView}
 use Rattle.transfer_machine.specs.declared.stage.NextStep.{NextStep}
 use Rattle.transfer_machine.specs.declared.stage.NextStep.TheVariants.{Rest, Announce, Try, LoadFinalState, LoadReply}
 use Rattle.transfer_machine.specs.declared.stage.TryStep.{TryStep}
-use Rattle.transfer_machine.specs.declared.stage.TryStep.TheVariants.{LoadState, LoadRecordWord, LoadCoveredSlot, ExchangeSlot, LoadAnnouncement, LoadPoppedSlot, StoreRecordWord, ExchangeState}
+use Rattle.transfer_machine.specs.declared.stage.TryStep.TheVariants.{LoadState, LoadRecordWord, LoadCoveredSlot, ExchangeSlot}
+use Rattle.transfer_machine.specs.declared.stage.TryStep.TheVariants.{LoadAnnouncement, LoadPoppedSlot, StoreRecordWord, ExchangeState}
 
 -- the plan once the loaded announcements of the first so many processes are applied, in the order of their numbers
 unfoldable pub planned : ℕ → Loaded → ℕ → TryPlan
 planned processes loaded zero = begun_plan loaded nothing_planned
 planned processes loaded (suc process) =
-    after_announcement processes loaded process (slice_index loaded.announcements process) (popped_head loaded process) (planned processes loaded process)
+    let announcement = slice_index loaded.announcements process in
+    after_announcement processes loaded process announcement (popped_head loaded process) (planned processes loaded process)
 
 -- two plans after so many announcements say the same: past the overlay and the met replies nothing is said
 pub record SamePlan (heard : ℕ) (kept plan : TryPlan) : Type 0 where

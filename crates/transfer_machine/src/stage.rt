@@ -57,13 +57,7 @@ impl NextStep {
     {
         match self {
             NextStep::Rest | NextStep::Announce => 0,
-            NextStep::Try { second, .. } => {
-                if *second {
-                    2
-                } else {
-                    1
-                }
-            }
+            NextStep::Try { second, .. } => { if *second { 2 } else { 1 } }
             NextStep::LoadFinalState | NextStep::LoadReply => 3,
         }
     }
@@ -87,10 +81,8 @@ impl NextStep {
     {
         match self {
             NextStep::Try { step, .. } => step.index(),
-            NextStep::Rest
-            | NextStep::Announce
-            | NextStep::LoadFinalState
-            | NextStep::LoadReply => 0,
+            NextStep::Rest | NextStep::Announce | NextStep::LoadFinalState | NextStep::LoadReply =>
+                0,
         }
     }
 }

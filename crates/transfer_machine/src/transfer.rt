@@ -1,7 +1,7 @@
 // What a process keeps for its transfers.
 ghost use Rattle.std.specs.Prelude.{◌≡◌, ◌<◌, ◌^◌, ◌↔◌, IsTrue};
 ghost use Rattle.word_layout.specs.Names.{InRange};
-ghost use Rattle.word_layout.specs.Packing.{FitsWish};
+ghost use Rattle.word_layout.specs.Packing.{most_age, FitsWish};
 ghost use Rattle.transfer_machine.specs.Machine.{action_of, met_of, CanAct, CanMeet, begun, own_announcement};
 ghost use Rattle.transfer_machine.specs.Stages.{stage_of};
 ghost use Rattle.transfer_machine.specs.Words.{name_of};
@@ -84,7 +84,9 @@ impl TransferView {
         match self.next {
             NextStep::Rest | NextStep::LoadFinalState => true,
             NextStep::Announce => {
-                self.number < shape.processes() && self.age < 1 << 32 && fits(self.wish)
+                self.number < shape.processes()
+                    && self.age < Announced::MOST_AGE
+                    && self.wish.fits()
             }
             NextStep::Try { step, .. } => self.can_act_in_try(step, shape),
             NextStep::LoadReply => {
@@ -100,10 +102,8 @@ impl TransferView {
     {
         match self.next {
             NextStep::Try { step, .. } => self.can_meet_in_try(step, shape, word),
-            NextStep::Rest
-            | NextStep::Announce
-            | NextStep::LoadFinalState
-            | NextStep::LoadReply => true,
+            NextStep::Rest | NextStep::Announce | NextStep::LoadFinalState | NextStep::LoadReply =>
+                true,
         }
     }
 
@@ -146,7 +146,7 @@ impl TransferView {
 
     /// The word that announces the wish.
     fn announcement(&self) -> u64
-        requires age { self.now.age < 2 ^ 32 }
+        requires age { self.now.age < most_age }
         requires wish { FitsWish self.now.wish }
         ensures { result ≡ own_announcement self.now }
     {
@@ -194,15 +194,5 @@ impl TransferView {
                 self.answer = Reply::read(Tagged::value(word)).1;
             }
         }
-    }
-}
-
-/// Whether a wish fits its word: a head is a block.
-fn fits(wish: Wish) -> bool
-    ensures { IsTrue result ↔ FitsWish wish }
-{
-    match wish {
-        Wish::Take => true,
-        Wish::Give(head) => head < 1 << 22,
     }
 }

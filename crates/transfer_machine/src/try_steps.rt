@@ -2,7 +2,9 @@
 ghost use Rattle.std.specs.Prelude.{◌≡◌, ◌<◌, ◌^◌, ◌↔◌, IsTrue, slice_index, slice_set};
 ghost use Rattle.word_layout.specs.Names.{InRange, record_words};
 ghost use Rattle.word_layout.specs.Packing.{value_of};
-ghost use Rattle.transfer_machine.specs.Machine.{try_action, met_in_try, CanActInTry, CanMeetInTry, CanStore, other_record, installed, after_try, after_slot, after_record, after_heard, after_stored, state_loaded, slot_loaded, record_word_loaded, announcement_loaded, popped_loaded};
+ghost use Rattle.transfer_machine.specs.Machine.{try_action, met_in_try, CanActInTry, CanMeetInTry, CanStore};
+ghost use Rattle.transfer_machine.specs.Machine.{state_loaded, slot_loaded, record_word_loaded, announcement_loaded, popped_loaded};
+ghost use Rattle.transfer_machine.specs.Machine.{after_try, after_slot, after_record, after_heard, after_stored, installed, other_record};
 ghost use Rattle.transfer_machine.specs.Tries.{CanApply};
 ghost use Rattle.transfer_machine.specs.Words.{name_of};
 
@@ -32,7 +34,8 @@ impl TransferView {
                 process < processes && self.plan.base >= 1 && self.plan.base <= shape.batches()
             }
             TryStep::StoreRecordWord { index } => self.can_store(shape, index),
-            TryStep::ExchangeState => self.next_record < rows && self.loaded.tag() + 1 < 1 << 40,
+            TryStep::ExchangeState => self.next_record < rows
+                && self.loaded.tag() + 1 < Tagged::TAG_LIMIT,
         }
     }
 
@@ -44,8 +47,8 @@ impl TransferView {
         self.next_record < 2 * processes + 1
             && index < shape.record_words()
             && self.plan.overlay <= 32
-            && self.loaded.tag() + 1 < 1 << 40
-            && self.plan.value(processes, index) < 1 << 24
+            && self.loaded.tag() + 1 < Tagged::TAG_LIMIT
+            && self.plan.value(processes, index) < Tagged::VALUE_LIMIT
     }
 
     /// Whether what a step of a try makes of the view stays in range where it meets this word.
@@ -185,10 +188,8 @@ impl TransferView {
     /// A word of the loaded state's record. The plan begins with the last one.
     fn load_record_word(&mut self, second: bool, shape: &Shape, index: u32, word: u64)
         requires { index < record_words shape.now }
-        ensures {
-            let words = slice_set self.old.loaded.record_words index word in
-            self.new ≡ record_word_loaded shape.now second index (record self.old.loaded { record_words = words }) self.old
-        }
+        ensures { let words = slice_set self.old.loaded.record_words index word in
+            self.new ≡ record_word_loaded shape.now second index (record self.old.loaded { record_words = words }) self.old }
     {
         let count = shape.record_words();
         self.loaded.record_words[index as usize] = word;
@@ -233,10 +234,8 @@ impl TransferView {
 
     /// The slot of a taken batch: its announcement is applied.
     fn load_popped(&mut self, second: bool, shape: &Shape, process: u32, word: u64)
-        requires {
-            let heard = slice_index self.old.loaded.announcements process in
-            CanApply shape.now.processes self.old.loaded process heard (value_of word) self.old.plan
-        }
+        requires { let heard = slice_index self.old.loaded.announcements process in
+            CanApply shape.now.processes self.old.loaded process heard (value_of word) self.old.plan }
         ensures { self.new ≡ popped_loaded shape.now second process word self.old }
     {
         let heard = self.loaded.announcements[process as usize];
@@ -288,10 +287,9 @@ fn after_try(second: bool) -> NextStep
 fn after_record(loaded: &Loaded) -> TryStep
     ensures { result ≡ after_record loaded.now }
 {
-    if loaded.overlay_length() == 0 {
-        TryStep::LoadAnnouncement { process: 0 }
-    } else {
-        TryStep::LoadCoveredSlot { offset: 0 }
+    match loaded.overlay_length() {
+        0 => TryStep::LoadAnnouncement { process: 0 },
+        _ => TryStep::LoadCoveredSlot { offset: 0 },
     }
 }
 
