@@ -1,5 +1,5 @@
 -- beginnings and steps of a transfer keep the batches of their process
-use Rattle.std.proofs.Common.{◌≡◌, ◌≢◌, ℕ, ◌+◌, ◌-◌, ◌≤◌, true, false, refl, sym, ap, ◌∙◌, List, [], length, take, take_all, arith}
+use Rattle.std.proofs.Common.{◌≡◌, ◌≢◌, ℕ, ◌+◌, ◌-◌, ◌≤◌, Bool, true, false, refl, sym, ap, ◌∙◌, List, [], length, take, take_all, arith}
 use Rattle.std.specs.Prelude.{slice_index}
 use Rattle.std.proofs.lemmas.List.Sums.{sum_by_push, sum_by-cons, sum_by_more}
 use Rattle.word_layout.specs.Sizes.{Sizes}
