@@ -13,7 +13,7 @@ use Rattle.history_invariant.specs.Ledger.{Ledger}
 use Rattle.history_invariant.specs.Fits.{CountsEntries, LedgerFits}
 use Rattle.history_invariant.specs.Steps.{got_one, got_none, gave_back}
 use Rattle.history_invariant.specs.Grips.{Balances}
-use Rattle.history_invariant.proofs.Totals.{length_without, times_contained}
+use Rattle.history_invariant.proofs.Times.{length_without, times_contained}
 use Rattle.history_invariant.proofs.Shared.{Shared, gots_more, backs_more}
 use Rattle.history_invariant.proofs.Fitting.{KeepsTransfer, Owes}
 use Rattle.history_invariant.proofs.Refusals.{refusal_may_follow, refusal_has_net}

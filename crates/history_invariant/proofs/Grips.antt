@@ -4,8 +4,10 @@ use Rattle.std.specs.List.{Contains}
 use Rattle.std.proofs.lemmas.Bool.Decides.{nat_tests}
 use Rattle.pool_model.specs.Limits.{Limits}
 use Rattle.pool_model.proofs.Members.{contains_cons_cases, contains_nil, contains_without}
-use Rattle.history_invariant.specs.Grips.{times, total, GripsAreHeld}
-use Rattle.history_invariant.proofs.Totals.{total_same, total_moved, total_part, total_none, times_push, times_without, length_without, times_contained, times_none}
+use Rattle.process_sums.specs.Sums.{total}
+use Rattle.process_sums.proofs.Sums.{total_same, total_moved, term_of_total, total_none}
+use Rattle.history_invariant.specs.Grips.{times, GripsAreHeld}
+use Rattle.history_invariant.proofs.Times.{times_push, times_without, length_without, times_contained, times_none}
 
 -- a block that nobody holds comes to one grip
 pub grips_got : (limits : Limits) (i block : ℕ) (blocks : List ℕ) (grips new : ℕ → List ℕ) → i < limits.processes → block < limits.blocks → ¬ Contains blocks block
@@ -32,11 +34,11 @@ grips_got limits i block blocks grips new lt low out g hit miss = record {
 
 -- a block leaves a grip
 pub grip_once : (limits : Limits) (i block : ℕ) (blocks : List ℕ) (grips : ℕ → List ℕ) → i < limits.processes → GripsAreHeld limits blocks grips → times block (grips i) ≤ 1
-grip_once limits i block blocks grips lt g = omega (arith, g.once block, g.parts block, total_part limits.processes i (λ o. times block (grips o)) lt)
+grip_once limits i block blocks grips lt g = omega (arith, g.once block, g.parts block, term_of_total limits.processes i (λ o. times block (grips o)) lt)
 
 pub grip_all : (limits : Limits) (i block : ℕ) (blocks : List ℕ) (grips : ℕ → List ℕ) → i < limits.processes → GripsAreHeld limits blocks grips
     → times block (grips i) ≤ times block blocks
-grip_all limits i block blocks grips lt g = omega (arith, g.parts block, total_part limits.processes i (λ o. times block (grips o)) lt)
+grip_all limits i block blocks grips lt g = omega (arith, g.parts block, term_of_total limits.processes i (λ o. times block (grips o)) lt)
 
 pub grips_back : (limits : Limits) (i block : ℕ) (blocks : List ℕ) (grips new : ℕ → List ℕ) → i < limits.processes → Contains (grips i) block
     → GripsAreHeld limits blocks grips
@@ -93,7 +95,7 @@ grips_same limits blocks grips new g same = record {
 pub grips_none : (limits : Limits) → GripsAreHeld limits [] (λ o. [])
 grips_none limits = record {
   once = λ block. omega arith;
-  parts = λ block. sym (total_none limits.processes (λ o. 0) (λ o. refl));
-  count = sym (total_none limits.processes (λ o. 0) (λ o. refl));
+  parts = λ block. sym (total_none limits.processes (λ o. 0) (λ o lo. refl));
+  count = sym (total_none limits.processes (λ o. 0) (λ o lo. refl));
   below = λ block there. absurd (contains_nil block there);
 }

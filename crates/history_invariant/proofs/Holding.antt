@@ -13,7 +13,8 @@ use Rattle.history_invariant.specs.Fits.{HadFewSince, LedgerFits}
 use Rattle.history_invariant.specs.Holds.{HistoryHolds}
 use Rattle.history_invariant.specs.Steps.{Emptied, stays, empties}
 use Rattle.history_invariant.specs.Grips.{times, GripsAreHeld, HasOneHolder, SharesOut}
-use Rattle.history_invariant.proofs.Totals.{total_same, total_two, total_some, times_contained, contained_times}
+use Rattle.process_sums.proofs.Sums.{total_same, two_terms_of_total, some_term}
+use Rattle.history_invariant.proofs.Times.{times_contained, contained_times}
 use Rattle.history_invariant.proofs.Grips.{grip_all}
 use Rattle.history_invariant.proofs.Shared.{grips_of, legal_shared}
 
@@ -71,7 +72,7 @@ exchange_holds limits bound quantum history ledgers after h emptied = record {
 one_holder : (limits : Limits) (blocks : List ℕ) (grips : ℕ → List ℕ) (block : ℕ) → GripsAreHeld limits blocks grips → Contains blocks block → HasOneHolder limits.processes grips block
 one_holder limits blocks grips block g there =
     let some = times_contained block blocks there in
-    let part = total_some limits.processes (λ o. times block (grips o)) (omega (arith, g.parts block, some)) in
+    let part = some_term limits.processes (λ o. times block (grips o)) (omega (arith, g.parts block, some)) in
     record {
       process = part.place;
       one = part.within;
@@ -80,7 +81,7 @@ one_holder limits blocks grips block g there =
         | inl e ↦ e
         | inr ne ↦ (
             let mine_times = times_contained block (grips o) mine in
-            let both = total_two limits.processes part.place o (λ k. times block (grips k)) part.within lo ne in
+            let both = two_terms_of_total limits.processes part.place o (λ k. times block (grips k)) part.within lo ne in
             absurd (omega (arith, g.once block, g.parts block, part.some, mine_times, both))
             )
       ];

@@ -12,7 +12,7 @@ use Rattle.pool_model.specs.History.{process_of, own, held_after, held, grip, is
 use Rattle.pool_model.specs.Legal.{MayFollow, EachEntry, IsLegal}
 use Rattle.pool_model.proofs.Histories.{held_more, own_more, own_other}
 use Rattle.history_invariant.specs.Grips.{times, GripsAreHeld, Balances}
-use Rattle.history_invariant.proofs.Totals.{length_without, times_contained}
+use Rattle.history_invariant.proofs.Times.{length_without, times_contained}
 use Rattle.history_invariant.proofs.Grips.{grips_got, grips_back, grips_same, grips_none, grip_once}
 
 -- the grips of the processes after a history

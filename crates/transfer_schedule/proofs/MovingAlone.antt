@@ -3,7 +3,8 @@ use Rattle.std.proofs.Common.{◌≡◌, ℕ, ◌≤◌, Bool, true, false, arit
 use Rattle.std.proofs.lemmas.Bool.Decides.{nat_tests}
 use Rattle.transfer_schedule.specs.declared.pending.Pending.{Pending}
 use Rattle.transfer_schedule.specs.declared.pending.Pending.TheVariants.{Idle, Taking, Giving}
-use Rattle.transfer_schedule.specs.Numbers.{Numbers, AreSizes, MayBegin, is_idle, after_begin, after_end}
+use Rattle.transfer_schedule.specs.Beginning.{MayBegin}
+use Rattle.transfer_schedule.specs.Numbers.{Numbers, AreSizes, is_idle, after_begin, after_end}
 use Rattle.transfer_schedule.specs.Alone.{MovedAlone, opens, begins, moves, ends}
 use Rattle.transfer_schedule.proofs.Products.{quantum_some}
 use Rattle.transfer_schedule.proofs.Operations.{one_more_few}

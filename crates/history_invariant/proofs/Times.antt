@@ -1,74 +1,13 @@
--- Sums over the processes, and how often a block stands in a list.
-use Rattle.std.proofs.Common.{◌≡◌, ◌≢◌, ℕ, ◌+◌, ◌*◌, ◌<◌, ◌≤◌, ◌==◌, Bool, true, false, not, cond, refl, sym, inl, inr, arith, zero, suc, List, [], ◌∷◌, length, filter}
+-- how often a block stands in a list
+use Rattle.std.proofs.Common.{◌≡◌, ◌≢◌, ℕ, ◌+◌, ◌<◌, ◌==◌, Bool, true, false, not, cond, refl, sym, inl, inr, arith, List, [], ◌∷◌, length, filter}
 use Rattle.std.specs.List.{Contains}
 use Rattle.std.proofs.lemmas.Bool.{cases_eq}
 use Rattle.std.proofs.lemmas.List.Sums.{sum_by-cons}
 use Rattle.std.proofs.lemmas.Bool.Decides.{nat_tests}
 use Rattle.pool_model.proofs.Members.{contains_head, contains_tail, contains_cons_cases, contains_nil}
-use Rattle.history_invariant.specs.Grips.{times, total}
+use Rattle.history_invariant.specs.Grips.{times}
 
--- sums over the processes
-pub total_same : (n : ℕ) (f g : ℕ → ℕ) → ((o : ℕ) → o < n → g o ≡ f o) → total n g ≡ total n f
-unfolding total
-total_same zero f g h = refl
-total_same (suc n) f g h = omega (arith, total_same n f g (λ o lt. h o (omega arith)), h n (omega arith))
-
-pub total_moved : (n i : ℕ) (f g : ℕ → ℕ) → i < n → ((o : ℕ) → o < n → o ≢ i → g o ≡ f o) → total n g + f i ≡ total n f + g i
-unfolding total
-total_moved zero i f g lt h = absurd (omega arith)
-total_moved (suc n) i f g lt h = elim (cases_eq n i) [
-  | inl e ↦ rw (← e) (omega (arith, total_same n f g (λ o l. h o (omega arith) (omega arith))))
-  | inr ne ↦ omega (arith, total_moved n i f g (omega arith) (λ o l. h o (omega arith)), h n (omega arith) ne)
-]
-
-pub total_part : (n i : ℕ) (f : ℕ → ℕ) → i < n → f i ≤ total n f
-unfolding total
-total_part zero i f lt = absurd (omega arith)
-total_part (suc n) i f lt = elim (cases_eq n i) [
-  | inl e ↦ rw (← e) (omega arith)
-  | inr ne ↦ omega (arith, total_part n i f (omega arith))
-]
-
--- two parts of a sum
-pub total_two : (n i j : ℕ) (f : ℕ → ℕ) → i < n → j < n → j ≢ i → f i + f j ≤ total n f
-unfolding total
-total_two zero i j f lt lj ne = absurd (omega arith)
-total_two (suc n) i j f lt lj ne = elim (cases_eq n i) [
-  | inl e ↦ rw (← e) (omega (arith, total_part n j f (omega arith)))
-  | inr ni ↦ elim (cases_eq n j) [
-    | inl e ↦ rw (← e) (omega (arith, total_part n i f (omega arith)))
-    | inr nj ↦ omega (arith, total_two n i j f (omega arith) (omega arith) ne)
-  ]
-]
-
-pub total_le : (n most : ℕ) (f : ℕ → ℕ) → ((o : ℕ) → o < n → f o ≤ most) → total n f ≤ n * most
-unfolding total
-total_le zero most f h = omega arith
-total_le (suc n) most f h = omega (arith, total_le n most f (λ o lt. h o (omega arith)), h n (omega arith), times_suc n most)
-  where
-    times_suc : (n most : ℕ) → suc n * most ≡ n * most + most
-    times_suc n most = omega arith
-
-pub total_none : (n : ℕ) (f : ℕ → ℕ) → ((o : ℕ) → f o ≡ 0) → total n f ≡ 0
-unfolding total
-total_none zero f h = refl
-total_none (suc n) f h = omega (arith, total_none n f h, h n)
-
--- a sum that is not 0 has a part that is not
-pub record SomePart (n : ℕ) (f : ℕ → ℕ) : Type 0 where
-  pub place : ℕ
-  pub within : place < n
-  pub some : 0 < f place
-
-pub total_some : (n : ℕ) (f : ℕ → ℕ) → 0 < total n f → SomePart n f
-unfolding total
-total_some zero f some = absurd (omega arith)
-total_some (suc n) f some = elim (cases_eq (f n) 0) [
-  | inl none ↦ let part = total_some n f (omega (arith, none)) in record { place = part.place; within = omega (arith, part.within); some = part.some }
-  | inr more ↦ record { place = n; within = omega arith; some = omega arith }
-]
-
--- how often a block stands in a list
+-- one block more at the front
 pub times_push : (b c : ℕ) (xs : List ℕ) → times b (c ∷ xs) ≡ cond (c == b) 1 0 + times b xs
 times_push b c xs = sum_by-cons (λ other. cond (other == b) 1 0) c xs
 
