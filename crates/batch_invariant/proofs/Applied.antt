@@ -4,6 +4,8 @@ use Rattle.std.specs.Prelude.{if◌then◌else◌}
 use Rattle.std.proofs.lemmas.Bool.{cases_eq}
 use Rattle.std.proofs.lemmas.Bool.Decides.{nat_tests}
 use Rattle.std.proofs.lemmas.List.Sums.{sum_by-cons}
+use Rattle.process_sums.specs.Sums.{total}
+use Rattle.process_sums.proofs.Sums.{total_same, total_moved, total_more}
 use Rattle.word_layout.specs.Sizes.{Sizes, most_blocks}
 use Rattle.word_layout.specs.Packing.{reply_value, reply_of, FitsReply}
 use Rattle.word_layout.specs.declared.announced.Wish.{Wish}
@@ -14,11 +16,8 @@ use Rattle.transfer_machine.specs.States.{StackState, put, with_wish, answer_to}
 use Rattle.transfer_machine.specs.Tries.{is_take}
 use Rattle.transfer_machine.specs.declared.transfer.TransferView.{TransferView}
 use Rattle.transfer_invariant.specs.Progress.{has_announced}
-use Rattle.transfer_invariant.specs.Tags.{total}
-use Rattle.transfer_invariant.proofs.Installs.{total_same, total_moved}
 use Rattle.batch_invariant.specs.Places.{given, taken, moving}
 use Rattle.batch_invariant.specs.Batches.{ProcessViews, ReplyMatches, weight}
-use Rattle.batch_invariant.proofs.Sums.{total_more}
 use Rattle.batch_invariant.proofs.Moving.{moving_same_state, moving_pending, moving_applied}
 use Rattle.batch_invariant.specs.Transit.{transit_weight, HeadsFit, Carried}
 use Rattle.batch_invariant.proofs.Transit.{content_fits}

@@ -1,6 +1,8 @@
 -- pending announcements are applied one after the other, and so are those of the state that a view installs
 use Rattle.std.proofs.Common.{◌≡◌, ℕ, zero, suc, ◌+◌, ◌<◌, ◌≤◌, Bool, true, false, refl, sym, ap, subst, ◌∙◌, arith}
 use Rattle.std.specs.Prelude.{if◌then◌else◌, slice_index}
+use Rattle.process_sums.specs.Sums.{total}
+use Rattle.process_sums.proofs.Sums.{total_same}
 use Rattle.word_layout.specs.Sizes.{Sizes}
 use Rattle.word_layout.specs.Packing.{announced_word, wish_code, FitsWish}
 use Rattle.word_layout.specs.declared.announced.Wish.{Wish}
@@ -10,8 +12,6 @@ use Rattle.transfer_machine.specs.Tries.{is_pending, is_odd_transfer, announced_
 use Rattle.transfer_machine.specs.declared.transfer.TransferView.{TransferView}
 use Rattle.transfer_invariant.specs.Progress.{has_announced}
 use Rattle.transfer_invariant.specs.Installing.{planned_state}
-use Rattle.transfer_invariant.specs.Tags.{total}
-use Rattle.transfer_invariant.proofs.Installs.{total_same}
 use Rattle.batch_invariant.specs.Places.{moving}
 use Rattle.batch_invariant.specs.Batches.{ProcessViews, weight}
 use Rattle.batch_invariant.specs.Transit.{transit_weight, HeadsFit, Carried}

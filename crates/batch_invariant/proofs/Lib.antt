@@ -1,4 +1,3 @@
-pub mod Sums
 pub mod Moving
 pub mod Going
 pub mod Steps

@@ -2,6 +2,7 @@
 use Rattle.std.proofs.Common.{◌≡◌, ◌≢◌, ℕ, ◌<◌, true, ◌∙◌, [], arith}
 use Rattle.std.proofs.lemmas.Bool.Decides.{nat_tests}
 use Rattle.std.proofs.lemmas.List.Sums.{sum_by-cons}
+use Rattle.process_sums.proofs.Sums.{term_of_total}
 use Rattle.word_layout.specs.Sizes.{Sizes, most_blocks}
 use Rattle.word_layout.specs.Packing.{FitsWish}
 use Rattle.word_layout.specs.declared.announced.Wish.{Wish}
@@ -11,7 +12,6 @@ use Rattle.transfer_invariant.specs.Progress.{has_announced}
 use Rattle.batch_invariant.specs.Places.{given, moving}
 use Rattle.batch_invariant.specs.Batches.{ProcessViews, weight}
 use Rattle.batch_invariant.specs.Transit.{transit_weight, is_large, HeadsFit, Carried}
-use Rattle.batch_invariant.proofs.Sums.{term_of_total}
 use Rattle.batch_invariant.proofs.Moving.{moving_pending}
 
 fits_where : (head : ℕ) → is_large head ≡ 0 → head < most_blocks

@@ -1,8 +1,8 @@
 -- the batches in transit and in the content: all that a change of the state moves, wherever the spares of the processes come from
 use Rattle.std.specs.Prelude.{◌≡◌, ℕ, ◌+◌, ◌<◌, if◌then◌else◌, nat_lt}
+use Rattle.process_sums.specs.Sums.{total}
 use Rattle.word_layout.specs.Sizes.{Sizes, most_blocks}
 use Rattle.transfer_machine.specs.States.{StackState}
-use Rattle.transfer_invariant.specs.Tags.{total}
 use Rattle.batch_invariant.specs.Places.{moving}
 use Rattle.batch_invariant.specs.Batches.{ProcessViews, ReplyMatches, weight}
 

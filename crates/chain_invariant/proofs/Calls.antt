@@ -3,6 +3,7 @@ use Rattle.std.proofs.Common.{◌≡◌, ℕ, ◌+◌, ◌-◌, ◌<◌, ◌≤�
 use Rattle.std.specs.Prelude.{if◌then◌else◌, nat_lt, Contains}
 use Rattle.std.proofs.lemmas.Bool.{cases_eq}
 use Rattle.std.proofs.lemmas.Bool.Decides.{nat_tests}
+use Rattle.process_sums.proofs.Sums.{total_same}
 use Rattle.word_layout.specs.Names.{InRange}
 use Rattle.word_layout.specs.Sizes.{Sizes, IsShape, blocks}
 use Rattle.word_layout.specs.declared.announced.Wish.{Wish}
@@ -23,7 +24,6 @@ use Rattle.pool_machine.specs.OwnSteps.{block_from, next_block, allocate_action,
 use Rattle.pool_machine.specs.Ready.{CanBegin, CanAllocate, CanFree, CanOwnFor, CanFollow, CanMeetOwnFor}
 use Rattle.pool_machine.proofs.Plans.{due_begins}
 use Rattle.batch_invariant.specs.Batches.{ProcessViews, MovedProcess, weight}
-use Rattle.transfer_invariant.proofs.Installs.{total_same}
 use Rattle.chain_invariant.specs.Calls.{with_got, held_by_call, NamesHeld}
 use Rattle.chain_invariant.specs.Chains.{BlockLists, ChainsHold, Chains, MovedList, NextsStay, OtherNextsStay, blocks_weight, without}
 use Rattle.chain_invariant.specs.Laws.{IsFree}

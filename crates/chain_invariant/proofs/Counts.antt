@@ -6,6 +6,8 @@ use Rattle.std.proofs.lemmas.Bool.{cases_lt}
 use Rattle.std.proofs.lemmas.List.Sums.{sum_by-cons}
 use Rattle.std.proofs.lemmas.List.Elements.{All-nil, All-cons}
 use Rattle.std.proofs.Math.Nat.{mul-le-mul_right}
+use Rattle.process_sums.specs.Sums.{total}
+use Rattle.process_sums.proofs.Sums.{total_same, total_each, total_at_most, total_sums}
 use Rattle.word_layout.specs.Sizes.{Sizes, blocks, slack}
 use Rattle.word_layout.specs.declared.announced.Wish.{Wish}
 use Rattle.word_layout.specs.declared.announced.Wish.TheVariants.{Take, Give}
@@ -14,15 +16,12 @@ use Rattle.transfer_machine.specs.States.{StackState}
 use Rattle.transfer_machine.specs.declared.stage.NextStep.TheVariants.{Announce}
 use Rattle.transfer_invariant.specs.Memory.{Words}
 use Rattle.transfer_invariant.specs.Progress.{has_announced}
-use Rattle.transfer_invariant.specs.Tags.{total}
-use Rattle.transfer_invariant.proofs.Installs.{total_same}
 use Rattle.batch_invariant.specs.Places.{given, moving}
 use Rattle.batch_invariant.specs.Batches.{ProcessViews, weight}
-use Rattle.batch_invariant.proofs.Sums.{total_sums}
 use Rattle.batch_invariant.proofs.Moving.{moving_begun, moving_pending}
 use Rattle.chain_invariant.specs.Chains.{BlockLists, ChainsHold, pool_weight, times_pooled, blocks_weight, is_head}
 use Rattle.chain_invariant.specs.Laws.{IsFree, WishIsBlock, kept_blocks}
-use Rattle.chain_invariant.proofs.Weights.{counts_itself, has_weighs, weighs_none, weight_each, total_each, total_le}
+use Rattle.chain_invariant.proofs.Weights.{counts_itself, has_weighs, weighs_none, weight_each}
 use Rattle.chain_invariant.proofs.Pool.{pool_same, pool_each, content_pooled, spare_pooled, moving_pooled}
 use Rattle.chain_invariant.proofs.Lists.{begins, code_first, empty_code}
 use Rattle.chain_invariant.proofs.Places.{begin_weighs, batch_begins, current_low, batch_low, held_low, held_by_one, current_not_held, batch_not_held, head_low, head_weighs}
@@ -43,10 +42,7 @@ given_is_block sizes (Give head) low = low head (omega (arith, sum_by-cons (is_h
 in_rest : (b first : ℕ) (rest chain : List ℕ) → chain ≡ first ∷ rest → 1 ≤ weight (is_head b) rest → 1 ≤ weight (is_head b) chain
 in_rest b first rest chain is some = rw is (omega (arith, some, sum_by-cons (is_head b) first rest))
 
--- sums by parts, and at most so many each
-at_most_each : (n count : ℕ) (f : ℕ → ℕ) → ((o : ℕ) → o < count → f o ≤ n) → total count f ≤ n * count
-at_most_each n count f le = omega (arith, total_le count f (λ o. n) le, total_each n count)
-
+-- few blocks are free where the stack is empty and what is kept is little
 few_at : (processes l height kept held all : ℕ) → height ≡ 0 → kept + held + l * height ≡ all → kept ≤ 5 * l * processes
     → all ≤ held + 5 * (processes * l)
 few_at processes l height kept held all none counted few = let nothing : l * height ≡ 0 = rw none (omega arith) in
@@ -183,4 +179,4 @@ module _ (sizes : Sizes) (words : Words) (s : StackState) (views : ProcessViews)
   unfolding slack
   few_free none few = few_at sizes.processes sizes.length s.height (total sizes.processes (λ i. kept_blocks sizes s i (views i)))
       (total sizes.processes (λ i. length (holds i))) (blocks sizes) none blocks_counted
-      (at_most_each (5 * sizes.length) sizes.processes (λ i. kept_blocks sizes s i (views i)) few)
+      (total_at_most (5 * sizes.length) sizes.processes (λ i. kept_blocks sizes s i (views i)) few)

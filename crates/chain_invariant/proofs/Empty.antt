@@ -2,6 +2,7 @@
 use Rattle.std.proofs.Common.{◌≡◌, ◌≢◌, ℕ, zero, suc, ◌+◌, ◌-◌, ◌*◌, ◌<◌, ◌≤◌, ◌==◌, Bool, true, false, refl, sym, ap, ◌∙◌, length, arith}
 use Rattle.std.specs.Prelude.{if◌then◌else◌, slice_index}
 use Rattle.std.proofs.lemmas.Bool.Decides.{nat_tests}
+use Rattle.process_sums.specs.Sums.{total}
 use Rattle.word_layout.specs.Sizes.{Sizes, IsShape, blocks, slack}
 use Rattle.word_layout.specs.Packing.{reply_value, reply_of}
 use Rattle.word_layout.specs.declared.announced.Wish.{Wish}
@@ -13,7 +14,6 @@ use Rattle.transfer_machine.specs.Tries.{is_pending, is_take, is_odd_transfer, a
 use Rattle.transfer_machine.specs.declared.transfer.TransferView.{TransferView}
 use Rattle.transfer_invariant.specs.Installing.{planned_state}
 use Rattle.transfer_invariant.specs.Memory.{Words}
-use Rattle.transfer_invariant.specs.Tags.{total}
 use Rattle.batch_invariant.specs.Batches.{ProcessViews}
 use Rattle.batch_invariant.specs.Premises.{InstallsNext}
 use Rattle.batch_invariant.proofs.Applied.{answer_fits, put_here, put_elsewhere}

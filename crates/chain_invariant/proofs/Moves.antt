@@ -2,6 +2,7 @@
 use Rattle.std.proofs.Common.{◌≡◌, ℕ, ◌+◌, ◌*◌, ◌<◌, ◌≤◌, Bool, true, false, not, refl, inl, inr, length, arith}
 use Rattle.std.specs.Prelude.{if◌then◌else◌}
 use Rattle.std.proofs.lemmas.Bool.{cases_eq}
+use Rattle.process_sums.proofs.Sums.{total_none}
 use Rattle.word_layout.specs.Sizes.{Sizes, IsShape}
 use Rattle.word_layout.specs.Packing.{value_of, reply_of}
 use Rattle.word_layout.specs.declared.announced.Wish.{Wish}
@@ -24,7 +25,6 @@ use Rattle.batch_invariant.specs.Places.{moving}
 use Rattle.batch_invariant.specs.Batches.{ProcessViews, MovedProcess, ReplyMatches, KeepsBatches, weight}
 use Rattle.batch_invariant.specs.Transit.{HeadsFit, Carried, is_large}
 use Rattle.batch_invariant.specs.Premises.{InStep, PendingIsPresent, InstallsNext}
-use Rattle.batch_invariant.proofs.Sums.{total_nothing}
 use Rattle.batch_invariant.proofs.Transit.{small_where}
 use Rattle.batch_invariant.proofs.Steps.{stage_keeps, begun_keeps}
 use Rattle.batch_invariant.proofs.Installing.{next_carried, planned_carried}
@@ -172,7 +172,7 @@ chains_fit sizes words s views batch_blocks current_blocks held_blocks shape hol
       )),
     )) in
     let none = pool_each sizes s views 0 in
-    let nothing = total_nothing sizes.processes (λ i. 0 * (length (views i).pool.heads + length (moving s i (views i).transfer)))
+    let nothing = total_none sizes.processes (λ i. 0 * (length (views i).pool.heads + length (moving s i (views i).transfer)))
     (λ i li. no_times (length (views i).pool.heads + length (moving s i (views i).transfer))) in
     record { none_large = omega (arith, small, none, nothing, no_times s.height, pool_parts sizes s views is_large) }
   where

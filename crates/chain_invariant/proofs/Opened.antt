@@ -5,6 +5,8 @@ use Rattle.std.proofs.lemmas.Bool.{cases_lt}
 use Rattle.std.proofs.lemmas.Bool.Decides.{nat_tests}
 use Rattle.std.proofs.lemmas.List.Sums.{sum_by-cons}
 use Rattle.std.proofs.lemmas.Nat.{mod-mul-add}
+use Rattle.process_sums.specs.Sums.{total, SomeTerm}
+use Rattle.process_sums.proofs.Sums.{total_same, total_parts, total_pairs, total_rows, total_sums, some_term}
 use Rattle.word_layout.specs.Sizes.{Sizes, IsShape, blocks}
 use Rattle.word_layout.specs.declared.name.WordName.TheVariants.{Next}
 use Rattle.word_layout.proofs.Limits.{two_blocks_a_batch, batch_within_blocks}
@@ -12,10 +14,7 @@ use Rattle.transfer_machine.specs.Opening.{opening_base, opening_slot, opening_n
 use Rattle.pool_machine.specs.Pools.{opening_view}
 use Rattle.transfer_machine.specs.States.{StackState}
 use Rattle.transfer_invariant.specs.Memory.{Words}
-use Rattle.transfer_invariant.specs.Tags.{total}
-use Rattle.transfer_invariant.proofs.Installs.{total_same}
 use Rattle.batch_invariant.specs.Batches.{ProcessViews, weight, process_weight}
-use Rattle.batch_invariant.proofs.Sums.{total_parts, total_pairs, total_sums}
 use Rattle.batch_invariant.proofs.Moving.{moving_at_rest}
 use Rattle.batch_invariant.proofs.Steps.{unannounced_matches}
 use Rattle.chain_invariant.specs.Chains.{IsChain, IsChainOf, BlockLists, Chains, pool_weight, times_pooled, blocks_weight, is_head}
@@ -45,14 +44,6 @@ run_weight f start (suc count) =
   where
     shifted : (start k : ℕ) → start + (1 + k) ≡ start + 1 + k
     shifted start k = omega arith
-
--- the blocks of all batches
-batch_runs : (f : ℕ → ℕ) (l batches : ℕ) → total batches (λ b. total l (λ k. f (b * l + k))) ≡ total (batches * l) f
-unfolding total
-batch_runs f l zero = let none : 0 * l ≡ 0 = omega arith in rw none refl
-batch_runs f l (suc batches) =
-    let more : suc batches * l ≡ batches * l + l = omega arith in
-    rw more (omega (arith, total_parts (batches * l) l f, batch_runs f l batches))
 
 -- a run whose next words name the following number, and none at its end
 run_chain : (words : Words) (count start : ℕ) → ((j : ℕ) → j < count → words (Next (start + j)) ≡ start + j + 2)
@@ -117,15 +108,6 @@ batch_is_chain sizes words b shape lb next = record { leads = leads; size = run_
     leads = subst (λ (n : ℕ). IsChain words (b * sizes.length + 1) (run (b * sizes.length) n)) more
         (batch_chain sizes words b count lb (omega (arith, more)) next)
 
--- a head that is at a place is that of a batch
-total_some : (count : ℕ) (f : ℕ → ℕ) → 1 ≤ total count f → (k : ℕ) × (k < count) × (1 ≤ f k)
-unfolding total
-total_some zero f some = absurd (omega arith)
-total_some (suc count) f some = elim (cases_lt 0 (f count)) [
-  | inl lt ↦ (count, omega arith, lt)
-  | inr le ↦ let (k, low, here) = total_some count f (omega arith) in (k, omega arith, here)
-]
-
 module _ (sizes : Sizes) (words : Words) (s : StackState) (views : ProcessViews) (held : BlockLists) (shape : IsShape sizes)
     (next : (block : ℕ) → block < blocks sizes → words (Next block) ≡ opening_next sizes block)
     (height : s.height ≡ opening_base sizes) (content : (k : ℕ) → k < s.height → s.content k ≡ opening_slot sizes k)
@@ -160,13 +142,14 @@ module _ (sizes : Sizes) (words : Words) (s : StackState) (views : ProcessViews)
       omega (arith, spares, both, pairs, rest, parts, whole, stack)
 
   -- so a head at a place is that of a batch, and its run is a chain
-  batch_of : (head : ℕ) → 1 ≤ times_pooled sizes s views head → (b : ℕ) × (b < sizes.batches) × (1 ≤ is_head head (b * sizes.length))
-  batch_of head pooled = total_some sizes.batches (λ b. is_head head (b * sizes.length)) (omega (arith, pooled, opened_pool (is_head head)))
+  batch_of : (head : ℕ) → 1 ≤ times_pooled sizes s views head → SomeTerm sizes.batches (λ b. is_head head (b * sizes.length))
+  batch_of head pooled = some_term sizes.batches (λ b. is_head head (b * sizes.length)) (omega (arith, pooled, opened_pool (is_head head)))
 
   opened_batch : (head : ℕ) → 1 ≤ times_pooled sizes s views head → IsChainOf words (head + 1) sizes.length (run head sizes.length)
   opened_batch head pooled =
-      let (b, lb, here) = batch_of head pooled in
-      rw (counts_equal head (b * sizes.length) here) at (batch_is_chain sizes words b shape lb next)
+      let batch = batch_of head pooled in
+      let same : batch.place * sizes.length ≡ head = counts_equal head (batch.place * sizes.length) batch.some in
+      rw same at (batch_is_chain sizes words batch.place shape batch.within next)
 
   opened_current : (i : ℕ) → i < sizes.processes
       → IsChainOf words (views i).pool.head (views i).pool.plan.current (run (2 * i * sizes.length) sizes.length)
@@ -178,7 +161,7 @@ module _ (sizes : Sizes) (words : Words) (s : StackState) (views : ProcessViews)
   all_runs f = total_same sizes.batches (λ b. total sizes.length (λ k. f (b * sizes.length + k)))
       (λ b. weight f (run (b * sizes.length) sizes.length))
       (λ b lt. run_weight f (b * sizes.length) sizes.length)
-      ∙ batch_runs f sizes.length sizes.batches
+      ∙ total_rows sizes.batches sizes.length f
 
   opened_placed : (f : ℕ → ℕ)
       → blocks_weight sizes s views (λ head. run head sizes.length) (λ i. run (2 * i * sizes.length) sizes.length) held f

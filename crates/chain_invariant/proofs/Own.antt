@@ -1,9 +1,9 @@
 -- the own steps of a process: a block leaves its lists and is held, or a held block comes to them
-use Rattle.transfer_invariant.specs.Tags.{total}
 use Rattle.std.proofs.Common.{sym, ◌≡◌, ℕ, ◌+◌, ◌-◌, ◌*◌, ◌<◌, ◌≤◌, ap, inl, inr, List, [], ◌∷◌, length, arith}
 use Rattle.std.specs.Prelude.{Contains}
 use Rattle.std.proofs.lemmas.Bool.{cases_eq, cases_lt}
 use Rattle.std.proofs.lemmas.List.Sums.{sum_by-cons, sum_by_push}
+use Rattle.process_sums.specs.Sums.{total}
 use Rattle.word_layout.specs.Sizes.{Sizes, blocks}
 use Rattle.transfer_machine.specs.States.{StackState}
 use Rattle.pool_machine.specs.declared.view.ProcessView.{ProcessView}

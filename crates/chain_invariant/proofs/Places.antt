@@ -2,11 +2,11 @@
 use Rattle.std.proofs.Common.{◌≡◌, ◌≢◌, ℕ, ◌+◌, ◌<◌, ◌≤◌, inl, inr, List, ◌∷◌, arith}
 use Rattle.std.proofs.lemmas.Bool.{cases_lt}
 use Rattle.std.proofs.lemmas.List.Sums.{sum_by-cons}
+use Rattle.process_sums.proofs.Sums.{term_of_total, two_terms_of_total}
 use Rattle.word_layout.specs.Sizes.{Sizes, blocks}
 use Rattle.transfer_machine.specs.States.{StackState}
 use Rattle.transfer_invariant.specs.Memory.{Words}
 use Rattle.batch_invariant.specs.Batches.{ProcessViews, weight}
-use Rattle.batch_invariant.proofs.Sums.{term_of_total, terms_of_total}
 use Rattle.chain_invariant.specs.Chains.{BlockLists, ChainsHold, NextsStay, OtherNextsStay, times_pooled, blocks_weight, is_head}
 use Rattle.chain_invariant.proofs.Weights.{counts_itself, counts_equal, total_past, total_one}
 use Rattle.chain_invariant.proofs.Pool.{pool_part, pool_le}
@@ -66,11 +66,7 @@ module _ (sizes : Sizes) (words : Words) (s : StackState) (views : ProcessViews)
       ≤ blocks_weight sizes s views batch_blocks current_blocks held_blocks (is_head b)
   unfolding blocks_weight
   list_pair b i o li lo ne =
-      let number = λ (k : ℕ). weight (is_head b) (current_blocks k) + weight (is_head b) (held_blocks k) in
-      elim (cases_lt i o) [
-        | inl lt ↦ omega (arith, terms_of_total sizes.processes i o number lt lo)
-        | inr le ↦ omega (arith, terms_of_total sizes.processes o i number (omega arith) li)
-      ]
+      two_terms_of_total sizes.processes i o (λ k. weight (is_head b) (current_blocks k) + weight (is_head b) (held_blocks k)) li lo ne
 
   -- each block at a place is one of the pool
   pub current_low : (i b : ℕ) → i < sizes.processes → 1 ≤ weight (is_head b) (current_blocks i) → b < blocks sizes

@@ -3,17 +3,16 @@ use Rattle.std.proofs.Common.{◌≡◌, ℕ, ◌+◌, ◌*◌, ◌<◌, ◌≤�
 use Rattle.std.specs.Prelude.{slice_index}
 use Rattle.std.proofs.lemmas.Bool.{cases_lt}
 use Rattle.std.proofs.lemmas.List.Sums.{get_or-le-sum_by}
+use Rattle.process_sums.specs.Sums.{total}
+use Rattle.process_sums.proofs.Sums.{total_same, total_moved, total_le, total_each, total_sums, term_of_total, part_of_total}
 use Rattle.word_layout.specs.Sizes.{Sizes}
 use Rattle.transfer_machine.specs.States.{StackState}
 use Rattle.pool_machine.specs.declared.view.ProcessView.{ProcessView}
-use Rattle.transfer_invariant.specs.Tags.{total}
-use Rattle.transfer_invariant.proofs.Installs.{total_same, total_moved}
 use Rattle.batch_invariant.specs.Places.{moving}
 use Rattle.batch_invariant.specs.Batches.{ProcessViews, MovedProcess, weight}
-use Rattle.batch_invariant.proofs.Sums.{term_of_total, total_sums}
 use Rattle.batch_invariant.specs.Transit.{transit_weight}
 use Rattle.chain_invariant.specs.Chains.{pool_weight, times_pooled, is_head}
-use Rattle.chain_invariant.proofs.Weights.{counts_itself, counts_equal, weight_part, weight_le, total_le, weight_each, total_each, total_part}
+use Rattle.chain_invariant.proofs.Weights.{counts_itself, counts_equal, weight_part, weight_le, weight_each}
 
 -- the spares, and what is in transit or in the content
 pub pool_parts : (sizes : Sizes) (s : StackState) (views : ProcessViews) (f : ℕ → ℕ)
@@ -71,13 +70,13 @@ module _ (sizes : Sizes) (s : StackState) (views : ProcessViews) where
       elim (cases_lt 0 (total sizes.processes (λ i. weight (is_head head) (spares i) + weight (is_head head) (transit i)))) [
         | inl lt ↦ omega (
           arith,
-          total_part sizes.processes (f head) (λ i. weight (is_head head) (spares i) + weight (is_head head) (transit i))
+          part_of_total sizes.processes (f head) (λ i. weight (is_head head) (spares i) + weight (is_head head) (transit i))
               (λ i. weight f (spares i) + weight f (transit i))
               (λ i li here. lists_part f head (spares i) (transit i) here) lt,
         )
         | inr le ↦ omega (
           arith,
-          total_part s.height (f head) (λ k. is_head head (s.content k)) (λ k. f (s.content k))
+          part_of_total s.height (f head) (λ k. is_head head (s.content k)) (λ k. f (s.content k))
               (λ k lk here. content_part f head (s.content k) here) (omega arith),
         )
       ]

@@ -1,10 +1,10 @@
 -- the part of the invariant that says where each block is
 use Rattle.std.specs.Prelude.{◌≡◌, ◌≢◌, ℕ, ◌+◌, ◌<◌, ◌≤◌, ◌==◌, not, if◌then◌else◌, List, [], ◌∷◌, length, filter}
+use Rattle.process_sums.specs.Sums.{total}
 use Rattle.word_layout.specs.Sizes.{Sizes, blocks}
 use Rattle.word_layout.specs.declared.name.WordName.TheVariants.{Next}
 use Rattle.transfer_machine.specs.States.{StackState}
 use Rattle.transfer_invariant.specs.Memory.{Words}
-use Rattle.transfer_invariant.specs.Tags.{total}
 use Rattle.batch_invariant.specs.Batches.{ProcessViews, ReplyMatches, weight, process_weight}
 
 -- the blocks that a code leads to by next words: none from 0, from `block + 1` that block and then those that its next word leads to
