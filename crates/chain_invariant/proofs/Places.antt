@@ -1,6 +1,6 @@
 -- what the one equation gives: each block is at one place, and is one of the pool
 use Rattle.std.proofs.Common.{◌≡◌, ◌≢◌, ℕ, ◌+◌, ◌<◌, ◌≤◌, inl, inr, List, ◌∷◌, arith}
-use Rattle.std.proofs.lemmas.Bool.{cases_lt}
+use Rattle.std.proofs.lemmas.Bool.{cases_eq, cases_lt}
 use Rattle.std.proofs.lemmas.List.Sums.{sum_by-cons}
 use Rattle.process_sums.proofs.Sums.{term_of_total, two_terms_of_total}
 use Rattle.word_layout.specs.Sizes.{Sizes, blocks}
@@ -66,7 +66,8 @@ module _ (sizes : Sizes) (words : Words) (s : StackState) (views : ProcessViews)
       ≤ blocks_weight sizes s views batch_blocks current_blocks held_blocks (is_head b)
   unfolding blocks_weight
   list_pair b i o li lo ne =
-      two_terms_of_total sizes.processes i o (λ k. weight (is_head b) (current_blocks k) + weight (is_head b) (held_blocks k)) li lo ne
+      let number = λ (k : ℕ). weight (is_head b) (current_blocks k) + weight (is_head b) (held_blocks k) in
+      omega (arith, two_terms_of_total sizes.processes i o number li lo ne)
 
   -- each block at a place is one of the pool
   pub current_low : (i b : ℕ) → i < sizes.processes → 1 ≤ weight (is_head b) (current_blocks i) → b < blocks sizes
@@ -92,12 +93,9 @@ module _ (sizes : Sizes) (words : Words) (s : StackState) (views : ProcessViews)
 
   held_in_no_list_at : (i b o : ℕ) → i < sizes.processes → o < sizes.processes → 1 ≤ weight (is_head b) (held_blocks i)
       → 1 ≤ weight (is_head b) (current_blocks o) → ⊥
-  held_in_no_list_at i b o li lo some here = elim (cases_lt i o) [
-    | inl lt ↦ omega (arith, once b, list_pair b i o li lo (λ e. omega arith))
-    | inr le ↦ elim (cases_lt o i) [
-      | inl lt ↦ omega (arith, once b, list_pair b i o li lo (λ e. omega arith))
-      | inr ge ↦ let same : o ≡ i = omega arith in let mine = rw same at here in omega (arith, once b, list_part b i li, mine)
-    ]
+  held_in_no_list_at i b o li lo some here = elim (cases_eq o i) [
+    | inl same ↦ let mine = rw same at here in omega (arith, once b, list_part b i li, mine)
+    | inr ne ↦ omega (arith, once b, list_pair b i o li lo ne)
   ]
 
   held_in_no_list : (i b o : ℕ) → i < sizes.processes → o < sizes.processes → 1 ≤ weight (is_head b) (held_blocks i)

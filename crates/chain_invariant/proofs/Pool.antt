@@ -9,7 +9,7 @@ use Rattle.word_layout.specs.Sizes.{Sizes}
 use Rattle.transfer_machine.specs.States.{StackState}
 use Rattle.pool_machine.specs.declared.view.ProcessView.{ProcessView}
 use Rattle.batch_invariant.specs.Places.{moving}
-use Rattle.batch_invariant.specs.Batches.{ProcessViews, MovedProcess, weight}
+use Rattle.batch_invariant.specs.Batches.{ProcessViews, MovedProcess, weight, process_weight}
 use Rattle.batch_invariant.specs.Transit.{transit_weight}
 use Rattle.chain_invariant.specs.Chains.{pool_weight, times_pooled, is_head}
 use Rattle.chain_invariant.proofs.Weights.{counts_itself, counts_equal, weight_part, weight_le, weight_each}
@@ -28,15 +28,10 @@ module _ (sizes : Sizes) (s : StackState) (views : ProcessViews) where
   content_pooled place lt =
       omega (arith, term_of_total s.height place (λ k. is_head (s.content place) (s.content k)) lt, counts_itself (s.content place))
 
-  lists_pooled : (i head : ℕ) → i < sizes.processes
-      → weight (is_head head) (views i).pool.heads + weight (is_head head) (moving s i (views i).transfer) ≤ times_pooled sizes s views head
+  lists_pooled : (i head : ℕ) → i < sizes.processes → process_weight s i (views i) (is_head head) ≤ times_pooled sizes s views head
   unfolding pool_weight
   lists_pooled i head li =
-      omega (
-        arith,
-        term_of_total sizes.processes i (λ o. weight (is_head head) (views o).pool.heads
-            + weight (is_head head) (moving s o (views o).transfer)) li,
-      )
+      omega (arith, term_of_total sizes.processes i (λ o. process_weight s o (views o) (is_head head)) li)
 
   weighs_at : (xs : List ℕ) (place : ℕ) → place < length xs → 1 ≤ weight (is_head (slice_index xs place)) xs
   weighs_at xs place lt =
@@ -83,8 +78,7 @@ module _ (sizes : Sizes) (s : StackState) (views : ProcessViews) where
 
   -- a number that is at most another one at all heads at places
   lists_le : (f g : ℕ → ℕ) → ((head : ℕ) → 1 ≤ times_pooled sizes s views head → f head ≤ g head) → (i : ℕ) → i < sizes.processes
-      → weight f (views i).pool.heads + weight f (moving s i (views i).transfer)
-      ≤ weight g (views i).pool.heads + weight g (moving s i (views i).transfer)
+      → process_weight s i (views i) f ≤ process_weight s i (views i) g
   lists_le f g le i li = omega (
     arith,
     weight_le f g (views i).pool.heads (λ head some. le head (omega (arith, lists_pooled i head li))),
@@ -96,8 +90,7 @@ module _ (sizes : Sizes) (s : StackState) (views : ProcessViews) where
   unfolding pool_weight
   pool_le f g le = omega (
     arith,
-    total_le sizes.processes (λ i. weight f (views i).pool.heads + weight f (moving s i (views i).transfer))
-        (λ i. weight g (views i).pool.heads + weight g (moving s i (views i).transfer)) (lists_le f g le),
+    total_le sizes.processes (λ i. process_weight s i (views i) f) (λ i. process_weight s i (views i) g) (lists_le f g le),
     total_le s.height (λ k. f (s.content k)) (λ k. g (s.content k)) (λ k lk. le (s.content k) (content_pooled k lk)),
   )
 
@@ -108,13 +101,12 @@ module _ (sizes : Sizes) (s : StackState) (views : ProcessViews) where
       omega (arith, pool_le f g (λ head some. omega (arith, same head some)), pool_le g f (λ head some. omega (arith, same head some)))
 
   -- the same number for each head
-  pub pool_each : (n : ℕ)
-      → pool_weight sizes s views (λ head. n) ≡ total sizes.processes
-      (λ i. n * (length (views i).pool.heads + length (moving s i (views i).transfer))) + n * s.height
+  pub pool_each : (n : ℕ) → pool_weight sizes s views (λ head. n)
+      ≡ total sizes.processes (λ i. n * (length (views i).pool.heads + length (moving s i (views i).transfer))) + n * s.height
   unfolding pool_weight
   pool_each n =
       let lists = total_same sizes.processes (λ i. n * (length (views i).pool.heads + length (moving s i (views i).transfer)))
-      (λ i. weight (λ head. n) (views i).pool.heads + weight (λ head. n) (moving s i (views i).transfer))
+      (λ i. process_weight s i (views i) (λ head. n))
       (λ i li. omega (
         arith,
         weight_each n (views i).pool.heads,
@@ -129,12 +121,11 @@ module _ (sizes : Sizes) (s : StackState) (views : ProcessViews) where
 -- one process moves: all that changes is its spares and what is in transit
 pub pool_moved : (sizes : Sizes) (s : StackState) (views after : ProcessViews) (i : ℕ) (x : ProcessView) (f : ℕ → ℕ) → i < sizes.processes
     → MovedProcess i x views after
-    → pool_weight sizes s after f + (weight f (views i).pool.heads + weight f (moving s i (views i).transfer))
-    ≡ pool_weight sizes s views f + (weight f x.pool.heads + weight f (moving s i x.transfer))
+    → pool_weight sizes s after f + process_weight s i (views i) f ≡ pool_weight sizes s views f + process_weight s i x f
 unfolding pool_weight
 pool_moved sizes s views after i x f li moved =
-    let lists = λ (v : ProcessViews) (o : ℕ). weight f (v o).pool.heads + weight f (moving s o (v o).transfer) in
+    let lists = λ (v : ProcessViews) (o : ℕ). process_weight s o (v o) f in
     let all = total_moved sizes.processes i (lists views) (lists after) li
-    (λ o lo ne. ap (λ v. weight f v.pool.heads + weight f (moving s o v.transfer)) (moved.elsewhere o ne)) in
-    let here = ap (λ v. weight f v.pool.heads + weight f (moving s i v.transfer)) moved.here in
+    (λ o lo ne. ap (λ v. process_weight s o v f) (moved.elsewhere o ne)) in
+    let here = ap (λ v. process_weight s i v f) moved.here in
     omega (arith, all, here)
