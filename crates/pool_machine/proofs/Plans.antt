@@ -18,7 +18,7 @@ use Rattle.pool_machine.specs.declared.call.Call.TheVariants.{Allocate, Free, Re
 use Rattle.pool_machine.specs.declared.call.CallStage.{CallStage}
 use Rattle.pool_machine.specs.declared.call.CallStage.TheVariants.{Between, Moving, Own}
 use Rattle.transfer_machine.specs.declared.stage.NextStep.{NextStep}
-use Rattle.transfer_machine.specs.declared.stage.NextStep.TheVariants.{Rest, Announce, LoadState, LoadRecordWord, LoadCoveredSlot, ExchangeSlot, LoadAnnouncement, LoadPoppedSlot, StoreRecordWord, ExchangeState, LoadFinalState, LoadReply}
+use Rattle.transfer_machine.specs.declared.stage.NextStep.TheVariants.{Rest, Announce, Try, LoadFinalState, LoadReply}
 use Rattle.pool_machine.specs.declared.view.PoolView.{PoolView}
 use Rattle.pool_machine.specs.declared.view.ProcessView.{ProcessView}
 use Rattle.pool_machine.specs.Beginning.{due, before_call, call_begun}
@@ -94,14 +94,7 @@ counted_fits sizes x h = record { length = h.length; bound = h.bound; quantum = 
 moved_fits : (sizes : Sizes) (word : ℕ) (pool : PoolView) (s : NextStep) → PlanFits sizes pool.plan → PlanFits sizes (pool_met_at word pool s).plan
 moved_fits sizes word pool Rest h = h
 moved_fits sizes word pool Announce h = counted_fits sizes pool.plan h
-moved_fits sizes word pool LoadState h = counted_fits sizes pool.plan h
-moved_fits sizes word pool (LoadRecordWord index) h = counted_fits sizes pool.plan h
-moved_fits sizes word pool (LoadCoveredSlot offset) h = counted_fits sizes pool.plan h
-moved_fits sizes word pool (ExchangeSlot offset) h = counted_fits sizes pool.plan h
-moved_fits sizes word pool (LoadAnnouncement process) h = counted_fits sizes pool.plan h
-moved_fits sizes word pool (LoadPoppedSlot process) h = counted_fits sizes pool.plan h
-moved_fits sizes word pool (StoreRecordWord index) h = counted_fits sizes pool.plan h
-moved_fits sizes word pool ExchangeState h = counted_fits sizes pool.plan h
+moved_fits sizes word pool (Try second step) h = counted_fits sizes pool.plan h
 moved_fits sizes word pool LoadFinalState h = counted_fits sizes pool.plan h
 moved_fits sizes word pool LoadReply h = ended_fits sizes (reply_of (value_of word)) (step_counted pool) (counted_fits sizes pool.plan h)
 

@@ -16,9 +16,12 @@ use Rattle.pool_machine.specs.declared.view.ProcessView.{ProcessView}
 abbrev pub newest : PoolView → ℕ
 newest pool = slice_index pool.heads (length pool.heads - 1)
 
--- the transfer that is due as a call begins: where nothing is pending, a take with at most one spare, and a give of the newest spare with three
+-- the transfer that is due as a call begins: where nothing is pending, a take with at most one spare, a give of the newest with three
 abbrev pub due : PoolView → Option Wish
-due pool = if is_idle pool.plan.pending then (if nat_lt pool.plan.spares 2 then Some Take else (if pool.plan.spares == 3 then Some (Give (newest pool)) else None)) else None
+due pool =
+    if is_idle pool.plan.pending
+    then (if nat_lt pool.plan.spares 2 then Some Take else (if pool.plan.spares == 3 then Some (Give (newest pool)) else None))
+    else None
 
 -- a transfer is begun where one is due
 abbrev pub begun_if_due : Option Wish → ProcessView → ProcessView

@@ -35,7 +35,9 @@ after_move quantum steps next = if is_rest next || (steps == quantum) then Own e
 
 -- the call has made one step more of its transfer
 abbrev pub move_counted : Sizes → ProcessView → ProcessView
-move_counted sizes v = record v { calls = record v.calls { stage = after_move sizes.quantum (v.calls.steps + 1) v.transfer.next; steps = v.calls.steps + 1 } }
+move_counted sizes v =
+    let steps = v.calls.steps + 1 in
+    record v { calls = record v.calls { stage = after_move sizes.quantum steps v.transfer.next; steps = steps } }
 
 -- the view after its next step at that stage met this word
 abbrev pub call_met_at : Sizes → ProcessView → ℕ → CallStage → ProcessView

@@ -1,16 +1,17 @@
 // What one process knows.
-ghost use Rattle.std.specs.Prelude.{◌≡◌, ◌≢◌, ◌<◌, ◌≤◌, ◌^◌};
-ghost use Rattle.word_layout.specs.Packing.{FitsWish};
+ghost use Rattle.std.specs.Prelude.{◌≡◌, ◌≢◌, ◌<◌, ◌≤◌};
+ghost use Rattle.word_layout.specs.Packing.{most_age, FitsWish};
 ghost use Rattle.transfer_schedule.specs.declared.pending.Pending.TheVariants.{Idle};
 ghost use Rattle.transfer_machine.specs.declared.stage.NextStep.TheVariants.{Rest};
 ghost use Rattle.transfer_machine.specs.Machine.{CanAct, CanMeet};
 ghost use Rattle.pool_machine.specs.Phases.{phase_of, waiting_of};
-ghost use Rattle.pool_machine.specs.Pools.{opening_pool, opening_view, pool_begun, view_begun, pool_met_at, view_met, pool_ended, MayBegin, CanCount, CanMeetPool, CanEnd};
+ghost use Rattle.pool_machine.specs.Pools.{opening_pool, opening_view, pool_begun, view_begun, pool_met_at, view_met, pool_ended};
+ghost use Rattle.pool_machine.specs.Pools.{MayBegin, CanCount, CanMeetPool, CanEnd};
 
 use crate::call::{CallStage, CallView, Way};
 use crate::heads::Heads;
-use crate::stage::{NextStep, Phase, Stage};
-use crate::transfer::TransferView;
+use crate::phase::Phase;
+use transfer_machine::{NextStep, Stage, TransferView};
 use transfer_schedule::{Pending, Plan};
 use word_layout::{Reply, Shape, Tagged, Wish};
 
@@ -30,8 +31,11 @@ pub struct PoolView {
 /// What a process knows: its part of the transfers, its private pool, and its calls.
 #[derive(Debug, Drop)]
 pub struct ProcessView {
+    /// Its part of the transfers.
     pub transfer: TransferView,
+    /// Its private pool.
     pub pool: PoolView,
+    /// Its calls.
     pub calls: CallView,
 }
 
@@ -84,7 +88,7 @@ impl PoolView {
     }
 
     /// Ends the pending transfer. The batch of a take becomes the newest spare.
-    fn end(&mut self, reply: Reply)
+    pub fn end(&mut self, reply: Reply)
         requires pending { self.old.plan.pending ≢ Idle }
         requires can { CanEnd reply self.old }
         ensures { self.new ≡ pool_ended reply self.old }
@@ -145,6 +149,20 @@ impl ProcessView {
         }
     }
 
+    /// Begins a transfer: a take with at most one spare, or a give of the newest spare, which leaves the
+    /// spares at once. Its first step is the announcement.
+    pub(crate) fn begin(&mut self, wish: Wish)
+        requires rest { self.old.transfer.next ≡ Rest }
+        requires idle { self.old.pool.plan.pending ≡ Idle }
+        requires age { self.old.transfer.age < most_age }
+        requires fits { FitsWish wish }
+        requires may { MayBegin wish self.old.pool }
+        ensures { self.new ≡ view_begun wish self.old }
+    {
+        self.pool.begin(wish);
+        self.transfer.begin(wish);
+    }
+
     /// Counts a step of the pending transfer, which met this word.
     pub fn meet(&mut self, shape: &Shape, word: u64)
         requires busy { self.old.transfer.next ≢ Rest }
@@ -157,18 +175,4 @@ impl ProcessView {
         self.pool.meet(self.transfer.next, word);
         self.transfer.meet(shape, word);
     }
-}
-
-/// Begins a transfer outside any call: a take with at most one spare, or a give of the newest spare, which
-/// leaves the spares at once. Its first step is the announcement.
-pub fn begin_transfer(view: &mut ProcessView, wish: Wish)
-    requires rest { view.old.transfer.next ≡ Rest }
-    requires idle { view.old.pool.plan.pending ≡ Idle }
-    requires age { view.old.transfer.age < 2 ^ 32 }
-    requires fits { FitsWish wish }
-    requires may { MayBegin wish view.old.pool }
-    ensures { view.new ≡ view_begun wish view.old }
-{
-    view.pool.begin(wish);
-    view.transfer.begin(wish);
 }
