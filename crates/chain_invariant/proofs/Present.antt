@@ -16,17 +16,14 @@ use Rattle.transfer_machine.specs.declared.stage.TryStep.{TryStep}
 use Rattle.transfer_machine.specs.declared.stage.TryStep.TheVariants.{LoadState, LoadRecordWord, LoadCoveredSlot, ExchangeSlot, LoadAnnouncement, LoadPoppedSlot, StoreRecordWord, ExchangeState}
 use Rattle.transfer_invariant.specs.Memory.{Words, States, Acted, state_tag}
 use Rattle.transfer_invariant.specs.Installing.{planned_state, states_with_planned, states_after_try_step, states_after_at}
-use Rattle.transfer_invariant.proofs.Acts.{is_state, leaves_records, announces, exchanges_slot, exchanges_state, keeps_state}
+use Rattle.transfer_invariant.proofs.Acts.{leaves_records, announces, exchanges_slot, exchanges_state, keeps_state}
 use Rattle.transfer_invariant.proofs.Writes.{with_state_here}
 
 -- a stored record word isn't the state
 record_stored : (sizes : Sizes) (row index word : ℕ) (m n : Words) → Acted sizes (Store (RecordWord row index) word) m n
     → state_tag n ≡ state_tag m
 unfolding state_tag
-record_stored sizes row index word m n a = ap tag_of (a.elsewhere State tt (λ e. apart (ap is_state e)))
-  where
-    apart : true ≡ false → ⊥
-    apart h = grind arith
+record_stored sizes row index word m n a = ap tag_of (a.elsewhere State tt (λ e. cc))
 
 -- the state is exchanged, or not
 same_words : (a b : ℕ) → (a == b) ≡ true → a ≡ b
