@@ -21,7 +21,6 @@ use Rattle.transfer_invariant.specs.Plans.{OverlayFits}
 use Rattle.transfer_invariant.specs.Installing.{states_with_planned, states_after_try_step, states_after_at}
 use Rattle.transfer_invariant.specs.Invariant.{RecordsHold}
 use Rattle.transfer_invariant.specs.Laws.{PlanFits, WritesFit}
-use Rattle.transfer_invariant.proofs.Changes.{RecordsStay}
 use Rattle.transfer_invariant.proofs.Stable.{next_low}
 use Rattle.transfer_invariant.proofs.Own.{StoresNone}
 use Rattle.transfer_invariant.proofs.Steps.{stay, loads_state, try_ends}
@@ -29,12 +28,9 @@ use Rattle.transfer_invariant.proofs.Stages.{leaves, record_step, slot_step, exc
 use Rattle.transfer_invariant.proofs.Writes.{store_step, install_step}
 use Rattle.transfer_invariant.proofs.Acts.{leaves_records, announces, exchanges_slot, stores_word, exchanges_state, keeps_state}
 
--- a step that changes neither the state nor a record
-kept : (sizes : Sizes) (m n : Words) (after : Views) (states : States) → RecordsHold sizes m after states → RecordsStay sizes m n → RecordsHold sizes n after states
-kept sizes m n after states inv s = stay sizes m n after states inv s
-
 -- the next record fits the value of a word
-pub row_fits : (sizes : Sizes) (m : Words) (i : ℕ) (v : TransferView) → sizes.processes ≤ 32 → i < sizes.processes → OwnRecord sizes m i v → v.next_record < value_limit
+pub row_fits : (sizes : Sizes) (m : Words) (i : ℕ) (v : TransferView) → sizes.processes ≤ 32 → i < sizes.processes → OwnRecord sizes m i v
+    → v.next_record < value_limit
 row_fits sizes m i v few li own = let low = next_low sizes.processes i v.next_record li own.next in omega arith
 
 -- an exchange of the state, made or not
@@ -57,7 +53,7 @@ exchange_kept sizes m n views after states i second true few li inv e plan fits 
     let there = exchanges_state sizes v.loaded.state (loaded_tag v.loaded + 1) v.next_record m n row test a in
     install_step sizes m n views after states i second li inv e now (rw e at plan) (fits same) there moved
 exchange_kept sizes m n views after states i second false few li inv e plan fits test a moved =
-    kept sizes m n after states (try_ends sizes m views after states i second li inv (rw e refl) moved)
+    stay sizes m n after states (try_ends sizes m views after states i second li inv (rw e refl) moved)
     (keeps_state sizes (views i).loaded.state (next_state (views i)) m n test a)
 
 -- the step at each stage of a try
@@ -69,29 +65,29 @@ try_step_kept : (sizes : Sizes) (m n : Words) (views after : Views) (states : St
 unfolding word_tag word_value
 try_step_kept sizes m n views after states i second LoadState few li inv plan w e a moved =
     let x = met_in_try sizes (views i) (m State) second LoadState in
-    kept sizes m n after states (loads_state sizes m views after states i x li inv refl refl refl refl refl refl refl moved)
+    stay sizes m n after states (loads_state sizes m views after states i x li inv refl refl refl refl refl refl refl moved)
     (leaves_records sizes (Load State) m n a refl)
 try_step_kept sizes m n views after states i second (LoadRecordWord index) few li inv plan w e a moved =
     let name = RecordWord (loaded_record (views i).loaded) index in
     let later = nat_lt (loaded_tag (views i).loaded) (tag_of (m name)) in
-    kept sizes m n after states (record_step sizes m views after states i second index (m name) few li inv e refl refl later refl moved)
+    stay sizes m n after states (record_step sizes m views after states i second index (m name) few li inv e refl refl later refl moved)
     (leaves_records sizes (Load name) m n a refl)
 try_step_kept sizes m n views after states i second (LoadCoveredSlot offset) few li inv plan w e a moved =
     let name = Slot (loaded_base (views i).loaded + offset) in
     let older = nat_lt (tag_of (m name)) (loaded_tag (views i).loaded) in
-    kept sizes m n after states (slot_step sizes m views after states i second offset (m name) li inv e older moved)
+    stay sizes m n after states (slot_step sizes m views after states i second offset (m name) li inv e older moved)
     (leaves_records sizes (Load name) m n a refl)
 try_step_kept sizes m n views after states i second (ExchangeSlot offset) few li inv plan w e a moved =
-    kept sizes m n after states (exchange_step sizes m views after states i second offset li inv e moved)
+    stay sizes m n after states (exchange_step sizes m views after states i second offset li inv e moved)
     (exchanges_slot sizes _ _ _ m n a)
 try_step_kept sizes m n views after states i second (LoadAnnouncement process) few li inv plan w e a moved =
     let word = m (Announcement process) in
     let pops = pops_slot sizes.processes (views i).loaded process word (views i).plan in
-    kept sizes m n after states (announcement_step sizes m views after states i second process word li inv e pops moved)
+    stay sizes m n after states (announcement_step sizes m views after states i second process word li inv e pops moved)
     (leaves_records sizes (Load (Announcement process)) m n a refl)
 try_step_kept sizes m n views after states i second (LoadPoppedSlot process) few li inv plan w e a moved =
     let name = Slot ((views i).plan.base - 1) in
-    kept sizes m n after states (popped_step sizes m views after states i second process (m name) li inv e moved)
+    stay sizes m n after states (popped_step sizes m views after states i second process (m name) li inv e moved)
     (leaves_records sizes (Load name) m n a refl)
 try_step_kept sizes m n views after states i second (StoreRecordWord index) few li inv plan w e a moved =
     let v = views i in
@@ -111,21 +107,21 @@ pub step_kept : (sizes : Sizes) (m n : Words) (views after : Views) (states : St
 step_kept sizes m n views after states i Rest few li inv plan w e a moved =
     let none : StoresNone sizes (views i).next = rw e (record { index = omega arith; stored = refl }) in
     let left = leaves sizes m views after states i (views i) li inv (rw e refl) (rw e refl) none (rw e refl) refl refl refl moved in
-    kept sizes m n after states left (leaves_records sizes (Load State) m n a refl)
+    stay sizes m n after states left (leaves_records sizes (Load State) m n a refl)
 step_kept sizes m n views after states i Announce few li inv plan w e a moved =
     let x = met_at sizes (views i) 0 Announce in
     let none : StoresNone sizes x.next = record { index = omega arith; stored = refl } in
     let left = leaves sizes m views after states i x li inv refl refl none refl refl refl refl moved in
-    kept sizes m n after states left (announces sizes (views i).number (own_announcement (views i)) m n a)
+    stay sizes m n after states left (announces sizes (views i).number (own_announcement (views i)) m n a)
 step_kept sizes m n views after states i (Try second step) few li inv plan w e a moved =
     try_step_kept sizes m n views after states i second step few li inv plan w e a moved
 step_kept sizes m n views after states i LoadFinalState few li inv plan w e a moved =
     let x = met_at sizes (views i) (m State) LoadFinalState in
-    kept sizes m n after states (loads_state sizes m views after states i x li inv refl refl refl refl refl refl refl moved)
+    stay sizes m n after states (loads_state sizes m views after states i x li inv refl refl refl refl refl refl refl moved)
     (leaves_records sizes (Load State) m n a refl)
 step_kept sizes m n views after states i LoadReply few li inv plan w e a moved =
     let name = RecordWord (loaded_record (views i).loaded) (sizes.processes + 2 + (views i).number) in
     let x = met_at sizes (views i) (m name) LoadReply in
     let none : StoresNone sizes x.next = record { index = omega arith; stored = refl } in
     let left = leaves sizes m views after states i x li inv refl refl none refl refl refl refl moved in
-    kept sizes m n after states left (leaves_records sizes (Load name) m n a refl)
+    stay sizes m n after states left (leaves_records sizes (Load name) m n a refl)

@@ -8,7 +8,7 @@ use Rattle.word_layout.specs.Names.{record_words}
 use Rattle.word_layout.specs.Packing.{tag_of, value_of}
 use Rattle.transfer_machine.specs.Loads.{loaded_tag, loaded_reply, overlay_length}
 use Rattle.transfer_machine.specs.Tries.{is_pending, announced_wish, after_announcement, pops_slot, begun_plan}
-use Rattle.transfer_machine.specs.Machine.{met_at, met_in_try, try_ended, installed, after_try, after_record, after_slot, after_heard, after_stored}
+use Rattle.transfer_machine.specs.Machine.{met_at, met_in_try, try_ended, installed, after_try, after_slot, after_heard}
 use Rattle.transfer_machine.specs.declared.loaded.Loaded.{Loaded}
 use Rattle.transfer_machine.specs.declared.try_plan.TryPlan.{TryPlan}
 use Rattle.transfer_machine.specs.declared.transfer.TransferView.{TransferView}

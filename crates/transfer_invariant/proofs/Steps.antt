@@ -1,6 +1,5 @@
 -- steps that change neither the state nor a record
-use Rattle.std.proofs.Common.{◌≡◌, ◌≢◌, ℕ, ◌<◌, ◌≤◌, ◌==◌, Bool, true, refl, ap, inl, inr, arith, length}
-use Rattle.std.specs.Prelude.{if◌then◌else◌}
+use Rattle.std.proofs.Common.{◌≡◌, ◌≢◌, ℕ, ◌<◌, ◌≤◌, Bool, true, refl, ap, inl, inr, arith, length}
 use Rattle.std.proofs.lemmas.Bool.{cases_eq}
 use Rattle.std.proofs.lemmas.Bool.Decides.{nat_tests}
 use Rattle.word_layout.specs.Sizes.{Sizes}
@@ -35,13 +34,20 @@ pub record Owed (sizes : Sizes) (n : Words) (views : Views) (states : States) (i
   pub self : OwnerWentOn x x
   pub rest : (a o : ℕ) → a < sizes.processes → o < sizes.processes → a ≢ i → o ≢ i → OwnerWentOn (views a) (views o)
 
-pub assemble : (sizes : Sizes) (n : Words) (views after : Views) (states : States) (i : ℕ) (x : TransferView) → Moved i x views after → Owed sizes n views states i x → RecordsHold sizes n after states
+pub assemble : (sizes : Sizes) (n : Words) (views after : Views) (states : States) (i : ℕ) (x : TransferView) → Moved i x views after
+    → Owed sizes n views states i x → RecordsHold sizes n after states
 assemble sizes n views after states i x moved owed = record {
   current = owed.current;
   states_fit = owed.states_fit;
   tags_below = owed.tags_below;
-  own = λ o lo. elim (cases_eq o i) [ inl e ↦ rw e (rw moved.here owed.own) | inr ne ↦ rw (moved.elsewhere o ne) (owed.others_own o lo ne) ];
-  loaded = λ o lo. elim (cases_eq o i) [ inl e ↦ rw e (rw moved.here owed.loaded) | inr ne ↦ rw (moved.elsewhere o ne) (owed.others_loaded o lo ne) ];
+  own = λ o lo. elim (cases_eq o i) [
+    | inl e ↦ rw e (rw moved.here owed.own)
+    | inr ne ↦ rw (moved.elsewhere o ne) (owed.others_own o lo ne)
+  ];
+  loaded = λ o lo. elim (cases_eq o i) [
+    | inl e ↦ rw e (rw moved.here owed.loaded)
+    | inr ne ↦ rw (moved.elsewhere o ne) (owed.others_loaded o lo ne)
+  ];
   owners = λ a o la lo. elim (cases_eq a i) [
     | inl e ↦ elim (cases_eq o i) [
       | inl f ↦ rw e (rw f (rw moved.here owed.self))
@@ -55,7 +61,8 @@ assemble sizes n views after states i x moved owed = record {
 }
 
 -- words that stay as they were
-pub stay : (sizes : Sizes) (m n : Words) (views : Views) (states : States) → RecordsHold sizes m views states → RecordsStay sizes m n → RecordsHold sizes n views states
+pub stay : (sizes : Sizes) (m n : Words) (views : Views) (states : States) → RecordsHold sizes m views states → RecordsStay sizes m n
+    → RecordsHold sizes n views states
 stay sizes m n views states inv s = record {
   current = stay_current sizes m n states inv.current s;
   states_fit = stay_states sizes m n states inv.states_fit s.state;
@@ -66,8 +73,10 @@ stay sizes m n views states inv s = record {
 }
 
 -- a view that goes on
-pub moves_on : (sizes : Sizes) (m : Words) (views after : Views) (states : States) (i : ℕ) (x : TransferView) → i < sizes.processes → RecordsHold sizes m views states → KeepsLoaded (views i) x → StoresNone sizes x.next → length x.loaded.record_words ≡ 66
-    → ((k : ℕ) → k < loaded_words (record_words sizes) x.next → record_value x.loaded k ≡ state_value sizes.processes (states (loaded_tag (views i).loaded)) k)
+pub moves_on : (sizes : Sizes) (m : Words) (views after : Views) (states : States) (i : ℕ) (x : TransferView) → i < sizes.processes
+    → RecordsHold sizes m views states → KeepsLoaded (views i) x → StoresNone sizes x.next → length x.loaded.record_words ≡ 66
+    → ((k : ℕ) → k < loaded_words (record_words sizes) x.next
+    → record_value x.loaded k ≡ state_value sizes.processes (states (loaded_tag (views i).loaded)) k)
     → Moved i x views after → RecordsHold sizes m after states
 moves_on sizes m views after states i x li inv g none room loads moved = assemble sizes m views after states i x moved (record {
   current = inv.current;
@@ -84,15 +93,21 @@ moves_on sizes m views after states i x li inv g none room loads moved = assembl
 })
 
 -- and loads no word of the record
-pub moves_on_same : (sizes : Sizes) (m : Words) (views after : Views) (states : States) (i : ℕ) (x : TransferView) → i < sizes.processes → RecordsHold sizes m views states → KeepsLoaded (views i) x → StoresNone sizes x.next → x.loaded.record_words ≡ (views i).loaded.record_words
-    → loaded_words (record_words sizes) x.next ≤ loaded_words (record_words sizes) (views i).next → Moved i x views after → RecordsHold sizes m after states
+pub moves_on_same : (sizes : Sizes) (m : Words) (views after : Views) (states : States) (i : ℕ) (x : TransferView) → i < sizes.processes
+    → RecordsHold sizes m views states → KeepsLoaded (views i) x → StoresNone sizes x.next
+    → x.loaded.record_words ≡ (views i).loaded.record_words
+    → loaded_words (record_words sizes) x.next ≤ loaded_words (record_words sizes) (views i).next → Moved i x views after
+    → RecordsHold sizes m after states
 moves_on_same sizes m views after states i x li inv g none same le moved =
-    moves_on sizes m views after states i x li inv g none (rw same (inv.loaded i li).room) (λ k lt. rw same ((inv.loaded i li).loaded k (omega arith))) moved
+    moves_on sizes m views after states i x li inv g none (rw same (inv.loaded i li).room)
+    (λ k lt. rw same ((inv.loaded i li).loaded k (omega arith))) moved
 
 -- a view that loads the state
-pub loads_state : (sizes : Sizes) (m : Words) (views after : Views) (states : States) (i : ℕ) (x : TransferView) → i < sizes.processes → RecordsHold sizes m views states
-    → x.next_record ≡ (views i).next_record → x.installed ≡ (views i).installed → record_index x.next ≡ 0 → stored_words (record_words sizes) x.next ≡ 0 → loaded_words (record_words sizes) x.next ≡ 0
-    → x.loaded.record_words ≡ (views i).loaded.record_words → x.loaded.state ≡ m State → Moved i x views after → RecordsHold sizes m after states
+pub loads_state : (sizes : Sizes) (m : Words) (views after : Views) (states : States) (i : ℕ) (x : TransferView) → i < sizes.processes
+    → RecordsHold sizes m views states → x.next_record ≡ (views i).next_record → x.installed ≡ (views i).installed → record_index x.next ≡ 0
+    → stored_words (record_words sizes) x.next ≡ 0 → loaded_words (record_words sizes) x.next ≡ 0
+    → x.loaded.record_words ≡ (views i).loaded.record_words → x.loaded.state ≡ m State → Moved i x views after
+    → RecordsHold sizes m after states
 unfolding state_tag current_record
 loads_state sizes m views after states i x li inv en ei ex es el er et moved =
     let own = state_own sizes m i (views i) x (inv.own i li) en ei ex es (ap tag_of et) in
@@ -114,7 +129,8 @@ loads_state sizes m views after states i x li inv en ei ex es el er et moved =
 pub try_has : (s : NextStep) → in_try s ≡ true → has_loaded s ≡ true
 try_has s e = grind arith
 
-pub within : (v x : TransferView) → in_try v.next ≡ true → x.next_record ≡ v.next_record → x.installed ≡ v.installed → x.loaded.state ≡ v.loaded.state → KeepsLoaded v x
+pub within : (v x : TransferView) → in_try v.next ≡ true → x.next_record ≡ v.next_record → x.installed ≡ v.installed
+    → x.loaded.state ≡ v.loaded.state → KeepsLoaded v x
 within v x e en ei es = record { next_record = en; installed = ei; state = es; has = λ h. try_has v.next e; tries = λ h. e }
 
 pub ended_none : (sizes : Sizes) (second : Bool) → StoresNone sizes (after_try second)
@@ -123,9 +139,13 @@ ended_none sizes second = grind arith
 pub ended_loads : (words : ℕ) (second : Bool) → loaded_words words (after_try second) ≡ 0
 ended_loads words second = grind arith
 
-pub try_ends : (sizes : Sizes) (m : Words) (views after : Views) (states : States) (i : ℕ) (second : Bool) → i < sizes.processes → RecordsHold sizes m views states → in_try (views i).next ≡ true → Moved i (try_ended second (views i)) views after → RecordsHold sizes m after states
+pub try_ends : (sizes : Sizes) (m : Words) (views after : Views) (states : States) (i : ℕ) (second : Bool) → i < sizes.processes
+    → RecordsHold sizes m views states → in_try (views i).next ≡ true → Moved i (try_ended second (views i)) views after
+    → RecordsHold sizes m after states
 try_ends sizes m views after states i second li inv e moved =
-    moves_on_same sizes m views after states i (try_ended second (views i)) li inv (within (views i) (try_ended second (views i)) e refl refl refl) (ended_none sizes second) refl (rw (ended_loads (record_words sizes) second) (omega arith)) moved
+    let x = try_ended second (views i) in
+    moves_on_same sizes m views after states i x li inv (within (views i) x e refl refl refl) (ended_none sizes second) refl
+    (rw (ended_loads (record_words sizes) second) (omega arith)) moved
 
 -- what follows a covered slot, and an announcement
 pub slot_none : (sizes : Sizes) (second : Bool) (loaded : Loaded) (offset : ℕ) → StoresNone sizes (Try second (after_slot loaded offset))

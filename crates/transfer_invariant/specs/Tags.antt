@@ -1,5 +1,6 @@
 -- the part of the invariant that counts the states
-use Rattle.std.specs.Prelude.{◌≡◌, ℕ, zero, suc, ◌+◌, ◌-◌, ◌<◌, ◌≤◌, Bool, true, nat_le, not, ◌&&◌, ◌||◌, if◌then◌else◌}
+use Rattle.std.specs.Prelude.{◌≡◌, ℕ, ◌+◌, ◌-◌, ◌<◌, ◌≤◌, Bool, true, nat_le, not, ◌&&◌, ◌||◌, if◌then◌else◌}
+use Rattle.process_sums.specs.Sums.{total}
 use Rattle.word_layout.specs.Sizes.{Sizes}
 use Rattle.transfer_machine.specs.Loads.{loaded_tag}
 use Rattle.transfer_machine.specs.declared.transfer.TransferView.{TransferView}
@@ -15,11 +16,6 @@ has_installed_nothing v = has_announced v.next && (not (has_begun_try v.next) ||
 -- at most so many states the transfers of a view have installed: its age, less one where the pending transfer installed nothing so far
 unfoldable pub installs : TransferView → ℕ
 installs v = v.age - (if has_installed_nothing v then 1 else 0)
-
--- the sum of a number of each process
-unfoldable pub total : ℕ → (ℕ → ℕ) → ℕ
-total zero number = 0
-total (suc process) number = total process number + number process
 
 -- Tags, of one view: until a try ends by installing a state, the last installed state is at most the one that the first try loaded
 pub record InstallOrder (words : Words) (v : TransferView) : Type 0 where

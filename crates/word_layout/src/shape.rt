@@ -31,7 +31,8 @@ impl Model for Shape {
 }
 
 impl Shape {
-    ghost use Rattle.word_layout.specs.Sizes.{Sizes, IsShape, blocks, slack, transfer_bound};
+    ghost use Rattle.word_layout.specs.Sizes.{Sizes, IsShape, blocks, limits_of, transfer_bound};
+    ghost use Rattle.pool_model.specs.Limits.{slack};
 
     /// The most processes of a pool.
     const MOST_PROCESSES: u32 = 32;
@@ -151,11 +152,10 @@ impl Shape {
     }
 
     /// How many blocks may be unheld at most at some moment shortly before a refusal.
-    #[tactic(auto, unfolding(crate::specs::Sizes::slack))]
     pub fn slack(&self) -> u32
-        ensures { result ≡ slack self.now }
+        ensures { result ≡ slack (limits_of self.now) }
     {
-        5 * (self.processes * self.length)
+        5 * self.processes * self.length
     }
 
     /// How many steps a transfer takes at most.
