@@ -3,7 +3,8 @@ use Rattle.std.proofs.Common.{◌≡◌, ◌≢◌, ℕ, zero, suc, ◌+◌, ◌
 use Rattle.std.specs.Prelude.{if◌then◌else◌, slice_index}
 use Rattle.std.proofs.lemmas.Bool.Decides.{nat_tests}
 use Rattle.process_sums.specs.Sums.{total}
-use Rattle.word_layout.specs.Sizes.{Sizes, IsShape, blocks, slack}
+use Rattle.pool_model.specs.Limits.{slack}
+use Rattle.word_layout.specs.Sizes.{Sizes, IsShape, blocks, limits_of}
 use Rattle.word_layout.specs.Packing.{reply_value, reply_of}
 use Rattle.word_layout.specs.declared.announced.Wish.{Wish}
 use Rattle.word_layout.specs.declared.announced.Wish.TheVariants.{Take, Give}
@@ -119,7 +120,7 @@ module _ (sizes : Sizes) (words : Words) (s : StackState) (views : ProcessViews)
       (sym answer_is ∙ nothing)
 
   pub found_few : ((t : StackState) (o : ℕ) → o < sizes.processes → kept_blocks sizes t o (views o) ≤ 5 * sizes.length)
-      → blocks sizes ≤ total sizes.processes (λ o. length (held o)) + slack sizes
+      → blocks sizes ≤ total sizes.processes (λ o. length (held o)) + slack (limits_of sizes)
   found_few few =
       let met = next_of i (λ o. slice_index v.loaded.announcements o) s in
       few_free sizes words met views met_chains.batch_blocks met_chains.current_blocks held met_chains.hold met_empty (few met)

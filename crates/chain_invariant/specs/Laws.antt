@@ -2,7 +2,8 @@
 use Rattle.std.specs.Prelude.{◌≡◌, ◌≢◌, ℕ, ◌+◌, ◌-◌, ◌*◌, ◌<◌, ◌≤◌, Bool, true, false, [], ◌∷◌, length, slice_index, Contains}
 use Rattle.std.specs.List.{All}
 use Rattle.process_sums.specs.Sums.{total}
-use Rattle.word_layout.specs.Sizes.{Sizes, IsShape, blocks, slack}
+use Rattle.pool_model.specs.Limits.{slack}
+use Rattle.word_layout.specs.Sizes.{Sizes, IsShape, blocks, limits_of}
 use Rattle.word_layout.specs.Packing.{value_of, reply_of}
 use Rattle.word_layout.specs.declared.announced.Wish.{Wish}
 use Rattle.word_layout.specs.declared.announced.Wish.TheVariants.{Take, Give}
@@ -269,7 +270,7 @@ abbrev pub FewAreFree : Type 0
 FewAreFree = (sizes : Sizes) (words : Words) (s : StackState) (views : ProcessViews) (held : BlockLists) → Chains sizes words s views held
     → s.height ≡ 0
     → ((i : ℕ) → i < sizes.processes → kept_blocks sizes s i (views i) ≤ 5 * sizes.length)
-    → blocks sizes ≤ total sizes.processes (λ i. length (held i)) + slack sizes
+    → blocks sizes ≤ total sizes.processes (λ i. length (held i)) + slack (limits_of sizes)
 
 -- a take that the installed state applied and answered with nothing met an empty stack, so all blocks but the slack are held
 abbrev pub EmptyTakesFindFew : Type 0
@@ -281,4 +282,4 @@ EmptyTakesFindFew = (sizes : Sizes) (words : Words) (s : StackState) (views : Pr
     → (planned_state s v).applied i ≢ s.applied i
     → reply_of ((planned_state s v).reply i) ≡ Nothing
     → ((t : StackState) (o : ℕ) → o < sizes.processes → kept_blocks sizes t o (views o) ≤ 5 * sizes.length)
-    → blocks sizes ≤ total sizes.processes (λ o. length (held o)) + slack sizes
+    → blocks sizes ≤ total sizes.processes (λ o. length (held o)) + slack (limits_of sizes)
