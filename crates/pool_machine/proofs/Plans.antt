@@ -8,6 +8,8 @@ use Rattle.word_layout.specs.declared.reply.Reply.TheVariants as reply
 use Rattle.word_layout.specs.declared.announced.Wish.{Wish}
 use Rattle.word_layout.specs.declared.announced.Wish.TheVariants.{Take, Give}
 use Rattle.transfer_schedule.specs.Numbers as schedule
+use Rattle.transfer_schedule.specs.declared.pending.Pending.{Pending}
+use Rattle.transfer_schedule.specs.declared.pending.Pending.TheVariants.{Idle, Taking, Giving}
 use Rattle.transfer_schedule.specs.declared.own_step.Source.{Source}
 use Rattle.transfer_schedule.specs.declared.own_step.Target.{Target}
 use Rattle.transfer_schedule.specs.declared.own_step.Source.TheVariants as source
@@ -21,15 +23,20 @@ use Rattle.transfer_machine.specs.declared.stage.NextStep.{NextStep}
 use Rattle.transfer_machine.specs.declared.stage.NextStep.TheVariants.{Rest, Announce, Try, LoadFinalState, LoadReply}
 use Rattle.pool_machine.specs.declared.view.PoolView.{PoolView}
 use Rattle.pool_machine.specs.declared.view.ProcessView.{ProcessView}
-use Rattle.pool_machine.specs.Beginning.{due, before_call, call_begun}
+use Rattle.pool_machine.specs.Beginning.{wish_of, due, begun_if_due, before_call, call_begun}
 use Rattle.pool_machine.specs.OwnSteps.{allocated, freed, pool_own_met}
 use Rattle.pool_machine.specs.Steps.{call_met, call_met_at}
 use Rattle.pool_machine.specs.Ready.{PlanFits, CanBegin}
 use Rattle.pool_machine.specs.Laws.{plan_after, CanBeginWish}
 
 -- the transfer that is due is the plan's choice
+begun_as_due : (v : ProcessView) (p : Pending) → (begun_if_due (wish_of v.pool p) v).pool.plan ≡ schedule.after_begin p v.pool.plan
+begun_as_due v Idle = refl
+begun_as_due v Taking = refl
+begun_as_due v Giving = refl
+
 pub choice_is_the_plans : (v : ProcessView) → (before_call v).pool.plan ≡ schedule.after_choice v.pool.plan
-choice_is_the_plans v = grind (arith, nat_tests)
+choice_is_the_plans v = begun_as_due v (schedule.due v.pool.plan)
 
 -- a transfer that is due can begin
 pub due_begins : (v : ProcessView) (wish : Wish) → CanBegin v → due v.pool ≡ Some wish → CanBeginWish v wish

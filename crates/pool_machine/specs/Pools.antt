@@ -6,6 +6,7 @@ use Rattle.word_layout.specs.declared.announced.Wish.{Wish}
 use Rattle.word_layout.specs.declared.announced.Wish.TheVariants.{Take, Give}
 use Rattle.word_layout.specs.declared.reply.Reply.{Reply}
 use Rattle.word_layout.specs.declared.reply.Reply.TheVariants.{Nothing, Took, Gave}
+use Rattle.transfer_schedule.specs.Beginning as beginning
 use Rattle.transfer_schedule.specs.Numbers as schedule
 use Rattle.transfer_schedule.specs.declared.pending.Pending.{Pending}
 use Rattle.transfer_schedule.specs.declared.pending.Pending.TheVariants.{Idle, Taking, Giving}
@@ -41,10 +42,11 @@ abbrev pub pending_of : Wish → Pending
 pending_of Take = Taking
 pending_of (Give head) = Giving
 
--- a transfer with this wish may begin: a take with at most one spare, a give of the newest spare
+-- a transfer with this wish may begin: the plan has the spares for it, and what is given is the newest one
 abbrev pub MayBegin : Wish → PoolView → Type 0
-MayBegin Take pool = pool.plan.spares ≤ 1
-MayBegin (Give head) pool = (1 ≤ length pool.heads) × (1 ≤ pool.plan.spares) × (slice_index pool.heads (length pool.heads - 1) ≡ head)
+MayBegin Take pool = beginning.MayBegin Taking pool.plan.spares
+MayBegin (Give head) pool =
+    (1 ≤ length pool.heads) × beginning.MayBegin Giving pool.plan.spares × (slice_index pool.heads (length pool.heads - 1) ≡ head)
 
 -- the spares and the begun give once this wish is begun: a given batch leaves the spares at once
 abbrev pub wish_begun : Wish → PoolView → PoolView

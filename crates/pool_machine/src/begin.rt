@@ -21,16 +21,12 @@ pub fn newest(pool: &PoolView) -> u32
     pool.heads.get(pool.heads.len() - 1)
 }
 
-/// The transfer that is due as a call begins: what the plan chooses, where nothing is pending.
+/// The transfer that is due as a call begins, by the plan. A give is one of the newest spare.
 fn due(pool: &PoolView) -> Option<Wish>
     requires { length pool.now.heads ≡ pool.now.plan.spares }
     ensures { result ≡ due pool.now }
 {
-    if pool.plan.pending() != Pending::Idle {
-        return None;
-    }
-    let mut plan = pool.plan;
-    match plan.before_call() {
+    match pool.plan.due() {
         Pending::Idle => None,
         Pending::Taking => Some(Wish::Take),
         Pending::Giving => Some(Wish::Give(newest(pool))),
