@@ -32,9 +32,8 @@ transfer_carried : (sizes : Sizes) (s : StackState) (views : ProcessViews) (k wo
     → s.applied k + 1 ≡ (views k).transfer.age
     → Carried sizes s (with_transfer k word s) views
 transfer_carried sizes s views k word lk fits announced present next =
-    let wish : announced_wish word ≡ (views k).transfer.wish =
-    ap announced_wish present ∙ wish_read (views k).transfer.age (views k).transfer.wish
-    (pending_fits sizes s views k lk fits announced (λ e. omega arith)) in
+    let fit = pending_fits sizes s views k lk fits announced (λ e. omega arith) in
+    let wish = ap announced_wish present ∙ wish_read (views k).transfer.age (views k).transfer.wish fit in
     subst (λ (w : Wish). Carried sizes s (with_granted k (is_odd_transfer word) w s) views) (sym wish)
     (granted_carried sizes s views k (is_odd_transfer word) fits lk announced next)
 

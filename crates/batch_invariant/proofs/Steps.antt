@@ -9,15 +9,15 @@ use Rattle.word_layout.specs.declared.announced.Wish.TheVariants.{Take, Give}
 use Rattle.word_layout.specs.declared.reply.Reply.{Reply}
 use Rattle.word_layout.specs.declared.reply.Reply.TheVariants.{Nothing, Took, Gave}
 use Rattle.transfer_machine.specs.Machine.{met_at, begun}
-use Rattle.pool_machine.specs.Pools.{MayBegin, view_begun, pool_met_at, pool_ended, step_counted}
 use Rattle.transfer_machine.specs.States.{StackState}
 use Rattle.transfer_machine.specs.Tries.{is_take}
 use Rattle.transfer_machine.specs.declared.transfer.TransferView.{TransferView}
-use Rattle.pool_machine.specs.declared.view.PoolView.{PoolView}
-use Rattle.pool_machine.specs.declared.view.ProcessView.{ProcessView}
 use Rattle.transfer_machine.specs.declared.stage.NextStep.{NextStep}
 use Rattle.transfer_machine.specs.declared.stage.NextStep.TheVariants.{Rest, Announce, Try, LoadFinalState, LoadReply}
 use Rattle.transfer_machine.specs.declared.stage.TryStep.TheVariants.{ExchangeState}
+use Rattle.pool_machine.specs.Pools.{MayBegin, view_begun, pool_met_at, pool_ended, step_counted}
+use Rattle.pool_machine.specs.declared.view.PoolView.{PoolView}
+use Rattle.pool_machine.specs.declared.view.ProcessView.{ProcessView}
 use Rattle.transfer_invariant.specs.Memory.{Moved}
 use Rattle.transfer_invariant.specs.Progress.{has_announced}
 use Rattle.batch_invariant.specs.Places.{taken, brought}

@@ -2,11 +2,11 @@
 use Rattle.std.specs.Prelude.{◌≡◌, ℕ, ◌<◌, ◌≤◌}
 use Rattle.word_layout.specs.Sizes.{Sizes}
 use Rattle.word_layout.specs.declared.announced.Wish.{Wish}
-use Rattle.pool_machine.specs.Pools.{view_begun, view_met, MayBegin}
 use Rattle.transfer_machine.specs.States.{StackState, next_of}
 use Rattle.transfer_machine.specs.declared.transfer.TransferView.{TransferView}
-use Rattle.pool_machine.specs.declared.view.ProcessView.{ProcessView}
 use Rattle.transfer_machine.specs.declared.stage.NextStep.TheVariants.{Rest}
+use Rattle.pool_machine.specs.Pools.{view_begun, view_met, MayBegin}
+use Rattle.pool_machine.specs.declared.view.ProcessView.{ProcessView}
 use Rattle.transfer_invariant.specs.Installing.{planned_state}
 use Rattle.batch_invariant.specs.Batches.{ProcessViews, ReplyMatches, KeepsBatches}
 use Rattle.batch_invariant.specs.Transit.{HeadsFit, Carried}

@@ -18,11 +18,11 @@ use Rattle.transfer_machine.specs.declared.action.Action.TheVariants.{Load, Stor
 use Rattle.pool_machine.specs.declared.call.Call.{Call}
 use Rattle.pool_machine.specs.declared.call.Call.TheVariants.{Allocate, Free, Read, Write}
 use Rattle.pool_machine.specs.declared.view.ProcessView.{ProcessView}
-use Rattle.transfer_invariant.specs.Memory.{Words, Acted}
 use Rattle.pool_machine.specs.Beginning.{newest, due, begun_if_due, call_begun}
 use Rattle.pool_machine.specs.OwnSteps.{block_from, next_block, allocate_action, follower, own_action_for, allocated, freed, pool_own_met}
 use Rattle.pool_machine.specs.Ready.{CanBegin, CanAllocate, CanFree, CanOwnFor, CanFollow, CanMeetOwnFor}
 use Rattle.pool_machine.proofs.Plans.{due_begins}
+use Rattle.transfer_invariant.specs.Memory.{Words, Acted}
 use Rattle.batch_invariant.specs.Batches.{ProcessViews, MovedProcess, weight}
 use Rattle.chain_invariant.specs.Calls.{with_got, held_by_call, NamesHeld}
 use Rattle.chain_invariant.specs.Chains.{BlockLists, ChainsHold, Chains, MovedList, NextsStay, OtherNextsStay, blocks_weight, without}
@@ -240,8 +240,8 @@ module _ (sizes : Sizes) (words : Words) (s : StackState) (views : ProcessViews)
       → CanFree (views i).pool (if t then target.Current else target.Fresh)
   free_can true size within et room = tt
   free_can false size within et room =
-      let full : (views i).pool.plan.current ≡ sizes.length =
-      omega (arith, tests_full (views i).pool.plan.current (views i).pool.plan.length et, size, within) in
+      let whole = tests_full (views i).pool.plan.current (views i).pool.plan.length et in
+      let full : (views i).pool.plan.current ≡ sizes.length = omega (arith, whole, size, within) in
       let lists = current_lists_are_free sizes words s views held i li chains in
       (lists.1 (λ e. omega (arith, e, full, two_blocks_a_batch sizes shape)), room full)
 

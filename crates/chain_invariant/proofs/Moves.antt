@@ -12,13 +12,13 @@ use Rattle.word_layout.specs.declared.reply.Reply.TheVariants.{Nothing, Took, Ga
 use Rattle.word_layout.proofs.Limits.{two_blocks_a_batch}
 use Rattle.transfer_schedule.specs.Numbers as schedule
 use Rattle.transfer_schedule.specs.declared.pending.Pending.TheVariants.{Idle}
-use Rattle.pool_machine.specs.Pools.{MayBegin, view_begun, view_met, pool_begun, pool_met_at, pool_ended, step_counted}
 use Rattle.transfer_machine.specs.States.{StackState, next_of}
 use Rattle.transfer_machine.specs.declared.transfer.TransferView.{TransferView}
-use Rattle.pool_machine.specs.declared.view.PoolView.{PoolView}
-use Rattle.pool_machine.specs.declared.view.ProcessView.{ProcessView}
 use Rattle.transfer_machine.specs.declared.stage.NextStep.{NextStep}
 use Rattle.transfer_machine.specs.declared.stage.NextStep.TheVariants.{Rest, Announce, Try, LoadFinalState, LoadReply}
+use Rattle.pool_machine.specs.Pools.{MayBegin, view_begun, view_met, pool_begun, pool_met_at, pool_ended, step_counted}
+use Rattle.pool_machine.specs.declared.view.PoolView.{PoolView}
+use Rattle.pool_machine.specs.declared.view.ProcessView.{ProcessView}
 use Rattle.transfer_invariant.specs.Installing.{planned_state}
 use Rattle.transfer_invariant.specs.Memory.{Words}
 use Rattle.batch_invariant.specs.Places.{moving}

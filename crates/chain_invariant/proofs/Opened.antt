@@ -10,8 +10,8 @@ use Rattle.word_layout.specs.Sizes.{Sizes, IsShape, blocks}
 use Rattle.word_layout.specs.declared.name.WordName.TheVariants.{Next}
 use Rattle.word_layout.proofs.Limits.{two_blocks_a_batch, batch_within_blocks}
 use Rattle.transfer_machine.specs.Opening.{opening_base, opening_slot, opening_next}
-use Rattle.pool_machine.specs.Pools.{opening_view}
 use Rattle.transfer_machine.specs.States.{StackState}
+use Rattle.pool_machine.specs.Pools.{opening_view}
 use Rattle.transfer_invariant.specs.Memory.{Words}
 use Rattle.batch_invariant.specs.Batches.{ProcessViews, weight, process_weight}
 use Rattle.batch_invariant.proofs.Moving.{moving_at_rest}

@@ -25,13 +25,17 @@ record_stored : (sizes : Sizes) (row index word : ℕ) (m n : Words) → Acted s
 unfolding state_tag
 record_stored sizes row index word m n a = ap tag_of (a.elsewhere State tt (λ e. cc))
 
--- the state is exchanged, or not
 same_words : (a b : ℕ) → (a == b) ≡ true → a ≡ b
 same_words a b h = grind (arith, nat_tests)
 
+-- where the present state is the one that a view loaded, its next record is a row, and the state that it planned has a property
+abbrev PlannedHas : (StackState → Type 0) → Words → TransferView → States → Type 0
+PlannedHas P m v states = m State ≡ v.loaded.state → (v.next_record < value_limit) × P (planned_state (states (state_tag m)) v)
+
+-- the state is exchanged, or not
 exchange_holds_after : (P : StackState → Type 0) (sizes : Sizes) (m n : Words) (v : TransferView) (states : States) (t : Bool)
     → P (states (state_tag m))
-    → (m State ≡ v.loaded.state → (v.next_record < value_limit) × P (planned_state (states (state_tag m)) v))
+    → PlannedHas P m v states
     → (m State == v.loaded.state) ≡ t
     → Acted sizes (Exchange State v.loaded.state (next_state v)) m n
     → P ((if t then states_with_planned m v states else states) (state_tag n))
@@ -40,8 +44,8 @@ exchange_holds_after P sizes m n v states true holds installs test a =
     let same : m State ≡ v.loaded.state = same_words (m State) v.loaded.state test in
     let planned = installs same in
     let now : loaded_tag v.loaded ≡ state_tag m = sym (ap tag_of same) in
-    let tag : state_tag n ≡ state_tag m + 1 =
-    (exchanges_state sizes v.loaded.state (loaded_tag v.loaded + 1) v.next_record m n planned.0 test a).state ∙ ap (λ k. k + 1) now in
+    let exchanged = exchanges_state sizes v.loaded.state (loaded_tag v.loaded + 1) v.next_record m n planned.0 test a in
+    let tag : state_tag n ≡ state_tag m + 1 = exchanged.state ∙ ap (λ k. k + 1) now in
     let here = with_state_here (state_tag m + 1) (planned_state (states (state_tag m)) v) states in
     rw (tag, here) planned.1
 exchange_holds_after P sizes m n v states false holds installs test a =
@@ -50,7 +54,7 @@ exchange_holds_after P sizes m n v states false holds installs test a =
 -- what holds of the present state and of a state that the step installs holds of the present state after a step of a try
 try_holds_after : (P : StackState → Type 0) (sizes : Sizes) (m n : Words) (v : TransferView) (states : States) (step : TryStep)
     → P (states (state_tag m))
-    → (step ≡ ExchangeState → m State ≡ v.loaded.state → (v.next_record < value_limit) × P (planned_state (states (state_tag m)) v))
+    → (step ≡ ExchangeState → PlannedHas P m v states)
     → Acted sizes (try_action sizes v step) m n
     → P (states_after_try_step m v states step (state_tag n))
 try_holds_after P sizes m n v states LoadState holds installs a = rw (leaves_records sizes (Load State) m n a refl).state holds
@@ -71,8 +75,7 @@ try_holds_after P sizes m n v states ExchangeState holds installs a =
 -- the same of any step of a transfer
 pub holds_after : (P : StackState → Type 0) (sizes : Sizes) (m n : Words) (v : TransferView) (states : States) (stage : NextStep)
     → P (states (state_tag m))
-    → ((second : Bool) → stage ≡ Try second ExchangeState → m State ≡ v.loaded.state
-    → (v.next_record < value_limit) × P (planned_state (states (state_tag m)) v))
+    → ((second : Bool) → stage ≡ Try second ExchangeState → PlannedHas P m v states)
     → Acted sizes (action_at sizes v stage) m n
     → P (states_after_at m v states stage (state_tag n))
 holds_after P sizes m n v states Rest holds installs a = rw (leaves_records sizes (Load State) m n a refl).state holds

@@ -4,21 +4,22 @@ use Rattle.word_layout.specs.Sizes.{Sizes, IsShape}
 use Rattle.word_layout.specs.declared.name.WordName.{WordName}
 use Rattle.word_layout.specs.declared.name.WordName.TheVariants.{State, Announcement, RecordWord, Slot, Next, Data}
 use Rattle.transfer_machine.specs.Machine.{try_action, action_at, action_of}
-use Rattle.pool_machine.specs.Pools.{view_met}
 use Rattle.transfer_machine.specs.Words.{name_of}
 use Rattle.transfer_machine.specs.declared.action.Action.{Action}
 use Rattle.transfer_machine.specs.declared.transfer.TransferView.{TransferView}
-use Rattle.pool_machine.specs.declared.view.ProcessView.{ProcessView}
 use Rattle.transfer_machine.specs.declared.stage.NextStep.{NextStep}
 use Rattle.transfer_machine.specs.declared.stage.NextStep.TheVariants.{Rest, Announce, Try, LoadFinalState, LoadReply}
 use Rattle.transfer_machine.specs.declared.stage.TryStep.{TryStep}
 use Rattle.transfer_machine.specs.declared.stage.TryStep.TheVariants.{LoadState, LoadRecordWord, LoadCoveredSlot, ExchangeSlot, LoadAnnouncement, LoadPoppedSlot, StoreRecordWord, ExchangeState}
+use Rattle.pool_machine.specs.Pools.{view_met}
+use Rattle.pool_machine.specs.declared.view.ProcessView.{ProcessView}
 use Rattle.transfer_invariant.specs.Installing.{planned_state, states_after}
 use Rattle.transfer_invariant.specs.Memory.{Words, States, Acted, state_tag}
 use Rattle.batch_invariant.specs.Batches.{ProcessViews, MovedProcess}
-use Rattle.batch_invariant.specs.Premises.{InStep, InstallsNext}
+use Rattle.batch_invariant.specs.Premises.{InStep}
 use Rattle.batch_invariant.proofs.Steps.{exchange_in_step}
 use Rattle.chain_invariant.specs.Chains.{BlockLists, ChainsHold, NextsStay}
+use Rattle.chain_invariant.specs.Laws.{ExchangeInstalls}
 use Rattle.chain_invariant.specs.Steps.{SameParts}
 use Rattle.chain_invariant.proofs.Moves.{words_stay, step_keeps, installs_carry}
 use Rattle.chain_invariant.proofs.Present.{holds_after}
@@ -68,8 +69,7 @@ pub transfer_keeps : (sizes : Sizes) (m n : Words) (views after : ProcessViews) 
     (batch_blocks current_blocks held_blocks : BlockLists) (i : ℕ) (x : ProcessView) → IsShape sizes → i < sizes.processes
     → ChainsHold sizes m (states (state_tag m)) views batch_blocks current_blocks held_blocks
     → InStep (states (state_tag m)) i (views i).transfer (m (name_of (action_of sizes (views i).transfer)))
-    → ((second : Bool) → (views i).transfer.next ≡ Try second ExchangeState → m State ≡ (views i).transfer.loaded.state
-    → InstallsNext sizes (states (state_tag m)) views (views i).transfer)
+    → ExchangeInstalls sizes m (states (state_tag m)) views (views i).transfer
     → Acted sizes (action_of sizes (views i).transfer) m n
     → SameParts x (view_met sizes (views i) (m (name_of (action_of sizes (views i).transfer)))) → MovedProcess i x views after
     → ChainsHold sizes n (states_after m (views i).transfer states (state_tag n)) after batch_blocks current_blocks held_blocks
@@ -77,8 +77,7 @@ transfer_keeps sizes m n views after states batch_blocks current_blocks held_blo
     let v = (views i).transfer in
     let now = states (state_tag m) in
     let word = m (name_of (action_of sizes v)) in
-    let stay : ChainsHold sizes m now after batch_blocks current_blocks held_blocks =
-    step_keeps sizes m now views after batch_blocks current_blocks held_blocks i word x li hold step parts moved in
+    let stay = step_keeps sizes m now views after batch_blocks current_blocks held_blocks i word x li hold step parts moved in
     words_stay sizes m n (states_after m v states (state_tag n)) after batch_blocks current_blocks held_blocks
     (holds_after (λ t. ChainsHold sizes m t after batch_blocks current_blocks held_blocks) sizes m n v states v.next stay (λ second is same.
     let next = installs second is same in

@@ -8,10 +8,10 @@ use Rattle.pool_machine.specs.declared.call.Call.{Call}
 use Rattle.pool_machine.specs.declared.call.Call.TheVariants.{Allocate, Free, Read, Write}
 use Rattle.pool_machine.specs.declared.view.PoolView.{PoolView}
 use Rattle.pool_machine.specs.declared.view.ProcessView.{ProcessView}
-use Rattle.transfer_invariant.specs.Memory.{Words, Acted}
 use Rattle.pool_machine.specs.Beginning.{call_begun}
 use Rattle.pool_machine.specs.OwnSteps.{next_block, own_action, own_met}
 use Rattle.pool_machine.specs.Ready.{CanBegin, CanOwn, CanMeetOwn}
+use Rattle.transfer_invariant.specs.Memory.{Words, Acted}
 use Rattle.batch_invariant.specs.Batches.{ProcessViews, MovedProcess}
 use Rattle.chain_invariant.specs.Chains.{BlockLists, Chains, MovedList, without}
 use Rattle.chain_invariant.specs.Steps.{SameParts}
@@ -49,7 +49,8 @@ pub record OwnStepFits (sizes : Sizes) (held : List ℕ) (v : ProcessView) : Typ
 abbrev pub CallsBeginWithChains : Type 0
 CallsBeginWithChains =
     (sizes : Sizes) (words : Words) (s : StackState) (views after : ProcessViews) (held : BlockLists) (i : ℕ) (call : Call)
-    (x : ProcessView) → i < sizes.processes
+    (x : ProcessView)
+    → i < sizes.processes
     → Chains sizes words s views held
     → CanBegin (views i)
     → SameParts x (call_begun call (views i))
@@ -60,7 +61,8 @@ CallsBeginWithChains =
 abbrev pub OwnStepsKeepChains : Type 0
 OwnStepsKeepChains =
     (sizes : Sizes) (words new : Words) (s : StackState) (views after : ProcessViews) (held held_after : BlockLists) (i : ℕ)
-    (x : ProcessView) → IsShape sizes → i < sizes.processes
+    (x : ProcessView)
+    → IsShape sizes → i < sizes.processes
     → Chains sizes words s views held
     → OwnStepFits sizes (held i) (views i)
     → Acted sizes (own_action (views i)) words new
@@ -71,8 +73,8 @@ OwnStepsKeepChains =
 
 -- the block that an allocate gets is free
 abbrev pub GotBlocksAreFree : Type 0
-GotBlocksAreFree = (sizes : Sizes) (words : Words) (s : StackState) (views : ProcessViews) (held : BlockLists) (i block : ℕ) → IsShape sizes
-    → i < sizes.processes
+GotBlocksAreFree = (sizes : Sizes) (words : Words) (s : StackState) (views : ProcessViews) (held : BlockLists) (i block : ℕ)
+    → IsShape sizes → i < sizes.processes
     → Chains sizes words s views held
     → OwnStepFits sizes (held i) (views i)
     → next_block (views i).pool ≡ Some block
@@ -80,8 +82,8 @@ GotBlocksAreFree = (sizes : Sizes) (words : Words) (s : StackState) (views : Pro
 
 -- the own step of a call can be made where a full current list finds room among the spares
 abbrev pub OwnStepsCanBeMade : Type 0
-OwnStepsCanBeMade = (sizes : Sizes) (words : Words) (s : StackState) (views : ProcessViews) (held : BlockLists) (i : ℕ) → IsShape sizes
-    → i < sizes.processes
+OwnStepsCanBeMade = (sizes : Sizes) (words : Words) (s : StackState) (views : ProcessViews) (held : BlockLists) (i : ℕ)
+    → IsShape sizes → i < sizes.processes
     → Chains sizes words s views held
     → OwnStepFits sizes (held i) (views i)
     → ((views i).pool.plan.current ≡ sizes.length → length (views i).pool.heads < 3)

@@ -58,10 +58,11 @@ pub record MovedList (number : ℕ) (list : List ℕ) (old new : BlockLists) : T
   pub here : new number ≡ list
   pub elsewhere : (other : ℕ) → other ≢ number → new other ≡ old other
 
--- the next words of all blocks stay, or of all but one
+-- the next words of all blocks stay
 abbrev pub NextsStay : Sizes → Words → Words → Type 0
 NextsStay sizes words new = (b : ℕ) → b < blocks sizes → new (Next b) ≡ words (Next b)
 
+-- the next words of all blocks but one stay
 abbrev pub OtherNextsStay : Sizes → ℕ → Words → Words → Type 0
 OtherNextsStay sizes block words new = (b : ℕ) → b < blocks sizes → b ≢ block → new (Next b) ≡ words (Next b)
 

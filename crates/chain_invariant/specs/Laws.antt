@@ -12,14 +12,14 @@ use Rattle.word_layout.specs.declared.reply.Reply.TheVariants.{Nothing, Gave}
 use Rattle.transfer_schedule.specs.Numbers.{is_idle, withheld}
 use Rattle.transfer_machine.specs.Machine.{action_of}
 use Rattle.transfer_machine.specs.Opening.{opening_base, opening_slot, opening_next}
-use Rattle.pool_machine.specs.Pools.{opening_view, view_begun, view_met, MayBegin}
 use Rattle.transfer_machine.specs.States.{StackState, next_of}
 use Rattle.transfer_machine.specs.Tries.{is_take}
 use Rattle.transfer_machine.specs.Words.{name_of}
 use Rattle.transfer_machine.specs.declared.transfer.TransferView.{TransferView}
-use Rattle.pool_machine.specs.declared.view.ProcessView.{ProcessView}
 use Rattle.transfer_machine.specs.declared.stage.NextStep.TheVariants.{Rest, Announce, Try, LoadReply}
 use Rattle.transfer_machine.specs.declared.stage.TryStep.TheVariants.{ExchangeState}
+use Rattle.pool_machine.specs.Pools.{opening_view, view_begun, view_met, MayBegin}
+use Rattle.pool_machine.specs.declared.view.ProcessView.{ProcessView}
 use Rattle.transfer_invariant.specs.Progress.{has_announced}
 use Rattle.transfer_invariant.specs.Installing.{planned_state, states_after}
 use Rattle.transfer_invariant.specs.Memory.{Words, States, Acted, state_tag}
@@ -32,7 +32,8 @@ use Rattle.chain_invariant.specs.Steps.{SameParts, KeepsLists, FirstLeaves, Spar
 
 -- at the opening each block is at one place, and none is held
 abbrev pub OpeningHasChains : Type 0
-OpeningHasChains = (sizes : Sizes) (words : Words) (s : StackState) (views : ProcessViews) (held : BlockLists) → IsShape sizes
+OpeningHasChains = (sizes : Sizes) (words : Words) (s : StackState) (views : ProcessViews) (held : BlockLists)
+    → IsShape sizes
     → ((b : ℕ) → b < blocks sizes → words (Next b) ≡ opening_next sizes b)
     → s.height ≡ opening_base sizes
     → ((k : ℕ) → k < s.height → s.content k ≡ opening_slot sizes k)
@@ -44,7 +45,8 @@ OpeningHasChains = (sizes : Sizes) (words : Words) (s : StackState) (views : Pro
 abbrev pub BeginningsKeepChains : Type 0
 BeginningsKeepChains =
     (sizes : Sizes) (words : Words) (s : StackState) (views after : ProcessViews) (held : BlockLists) (i : ℕ) (wish : Wish)
-    (x : ProcessView) → i < sizes.processes
+    (x : ProcessView)
+    → i < sizes.processes
     → Chains sizes words s views held
     → (views i).transfer.next ≡ Rest
     → MayBegin wish (views i).pool
@@ -55,7 +57,8 @@ BeginningsKeepChains =
 -- so does a step of a transfer that leaves the state
 abbrev pub StepsKeepChains : Type 0
 StepsKeepChains = (sizes : Sizes) (words : Words) (s : StackState) (views after : ProcessViews) (held : BlockLists) (i word : ℕ)
-    (x : ProcessView) → i < sizes.processes
+    (x : ProcessView)
+    → i < sizes.processes
     → Chains sizes words s views held
     → InStep s i (views i).transfer word
     → SameParts x (view_met sizes (views i) word)
@@ -78,6 +81,11 @@ SameStatesKeepChains = (sizes : Sizes) (words : Words) (s t : StackState) (views
     → SameStack sizes.processes s t
     → Chains sizes words t views held
 
+-- where the next step of a view exchanges the state and meets the one that it loaded, it installs the next one
+abbrev pub ExchangeInstalls : Sizes → Words → StackState → ProcessViews → TransferView → Type 0
+ExchangeInstalls sizes words s views v =
+    (second : Bool) → v.next ≡ Try second ExchangeState → words State ≡ v.loaded.state → InstallsNext sizes s views v
+
 -- the step of a transfer on the words keeps it, of the present state before and after
 abbrev pub TransfersKeepChains : Type 0
 TransfersKeepChains =
@@ -85,8 +93,7 @@ TransfersKeepChains =
     → IsShape sizes → i < sizes.processes
     → Chains sizes words (states (state_tag words)) views held
     → InStep (states (state_tag words)) i (views i).transfer (words (name_of (action_of sizes (views i).transfer)))
-    → ((second : Bool) → (views i).transfer.next ≡ Try second ExchangeState → words State ≡ (views i).transfer.loaded.state
-    → InstallsNext sizes (states (state_tag words)) views (views i).transfer)
+    → ExchangeInstalls sizes words (states (state_tag words)) views (views i).transfer
     → Acted sizes (action_of sizes (views i).transfer) words new
     → SameParts x (view_met sizes (views i) (words (name_of (action_of sizes (views i).transfer))))
     → MovedProcess i x views after
@@ -107,7 +114,8 @@ QuietStepsKeepChains =
 abbrev pub LeavingKeepsChains : Type 0
 LeavingKeepsChains =
     (sizes : Sizes) (words new : Words) (s : StackState) (views after : ProcessViews) (held held_after : BlockLists) (i block : ℕ)
-    (x : ProcessView) → i < sizes.processes
+    (x : ProcessView)
+    → i < sizes.processes
     → Chains sizes words s views held
     → FirstLeaves words block (views i).pool x.pool
     → x.transfer ≡ (views i).transfer
@@ -120,7 +128,8 @@ LeavingKeepsChains =
 abbrev pub OpeningASpareKeepsChains : Type 0
 OpeningASpareKeepsChains =
     (sizes : Sizes) (words new : Words) (s : StackState) (views after : ProcessViews) (held held_after : BlockLists) (i block : ℕ)
-    (x : ProcessView) → i < sizes.processes
+    (x : ProcessView)
+    → i < sizes.processes
     → Chains sizes words s views held
     → SpareOpens sizes.length words block (views i).pool x.pool
     → x.transfer ≡ (views i).transfer
@@ -132,7 +141,8 @@ OpeningASpareKeepsChains =
 -- a held block comes before the current list
 abbrev pub ComingKeepsChains : Type 0
 ComingKeepsChains = (sizes : Sizes) (words new : Words) (s : StackState) (views after : ProcessViews) (held held_after : BlockLists)
-    (i block : ℕ) (x : ProcessView) → i < sizes.processes
+    (i block : ℕ) (x : ProcessView)
+    → i < sizes.processes
     → Chains sizes words s views held
     → Contains (held i) block
     → FirstComes sizes.length new block (views i).pool x.pool
@@ -146,7 +156,8 @@ ComingKeepsChains = (sizes : Sizes) (words new : Words) (s : StackState) (views 
 abbrev pub StartingKeepsChains : Type 0
 StartingKeepsChains =
     (sizes : Sizes) (words new : Words) (s : StackState) (views after : ProcessViews) (held held_after : BlockLists) (i block : ℕ)
-    (x : ProcessView) → IsShape sizes → i < sizes.processes
+    (x : ProcessView)
+    → IsShape sizes → i < sizes.processes
     → Chains sizes words s views held
     → Contains (held i) block
     → ListStarts sizes.length new block (views i).pool x.pool
@@ -174,8 +185,8 @@ CurrentListsAreFree = (sizes : Sizes) (words : Words) (s : StackState) (views : 
 
 -- the head of each spare is free, and its next word is the code of a block or 0
 abbrev pub SparesAreFree : Type 0
-SparesAreFree = (sizes : Sizes) (words : Words) (s : StackState) (views : ProcessViews) (held : BlockLists) (i place : ℕ) → IsShape sizes
-    → i < sizes.processes
+SparesAreFree = (sizes : Sizes) (words : Words) (s : StackState) (views : ProcessViews) (held : BlockLists) (i place : ℕ)
+    → IsShape sizes → i < sizes.processes
     → Chains sizes words s views held
     → place < length (views i).pool.heads
     → IsFree sizes held (slice_index (views i).pool.heads place)
@@ -199,21 +210,21 @@ BlocksAreOnce = (sizes : Sizes) (words : Words) (s : StackState) (views : Proces
 
 -- the stack has no more batches than there are
 abbrev pub StackHasRoom : Type 0
-StackHasRoom = (sizes : Sizes) (words : Words) (s : StackState) (views : ProcessViews) (held : BlockLists) → IsShape sizes
-    → Chains sizes words s views held → s.height ≤ sizes.batches
+StackHasRoom = (sizes : Sizes) (words : Words) (s : StackState) (views : ProcessViews) (held : BlockLists)
+    → IsShape sizes → Chains sizes words s views held → s.height ≤ sizes.batches
 
 -- all heads are blocks: of the content, of the spares, in transit
 abbrev pub HeadsAreBlocks : Type 0
-HeadsAreBlocks = (sizes : Sizes) (words : Words) (s : StackState) (views : ProcessViews) (held : BlockLists) → IsShape sizes
-    → Chains sizes words s views held
+HeadsAreBlocks = (sizes : Sizes) (words : Words) (s : StackState) (views : ProcessViews) (held : BlockLists)
+    → IsShape sizes → Chains sizes words s views held
     → ((place : ℕ) → place < s.height → s.content place < blocks sizes)
     × ((i place : ℕ) → i < sizes.processes → place < length (views i).pool.heads → slice_index (views i).pool.heads place < blocks sizes)
     × ((i : ℕ) → i < sizes.processes → All (λ head. head < blocks sizes) (moving s i (views i).transfer))
 
 -- no head is at two places
 abbrev pub HeadsAreApart : Type 0
-HeadsAreApart = (sizes : Sizes) (words : Words) (s : StackState) (views : ProcessViews) (held : BlockLists) (head : ℕ) → IsShape sizes
-    → Chains sizes words s views held → times_pooled sizes s views head ≤ 1
+HeadsAreApart = (sizes : Sizes) (words : Words) (s : StackState) (views : ProcessViews) (held : BlockLists) (head : ℕ)
+    → IsShape sizes → Chains sizes words s views held → times_pooled sizes s views head ≤ 1
 
 -- the head of a give is a block
 abbrev pub WishIsBlock : Sizes → Wish → Type 0
@@ -222,8 +233,8 @@ WishIsBlock sizes (Give head) = head < blocks sizes
 
 -- a give that is begun, or announced and not applied, is of a block
 abbrev pub GivesAreBlocks : Type 0
-GivesAreBlocks = (sizes : Sizes) (words : Words) (s : StackState) (views : ProcessViews) (held : BlockLists) (i : ℕ) → IsShape sizes
-    → Chains sizes words s views held → i < sizes.processes
+GivesAreBlocks = (sizes : Sizes) (words : Words) (s : StackState) (views : ProcessViews) (held : BlockLists) (i : ℕ)
+    → IsShape sizes → Chains sizes words s views held → i < sizes.processes
     → ((views i).transfer.next ≡ Announce → WishIsBlock sizes (views i).transfer.wish)
     × (has_announced (views i).transfer.next ≡ true → s.applied i ≢ (views i).transfer.age → WishIsBlock sizes (views i).transfer.wish)
 
@@ -267,7 +278,8 @@ BlocksAreCounted = (sizes : Sizes) (words : Words) (s : StackState) (views : Pro
 
 -- where the content is empty and each process keeps at most five batches, all blocks but the slack are held
 abbrev pub FewAreFree : Type 0
-FewAreFree = (sizes : Sizes) (words : Words) (s : StackState) (views : ProcessViews) (held : BlockLists) → Chains sizes words s views held
+FewAreFree = (sizes : Sizes) (words : Words) (s : StackState) (views : ProcessViews) (held : BlockLists)
+    → Chains sizes words s views held
     → s.height ≡ 0
     → ((i : ℕ) → i < sizes.processes → kept_blocks sizes s i (views i) ≤ 5 * sizes.length)
     → blocks sizes ≤ total sizes.processes (λ i. length (held i)) + slack (limits_of sizes)

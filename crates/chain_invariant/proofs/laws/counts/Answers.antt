@@ -1,6 +1,6 @@
-use Rattle.chain_invariant.proofs.Counts.{blocks_counted, few_free}
 use Rattle.std.proofs.Common.{refl}
 use Rattle.transfer_schedule.specs.Numbers.{is_idle}
+use Rattle.chain_invariant.proofs.Counts.{blocks_counted, few_free}
 use Rattle.chain_invariant.proofs.Empty.{found_few}
 use Rattle.chain_invariant.proofs.Kept.{kept_is_withheld}
 use Rattle.chain_invariant.proofs.laws.counts.Goals as goal
