@@ -3,6 +3,8 @@ ghost use Rattle.std.specs.Prelude.{◌≡◌, ◌-◌, ◌^◌, ◌<◌, IfOk};
 use super::*;
 use pool_model::NoMemory;
 use std::alloc::{AllocError, Global};
+use std::env::FillError;
+use std::rt::Env;
 use std::test::Fail;
 use std::{fs, mem};
 
@@ -125,6 +127,53 @@ fn the_systems_streams_take_a_text(rt: HostRuntime) -> Result<(), Fail> {
     write_whole(&mut out, b"out\n")?;
     write_whole(&mut err, b"err\n")?;
     assert_eq!(rt; (out.write(b""), err.write(b"")), (Ok(0), Ok(0)));
+    Ok(())
+}
+
+// A system that gives the words that stand between bytes 10.
+#[derive(Drop)]
+struct Given(&'static [u8]);
+
+impl Env for Given {
+    fn arg(&self, index: usize, buffer: &mut [u8]) -> Result<usize, FillError> {
+        let mut words = self.0.split(|byte| *byte == b'\n');
+        let word = words.nth(index).ok_or(FillError::NotPresent)?;
+        if word.len() > buffer.len() {
+            return Err(FillError::TooLong);
+        }
+        buffer[..word.len()].copy_from_slice(word);
+        Ok(word.len())
+    }
+
+    fn var(&self, _name: &str, _buffer: &mut [u8]) -> Result<usize, FillError> {
+        Err(FillError::NotPresent)
+    }
+
+    fn var_at(&self, _index: usize, _buffer: &mut [u8]) -> Result<usize, FillError> {
+        Err(FillError::NotPresent)
+    }
+}
+
+#[test]
+fn a_word_that_is_no_text_leaves_no_words(rt: HostRuntime) -> Result<(), Fail> {
+    let alloc = rt.alloc();
+    for (given, expected) in [
+        (
+            b"pooltrace\nplay\n f".as_slice(),
+            ["pooltrace", "play", " f"].as_slice(),
+        ),
+        (
+            b"pooltrace\n\xc3\xa9".as_slice(),
+            ["pooltrace", "\u{e9}"].as_slice(),
+        ),
+        (b"pooltrace\n\xff\nf".as_slice(), [].as_slice()),
+    ] {
+        let found = words(&(Given(given), alloc))?;
+        assert_eq!(rt; found.len(), expected.len());
+        for (word, text) in found.iter().zip(expected) {
+            assert_eq!(rt; word.as_str(), *text);
+        }
+    }
     Ok(())
 }
 
