@@ -7,7 +7,8 @@ use crate::steps::{Script, Step, StepList};
 use crate::trace::{Operation, Trace};
 use pool_model::NoMemory;
 use std::alloc::Global;
-use std::collections::HashMap;
+use std::collections::BTreeMap;
+use std::collections::btree_map::Entry;
 
 /// What a live address names.
 #[derive(Clone, Copy, Debug, PartialEq, Eq)]
@@ -21,7 +22,7 @@ enum Live {
 /// A script that is being written, and what each live address names.
 #[derive(Drop)]
 struct ScriptWriter {
-    live: HashMap<u64, Live>,
+    live: BTreeMap<u64, Live>,
     script: Script,
 }
 
@@ -31,7 +32,7 @@ impl ScriptWriter {
         ensures counted { count_of result.script ≡ 0 }
     {
         ScriptWriter {
-            live: HashMap::new(alloc),
+            live: BTreeMap::new(alloc),
             script: Script {
                 steps: StepList::new(Vec::new(alloc)),
                 news: 0,
@@ -69,16 +70,21 @@ impl ScriptWriter {
     {
         if address == 0 {
             self.script.failed += 1;
-        } else if self.live.contains_key(&address) {
-            self.script.twice += 1;
-        } else if size < bytes {
-            self.live.insert(address, Live::Big)?;
-            self.script.big += 1;
-        } else {
-            let slot = self.script.news;
-            self.live.insert(address, Live::Slot(slot))?;
-            self.script.steps.push(Step::Place { slot })?;
-            self.script.news += 1;
+            return Ok(());
+        }
+        match self.live.entry(address)? {
+            Entry::Occupied(_) => self.script.twice += 1,
+            Entry::Vacant(entry) => {
+                if size < bytes {
+                    entry.insert(Live::Big);
+                    self.script.big += 1;
+                } else {
+                    let slot = self.script.news;
+                    self.script.steps.push(Step::Place { slot })?;
+                    entry.insert(Live::Slot(slot));
+                    self.script.news += 1;
+                }
+            }
         }
         Ok(())
     }
