@@ -1,10 +1,10 @@
-// The bytes of a source, read to its end or to one byte past a limit.
+// The trace of a source, read to its end or to one byte past a limit.
 ghost use Rattle.std.specs.Prelude.{◌≡◌, ◌≢◌, ◌+◌, ◌<◌, ◌≤◌, ◌^◌, ℕ, List, Option, length, min, vec_len, IfOk, IfErr, IfSome, OnOk, Err};
 ghost use Rattle.pool_io.specs.Counts.{HasRisen};
 ghost use Rattle.pool_io.specs.Told.{HandsOut, IsAtEnd};
 ghost use Rattle.mtrace_reader.specs.Reading.{AnswersFor};
 
-use crate::reading::read_lines;
+use crate::reading::LineReader;
 use crate::{Trace, TraceFault};
 use pool_io::Files;
 use std::alloc::Global;
@@ -23,87 +23,34 @@ fn new_buffer(alloc: Global) -> Result<Vec<u8>, TraceFault>
     Ok(vec![in alloc; 0u8; BUFFER_BYTES]?)
 }
 
-/// Reads the next bytes of a source to the end of `bytes`, and answers how many came: 0 at the end alone.
-fn read_piece<F: Files>(
-    files: &mut F,
-    source: &mut F::Source,
-    bytes: &mut Vec<u8>,
-    buffer: &mut [u8],
-) -> Result<usize, TraceFault>
-    requires { 0 < length buffer.old }
-
-    ensures fits { IfOk result (λ count. count ≤ length buffer.old) }
-    ensures grown { IfOk result (λ count. vec_len bytes.new ≡ vec_len bytes.old + count) }
-    ensures next { OnOk result ((start : Option (List ℕ)) →
-        HandsOut start (F.left files.old source.old) bytes.old.items →
-        HandsOut start (F.left files.new source.new) bytes.new.items) }
-    ensures end { IfOk result (λ count. count ≡ 0 → IsAtEnd (F.left files.new source.new)) }
-
-    ensures names { F.told files.new ≡ F.told files.old }
-    ensures opens { F.opens files.new ≡ F.opens files.old }
-    ensures never_falls { F.faults files.old ≤ F.faults files.new }
-    ensures failed { result ≡ Err TraceFault.ReadFault → HasRisen (F.faults files.old) (F.faults files.new) }
-    ensures no_fault { result ≢ Err TraceFault.ReadFault → F.faults files.new ≡ F.faults files.old }
-    ensures not_long { result ≢ Err TraceFault.TooLong }
-    ensures not_bad { (line : ℕ) → result ≢ Err (TraceFault.BadLine line) }
-    ensures reliable { F.reliable files.old → F.reliable files.new }
-    ensures sure { F.reliable files.old → result ≢ Err TraceFault.ReadFault }
+/// How many bytes the next read asks for, where so many were taken.
+fn next_count(taken: u64, limit: u64) -> usize
+    requires { taken ≤ limit }
+    ensures some { 0 < result }
+    ensures fits { result ≤ BUFFER_BYTES }
+    ensures within { taken + result ≤ limit + 1 }
 {
-    let Ok(count) = files.read(source, buffer) else {
-        return Err(TraceFault::ReadFault);
-    };
-    bytes.extend_from_slice(&buffer[..count])?;
-    Ok(count)
-}
-
-/// The bytes that a source has left, where they are no more than the limit. Reads nothing past the byte after
-/// the limit, and nothing more once the source is at its end or failed.
-fn read_up_to<F: Files>(
-    alloc: Global,
-    files: &mut F,
-    mut source: F::Source,
-    limit: usize,
-) -> Result<Vec<u8>, TraceFault>
-    requires { limit ≤ 2 ^ 24 }
-
-    ensures whole { IfOk result (λ bytes. IfSome (F.left files.old source) (λ left. left ≡ bytes.items)) }
-    ensures short { IfOk result (λ bytes. vec_len bytes ≤ limit) }
-    ensures long { result ≡ Err TraceFault.TooLong → IfSome (F.left files.old source) (λ left. limit < length left) }
-    ensures not_bad { (line : ℕ) → result ≢ Err (TraceFault.BadLine line) }
-
-    ensures names { F.told files.new ≡ F.told files.old }
-    ensures opens { F.opens files.new ≡ F.opens files.old }
-    ensures never_falls { F.faults files.old ≤ F.faults files.new }
-    ensures failed { result ≡ Err TraceFault.ReadFault → HasRisen (F.faults files.old) (F.faults files.new) }
-    ensures no_fault { result ≢ Err TraceFault.ReadFault → F.faults files.new ≡ F.faults files.old }
-    ensures reliable { F.reliable files.old → F.reliable files.new }
-    ensures sure { F.reliable files.old → result ≢ Err TraceFault.ReadFault }
-{
-    let mut buffer = new_buffer(alloc)?;
-    let mut bytes = Vec::new(alloc);
-    while bytes.len() <= limit {
-        let most = BUFFER_BYTES.min(limit + 1 - bytes.len());
-        let count = read_piece(files, &mut source, &mut bytes, &mut buffer[..most])?;
-        if count == 0 {
-            return Ok(bytes);
-        }
+    let others = limit - taken;
+    if others < BUFFER_BYTES as u64 {
+        others as usize + 1
+    } else {
+        BUFFER_BYTES
     }
-    Err(TraceFault::TooLong)
 }
 
 /// Reads the trace that a source has left, of at most 2^24 bytes and at most `room` bytes.
 ///
-/// `ReadFault` comes where a read of the source failed, `TooLong` where more bytes than the limit were taken,
+/// `ReadFault` comes where a read of the source failed, `TooLong` where one byte more than the limit was taken,
 /// `BadLine` where the source was read to its end and a line is of no form, `NoMemory` where memory ran out.
-/// Opens nothing, and reads nothing past the byte after the limit.
+/// Opens nothing, and reads nothing past the byte after the limit, nor after a read that gave nothing or failed.
 pub fn read_trace<F: Files>(
     alloc: Global,
     files: &mut F,
-    source: F::Source,
+    mut source: F::Source,
     room: u64,
 ) -> Result<Trace, TraceFault>
-    ensures answer { IfSome (F.left files.old source) (λ left. AnswersFor (min room MOST_BYTES) left result) }
-    ensures limit { IfOk result (λ trace. trace.bytes ≤ min room MOST_BYTES) }
+    ensures answer { IfSome (F.left files.old source) (λ left. AnswersFor (min room (2 ^ 24)) left result) }
+    ensures limit { IfOk result (λ trace. trace.bytes ≤ min room (2 ^ 24)) }
     ensures few { IfOk result (λ trace. length trace.operations ≤ trace.bytes) }
 
     ensures names { F.told files.new ≡ F.told files.old }
@@ -114,9 +61,20 @@ pub fn read_trace<F: Files>(
     ensures reliable { F.reliable files.old → F.reliable files.new }
     ensures sure { F.reliable files.old → result ≢ Err TraceFault.ReadFault }
 {
-    let limit = room.min(MOST_BYTES) as usize;
-    let bytes = read_up_to(alloc, files, source, limit)?;
-    read_lines(alloc, &bytes)
+    let limit = room.min(MOST_BYTES);
+    let mut buffer = new_buffer(alloc)?;
+    let mut reader = LineReader::new(alloc);
+    let mut taken = 0;
+    while taken <= limit {
+        let most = next_count(taken, limit);
+        let count = files.read(&mut source, &mut buffer[..most])?;
+        if count == 0 {
+            return reader.finish(taken);
+        }
+        reader.read(&buffer[..count])?;
+        taken += count as u64;
+    }
+    Err(TraceFault::TooLong)
 }
 
 #[cfg(test)]

@@ -1,6 +1,7 @@
 // What a trace file says, and why one isn't read.
 ghost use Rattle.std.specs.Prelude.{◌≡◌};
 
+use pool_io::Failed;
 use std::alloc::{AllocError, AllocFailed};
 use std::error::Error;
 use std::fmt;
@@ -106,6 +107,16 @@ impl fmt::Display for TraceFault {
 }
 
 impl Error for TraceFault {}
+
+impl From<Failed> for TraceFault {
+    ghost use Rattle.mtrace_reader.specs.declared.trace.TraceFault.TheVariants.{ReadFault};
+
+    ghost from_gives = { λ _ fault. fault ≡ ReadFault };
+
+    fn from(_failed: Failed) -> TraceFault {
+        TraceFault::ReadFault
+    }
+}
 
 impl From<AllocError> for TraceFault {
     ghost use Rattle.mtrace_reader.specs.declared.trace.TraceFault.TheVariants.{NoMemory};
