@@ -4,4 +4,5 @@ pub mod Cuts
 pub mod Digits
 pub mod Lines
 pub mod Readers
+pub mod Taking
 pub mod Meanings

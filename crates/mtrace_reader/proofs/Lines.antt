@@ -33,9 +33,10 @@ no_end bytes none =
 
 pub no_end_before : (bytes : List ℕ) (end : ℕ) → position is_end bytes ≡ Some end → HasNoEnd (take end bytes)
 no_end_before bytes end found =
+    let at = position-Some is_end bytes end 0 found in
     All-from_get_or (λ byte. is_end byte ≡ false) (take end bytes) 0 (λ k below.
-    let before : k < end = omega (arith, length-take-le end bytes) in
-    rw get_or-take ((position-Some is_end bytes end 0 found).2 k before))
+    let before : k < end = omega (arith, length-take-le end bytes (omega (arith, at.0))) in
+    rw (get_or-take end bytes k 0 before) (at.2 k before))
 
 pub parts_at_end : (bytes : List ℕ) (end : ℕ) → position is_end bytes ≡ Some end → bytes ≡ take end bytes ++ 10 ∷ drop (end + 1) bytes
 parts_at_end bytes end found =

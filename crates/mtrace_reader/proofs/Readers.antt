@@ -17,14 +17,14 @@ number_is parts = omega (arith, length-map parts meaning_of)
 module _ (bytes more : List ℕ) (before after : LineReader) (open_end : HasNoEnd more) (read : HasRead bytes before) where
   -- bytes in which no line ends
   pub has_read_more : after.operations.items ≡ before.operations.items → after.bad_line ≡ before.bad_line → after.number ≡ before.number
-      → after.unfinished.items ≡ before.unfinished.items ++ more → HasRead (bytes ++ more) after
-  has_read_more same_operations same_bad same_number grown =
-      let same = lines_with_more bytes more open_end in
+      → after.unfinished.items ≡ before.unfinished.items ++ more → (all : List ℕ) → bytes ++ more ≡ all → HasRead all after
+  has_read_more same_operations same_bad same_number grown all whole =
+      let same : lines all ≡ lines bytes = ap lines (sym whole) ∙ lines_with_more bytes more open_end in
       record {
         operations = same_operations ∙ read.operations ∙ ap (λ parts. said (map meaning_of parts)) (sym same);
         bad_line = same_bad ∙ read.bad_line ∙ ap (λ parts. first_bad 1 (map meaning_of parts)) (sym same);
         number = same_number ∙ read.number ∙ ap (λ parts. length parts + 1) (sym same);
-        unfinished = grown ∙ ap (λ start. start ++ more) read.unfinished ∙ sym (last_piece_with_more bytes more open_end);
+        unfinished = grown ∙ ap (λ start. start ++ more) read.unfinished ∙ sym (last_piece_with_more bytes more open_end) ∙ ap last_piece whole;
       }
 
   -- the others of a line's bytes and its end

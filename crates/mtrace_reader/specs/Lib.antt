@@ -6,3 +6,4 @@ pub mod LineReader
 pub mod Reading
 pub mod Value
 pub mod Words
+pub mod Taken

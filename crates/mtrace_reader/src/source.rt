@@ -1,12 +1,13 @@
 // The trace of a source, read to its end or to one byte past a limit.
-ghost use Rattle.std.specs.Prelude.{◌≡◌, ◌≢◌, ◌+◌, ◌<◌, ◌≤◌, ◌^◌, ℕ, List, Option, length, min, vec_len, IfOk, IfErr, IfSome, OnOk, Err};
+ghost use Rattle.std.specs.Prelude.{◌≡◌, ◌≢◌, ◌+◌, ◌<◌, ◌≤◌, ◌^◌, [], ◌∷◌, ◌++◌, Some, None, length, min, vec_len, IfOk, IfErr, IfSome, IsOk, OnOk, OnErr, Err};
 ghost use Rattle.pool_io.specs.Counts.{HasRisen};
 ghost use Rattle.pool_io.specs.Told.{HandsOut, IsAtEnd};
 ghost use Rattle.mtrace_reader.specs.Reading.{AnswersFor};
+ghost use Rattle.mtrace_reader.specs.Taken.{ReadsFor};
 
 use crate::reading::LineReader;
 use crate::{Trace, TraceFault};
-use pool_io::Files;
+use pool_io::{Failed, Files};
 use std::alloc::Global;
 
 /// The most bytes that a trace may have.
@@ -38,6 +39,33 @@ fn next_count(taken: u64, limit: u64) -> usize
     }
 }
 
+/// Reads the next bytes of a source into a buffer, and answers them: none at the end alone.
+fn read_piece<'a, F: Files>(
+    files: &mut F,
+    source: &mut F::Source,
+    buffer: &'a mut [u8],
+) -> Result<&'a [u8], Failed>
+    requires { 0 < length buffer.old }
+
+    ensures fits { IfOk result (λ piece. length piece.now ≤ length buffer.old) }
+    ensures next { IfOk result (λ piece.
+        HandsOut (F.left files.old source.old) (F.left files.new source.new) piece.now) }
+    ensures end { IfOk result (λ piece. length piece.now ≡ 0 → IsAtEnd (F.left files.old source.old)) }
+    ensures reads { IfOk result (λ piece. F.reads files.new ≡ F.reads files.old ++ Some (length piece.now) ∷ []) }
+    ensures no_read { OnErr result (F.reads files.new ≡ F.reads files.old ++ None ∷ []) }
+
+    ensures names { F.told files.new ≡ F.told files.old }
+    ensures opens { F.opens files.new ≡ F.opens files.old }
+    ensures never_falls { F.faults files.old ≤ F.faults files.new }
+    ensures failed { OnErr result (HasRisen (F.faults files.old) (F.faults files.new)) }
+    ensures no_fault { OnOk result (F.faults files.new ≡ F.faults files.old) }
+    ensures reliable { F.reliable files.old → F.reliable files.new }
+    ensures sure { F.reliable files.old → IsOk result }
+{
+    let count = files.read(source, buffer)?;
+    Ok(&buffer[..count])
+}
+
 /// Reads the trace that a source has left, of at most 2^24 bytes and at most `room` bytes.
 ///
 /// `ReadFault` comes where a read of the source failed, `TooLong` where one byte more than the limit was taken,
@@ -52,6 +80,7 @@ pub fn read_trace<F: Files>(
     ensures answer { IfSome (F.left files.old source) (λ left. AnswersFor (min room (2 ^ 24)) left result) }
     ensures limit { IfOk result (λ trace. trace.bytes ≤ min room (2 ^ 24)) }
     ensures few { IfOk result (λ trace. length trace.operations ≤ trace.bytes) }
+    ensures reads { ReadsFor (min room (2 ^ 24)) (F.reads files.old) (F.reads files.new) result }
 
     ensures names { F.told files.new ≡ F.told files.old }
     ensures opens { F.opens files.new ≡ F.opens files.old }
@@ -67,12 +96,12 @@ pub fn read_trace<F: Files>(
     let mut taken = 0;
     while taken <= limit {
         let most = next_count(taken, limit);
-        let count = files.read(&mut source, &mut buffer[..most])?;
-        if count == 0 {
+        let piece = read_piece(files, &mut source, &mut buffer[..most])?;
+        if piece.is_empty() {
             return reader.finish(taken);
         }
-        reader.read(&buffer[..count])?;
-        taken += count as u64;
+        reader.read(piece)?;
+        taken += piece.len() as u64;
     }
     Err(TraceFault::TooLong)
 }
@@ -98,14 +127,7 @@ mod tests {
     ) -> Result<(), Fail> {
         let alloc = rt.alloc();
         let file = (String::from_str(alloc, "f")?, Vec::from_slice(alloc, text)?);
-        let mut files = MemoryFiles {
-            files: vec![in alloc; file]?,
-            failing: Vec::new(alloc),
-            most: 7,
-            calls: 0,
-            opens: 0,
-            faults: 0,
-        };
+        let mut files = MemoryFiles::new(vec![in alloc; file]?, Vec::new(alloc), 7);
         let source = files.open("f")?;
         let trace = read_trace(alloc, &mut files, source, room);
         let read = match &trace {
