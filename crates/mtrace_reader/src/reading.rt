@@ -60,8 +60,7 @@ pub(crate) struct LineReader {
 impl LineReader {
     /// A reader that has read nothing. Takes no memory.
     pub(crate) fn new(alloc: Global) -> LineReader
-        ensures read { HasRead [] result }
-        ensures number { result.number ≡ 1 }
+        ensures { HasRead [] result }
     {
         LineReader {
             operations: Vec::new(alloc),

@@ -118,24 +118,43 @@ mod tests {
     /// The operations of a trace and whether it is cut, or its fault.
     type Read<'a> = Result<(&'a [Operation], bool), TraceFault>;
 
-    /// Compares what a file reads as.
+    /// How many bytes a read gives at most.
+    const PIECES: [usize; 3] = [1, 7, 1 << 20];
+
+    /// Compares what a file reads as, whose call number `failing` fails.
+    fn check_piecewise(
+        rt: &(impl Abort + AllocGlobal),
+        text: &[u8],
+        room: u64,
+        failing: u64,
+        expected: Read<'_>,
+    ) -> Result<(), Fail> {
+        let alloc = rt.alloc();
+        for most in PIECES {
+            let file = (String::from_str(alloc, "f")?, Vec::from_slice(alloc, text)?);
+            let failing = vec![in alloc; failing]?;
+            let mut files = MemoryFiles::new(vec![in alloc; file]?, failing, most);
+            let source = files.open("f")?;
+            let trace = read_trace(alloc, &mut files, source, room);
+            let read = match &trace {
+                Ok(trace) => Ok((trace.operations.as_slice(), trace.cut)),
+                Err(fault) => Err(*fault),
+            };
+            let same = read == expected;
+            let shown = &text[..text.len().min(100)];
+            assert!(rt; same, "{shown:?} by pieces of {most}");
+        }
+        Ok(())
+    }
+
+    /// Compares what a file reads as, all of whose calls go well.
     fn check(
         rt: &(impl Abort + AllocGlobal),
         text: &[u8],
         room: u64,
         expected: Read<'_>,
     ) -> Result<(), Fail> {
-        let alloc = rt.alloc();
-        let file = (String::from_str(alloc, "f")?, Vec::from_slice(alloc, text)?);
-        let mut files = MemoryFiles::new(vec![in alloc; file]?, Vec::new(alloc), 7);
-        let source = files.open("f")?;
-        let trace = read_trace(alloc, &mut files, source, room);
-        let read = match &trace {
-            Ok(trace) => Ok((trace.operations.as_slice(), trace.cut)),
-            Err(fault) => Err(*fault),
-        };
-        assert!(rt; read == expected, "{text:?} reads as {read:?}");
-        Ok(())
+        check_piecewise(rt, text, room, u64::MAX, expected)
     }
 
     #[test]
@@ -149,7 +168,7 @@ mod tests {
             address: 32,
             size: 16,
         };
-        let cases: [(&[u8], &[Operation], bool); 10] = [
+        let cases: [(&[u8], &[Operation], bool); 12] = [
             (b"", &[], false),
             (b"\n  \n= Start\n=\n = x + 0x10 0x8\n", &[], false),
             (
@@ -185,6 +204,15 @@ mod tests {
             ),
             (b"= Start\n+ 0x10 0x8\n@ a.out:[0x40", &[block], true),
             (b"+ 0x10 0x8\n- 0x10", &[block, release], false),
+            (b"+ 0x10 0x8\n= En", &[block], false),
+            (
+                b"> (nil) 0x8\n",
+                &[New {
+                    address: 0,
+                    size: 8,
+                }],
+                false,
+            ),
         ];
         for (text, operations, cut) in cases {
             check(&rt, text, MOST_BYTES, Ok((operations, cut)))?;
@@ -194,7 +222,7 @@ mod tests {
 
     #[test]
     fn bad_lines(rt: HostRuntime) -> Result<(), Fail> {
-        let cases: [(&[u8], u64); 10] = [
+        let cases: [(&[u8], u64); 12] = [
             (b"a + 0x10 0x8\n", 1),
             (b"+ 0X10 0x8\n", 1),
             (b"+ 0x10 8\n", 1),
@@ -205,6 +233,8 @@ mod tests {
             (b"\xff\n", 1),
             (b"\n- 0x10\n+\n- 0x10\n", 3),
             (b"- 0\n", 1),
+            (b"+\t0x10 0x8\n", 1),
+            (b"+\n\n-\n", 1),
         ];
         for (text, line) in cases {
             check(&rt, text, MOST_BYTES, Err(TraceFault::BadLine(line)))?;
@@ -217,5 +247,32 @@ mod tests {
         check(&rt, b"= End\n", 6, Ok((&[], false)))?;
         check(&rt, b"= End\n", 5, Err(TraceFault::TooLong))?;
         check(&rt, b"+\n+\n+\n", 5, Err(TraceFault::TooLong))
+    }
+    #[test]
+    fn a_failing_read_goes_before_what_the_lines_say(rt: HostRuntime) -> Result<(), Fail> {
+        check_piecewise(&rt, b"+ 0x10 0x8\n", 100, 1, Err(TraceFault::ReadFault))?;
+        check_piecewise(&rt, b"+\n", 100, 2, Err(TraceFault::ReadFault))?;
+        check_piecewise(&rt, b"+\n", 0, 2, Err(TraceFault::TooLong))
+    }
+
+    #[test]
+    fn lines_across_the_ends_of_buffers(rt: HostRuntime) -> Result<(), Fail> {
+        let alloc = rt.alloc();
+        let mut text = Vec::new(alloc);
+        let mut operations = Vec::new(alloc);
+        for _ in 0..20_000 {
+            text.extend_from_slice(b"+ 0x10 0x8\n- 0x10\n")?;
+            operations.push(New {
+                address: 16,
+                size: 8,
+            })?;
+            operations.push(Release { address: 16 })?;
+        }
+        check(&rt, &text, MOST_BYTES, Ok((&operations, false)))?;
+        let mut long = Vec::from_slice(alloc, b"@")?;
+        long.resize(200_000, b'x')?;
+        long.extend_from_slice(b" - 0x10\n- 0x10")?;
+        let twice = [Release { address: 16 }, Release { address: 16 }];
+        check(&rt, &long, MOST_BYTES, Ok((&twice, false)))
     }
 }

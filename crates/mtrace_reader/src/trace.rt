@@ -137,3 +137,25 @@ impl<T: Drop> From<AllocFailed<T>> for TraceFault {
         TraceFault::NoMemory
     }
 }
+
+#[cfg(test)]
+mod tests {
+    use super::TraceFault;
+    use std::test::Fail;
+
+    #[test]
+    fn texts_and_numbers_of_faults(rt: HostRuntime) -> Result<(), Fail> {
+        let cases = [
+            (TraceFault::ReadFault, "the source failed", 1),
+            (TraceFault::TooLong, "too long", 2),
+            (TraceFault::BadLine(42), "line 42", 3),
+            (TraceFault::NoMemory, "no memory", 4),
+        ];
+        for (fault, text, number) in cases {
+            let shown = format!(in rt.alloc(); "{fault}")?;
+            let same = shown.as_str() == text && fault.number() == number;
+            assert!(rt; same, "{fault:?} is shown as {shown}");
+        }
+        Ok(())
+    }
+}

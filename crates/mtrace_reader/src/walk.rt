@@ -122,6 +122,8 @@ mod tests {
     use super::script;
     use crate::steps::{Script, Step};
     use crate::trace::{Operation, OperationList, Trace};
+    use std::alloc::Global;
+    use std::hash::{FoldHasher, Hasher};
     use std::test::Fail;
 
     #[derive(Drop)]
@@ -231,6 +233,42 @@ mod tests {
             let same = made.steps.as_slice() == case.steps && numbers_of(&made) == case.numbers;
             assert!(rt; same, "{}: {made:?}", case.name);
         }
+        Ok(())
+    }
+    /// Addresses whose hashes by a hasher of a fixed seed agree in their lowest bits.
+    fn colliding(alloc: Global) -> Result<Vec<u64>, Fail> {
+        let mut addresses = Vec::new(alloc);
+        for address in 1..2_000_000u64 {
+            let mut hasher = FoldHasher::default();
+            hasher.write_u64(address);
+            if hasher.finish() % 1024 == 0 {
+                addresses.push(address)?;
+            }
+        }
+        Ok(addresses)
+    }
+
+    #[test]
+    fn addresses_that_would_collide(rt: HostRuntime) -> Result<(), Fail> {
+        let alloc = rt.alloc();
+        let addresses = colliding(alloc)?;
+        let mut operations = Vec::new(alloc);
+        for address in &addresses {
+            operations.push(new(*address, 8))?;
+        }
+        for address in &addresses {
+            operations.push(release(*address))?;
+        }
+        assert!(rt; operations.len() < 1 << 20);
+        let trace = Trace {
+            operations: OperationList::new(operations),
+            cut: false,
+            bytes: 0,
+        };
+        let made = script(alloc, &trace, 64)?;
+        let count = addresses.len();
+        let same = made.news as usize == count && made.twice == 0 && made.stray == 0;
+        assert!(rt; same && count > 1000, "{count} addresses, {} slots", made.news);
         Ok(())
     }
 }
