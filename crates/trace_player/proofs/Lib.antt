@@ -10,3 +10,4 @@ pub mod Ordered
 pub mod Determined
 pub mod Whole
 pub mod Turns
+pub mod Reporting
