@@ -5,8 +5,10 @@ pub mod Leading
 pub mod Naming
 pub mod Filling
 pub mod Counting
+pub mod Sparing
 pub mod Steps
 pub mod Ordered
 pub mod Determined
 pub mod Whole
 pub mod Turns
+pub mod Reporting

@@ -1,5 +1,5 @@
 -- A script that is being played over a plain pool.
-use Rattle.std.specs.Prelude.{◌≡◌, ℕ, ◌+◌, ◌-◌, ◌^◌, ◌<◌, ◌≤◌, ◌⊎◌, Bool, true, false, Option, Some, None, is_some, List, [], ◌∷◌, ◌++◌, length, count_by, flat_map, slice_index, slice_index_or, All, Contains}
+use Rattle.std.specs.Prelude.{◌≡◌, ℕ, ◌+◌, ◌-◌, ◌^◌, ◌<◌, ◌≤◌, ◌⊎◌, Bool, true, false, Option, Some, None, is_some, List, [], ◌∷◌, ◌++◌, length, count_by, flat_map, slice_index, slice_index_or, All, Contains, replicate}
 use Rattle.std.specs.List.{range_with_len}
 use Rattle.pool_model.specs.declared.entry.Entry.{Entry}
 use Rattle.pool_model.specs.Limits.{Limits}
@@ -11,7 +11,7 @@ use Rattle.mtrace_reader.specs.declared.steps.Step.TheVariants.{Place, Leave}
 use Rattle.mtrace_reader.specs.declared.steps.Script.{Script}
 use Rattle.mtrace_reader.specs.Script.{placed_slots}
 use Rattle.trace_player.specs.declared.tally.Tally.{Tally}
-use Rattle.trace_player.specs.Tally.{is_refused, fills, empties, holding, peak_of}
+use Rattle.trace_player.specs.Tally.{is_refused, fills, empties, holding, peak_of, no_refusals, tally_of}
 use Rattle.trace_player.specs.Fit.{calls_of, IsTallied}
 
 -- the tally of a script after the steps so far
@@ -39,7 +39,8 @@ slot_of (Place slot) = slot
 slot_of (Leave slot) = slot
 
 -- a slot's block is the one that it was given, and is held by its process
-pub record IsFilled (refused : List Bool) (blocks : List ℕ) (done : List Step) (entries : List Entry) (pool : Plain) (slot block : ℕ) : Type 0 where
+pub record IsFilled (refused : List Bool) (blocks : List ℕ) (done : List Step) (entries : List Entry) (pool : Plain)
+    (slot block : ℕ) : Type 0 where
   pub placed : slot < length refused
   pub given : is_refused refused slot ≡ false
   pub block_of : slice_index blocks slot ≡ block
@@ -62,9 +63,11 @@ pub record NamesSlots (refused : List Bool) (blocks : List ℕ) (done : List Ste
   pub block_each : length blocks ≡ length refused
 
 -- the slots have the blocks that were given to them, until they are left, and no two have the same
-pub record HoldsBlocks (refused : List Bool) (blocks : List ℕ) (done : List Step) (entries : List Entry) (pool : Plain) (slots : List (Option ℕ)) : Type 0 where
+pub record HoldsBlocks (refused : List Bool) (blocks : List ℕ) (done : List Step) (entries : List Entry) (pool : Plain)
+    (slots : List (Option ℕ)) : Type 0 where
   pub filled : (slot block : ℕ) → block_in slots slot ≡ Some block → IsFilled refused blocks done entries pool slot block
-  pub empty : (slot : ℕ) → slot < length refused → block_in slots slot ≡ None → (is_refused refused slot ≡ true) ⊎ Contains done (Leave slot)
+  pub empty : (slot : ℕ) → slot < length refused → block_in slots slot ≡ None
+      → (is_refused refused slot ≡ true) ⊎ Contains done (Leave slot)
   pub apart : (a b block : ℕ) → block_in slots a ≡ Some block → block_in slots b ≡ Some block → a ≡ b
 
 -- the tally is that of the steps so far, and counts the slots that have a block as left
@@ -72,6 +75,13 @@ pub record CountsSteps (script : Script) (refused : List Bool) (done : List Step
   pub counted : count_by (fills refused) done ≡ count_by (empties refused) done + count_by is_some slots
   pub answered : count_by (fills refused) done + count_by (λ value. value) refused ≡ length refused
   pub tallied : tally ≡ tally_after script refused done
+
+-- no more blocks are held than before and by the steps, and nothing was refused where the blocks suffice for those that were held
+-- before and for the most that the steps hold without refusals
+pub record IsSpared (refused : List Bool) (done : List Step) (entries : List Entry) (old : Plain) : Type 0 where
+  pub few : (past : List Entry) → IsLeftBy past old → length (held (past ++ entries)) ≤ length (held past) + holding refused done
+  pub enough : (past : List Entry) → IsLeftBy past old → length (held past) + peak_of [] done ≤ old.blocks
+      → refused ≡ replicate (length refused) false
 
 -- process i has played these steps of the script, from the pool as it was to the pool as it is
 pub record IsPlayed (i : ℕ) (script : Script) (done : List Step) (old new : Plain) (slots : List (Option ℕ)) (tally : Tally) : Type 0 where
@@ -83,6 +93,7 @@ pub record IsPlayed (i : ℕ) (script : Script) (done : List Step) (old new : Pl
   pub leads : Leads i entries old new
   pub holds : HoldsBlocks refused blocks done entries new slots
   pub counts : CountsSteps script refused done slots tally
+  pub spared : IsSpared refused done entries old
 
 -- the step may come after these: a Place is of the next slot, a Leave of one that was placed and not left
 abbrev pub MayCome : List Step → Step → Type 0
@@ -99,8 +110,12 @@ pub record IsNext (i : ℕ) (step : Step) (pool : Plain) (slots : List (Option �
   pub may_come : MayCome done step
   pub played : IsPlayed i script done old pool slots tally
 
--- the calls of process i for its whole script
+-- the calls of process i for its whole script: at most its peak of blocks is held besides those before it, and nothing was refused
+-- where the blocks suffice for these and for its peak without refusals
 pub record IsPlayedWhole (i : ℕ) (script : Script) (old new : Plain) (tally : Tally) : Type 0 where
   pub entries : List Entry
   pub leads : Leads i entries old new
   pub tallied : IsTallied i script entries tally
+  pub few : (past : List Entry) → IsLeftBy past old → length (held (past ++ entries)) ≤ length (held past) + tally.peak
+  pub enough : (past : List Entry) → IsLeftBy past old → length (held past) + peak_of (no_refusals script) script.steps ≤ old.blocks
+      → tally ≡ tally_of script (no_refusals script)

@@ -1,50 +1,47 @@
 -- The report: a line a file, and a line of the sums.
-use Rattle.std.specs.Prelude.{ℕ, ◌+◌, List, [], ◌∷◌, ◌++◌, flat_map, sum_by, codes, decimal}
+use Rattle.std.specs.Prelude.{ℕ, ◌+◌, List, [], ◌∷◌, ◌++◌, map, zip, flat_map, sum_by, codes, decimal}
 use Rattle.trace_player.specs.declared.tally.Tally.{Tally}
 
--- the columns of a line: a name and a number each
-abbrev pub columns : Tally → List (List ℕ × ℕ)
-columns tally =
-    (codes "news", tally.news)
-    ∷ (codes "frees", tally.frees)
-    ∷ (codes "big", tally.big)
-    ∷ (codes "failed", tally.failed)
-    ∷ (codes "stray", tally.stray)
-    ∷ (codes "twice", tally.twice)
-    ∷ (codes "refused", tally.refused)
-    ∷ (codes "peak", tally.peak)
-    ∷ (codes "left", tally.left)
-    ∷ (codes "cut", tally.cut)
+-- the columns of the report, in its order: a name, and the number of a tally that stands behind it
+abbrev pub columns : List (List ℕ × (Tally → ℕ))
+columns =
+    (codes "news", λ tally. tally.news)
+    ∷ (codes "frees", λ tally. tally.frees)
+    ∷ (codes "big", λ tally. tally.big)
+    ∷ (codes "failed", λ tally. tally.failed)
+    ∷ (codes "stray", λ tally. tally.stray)
+    ∷ (codes "twice", λ tally. tally.twice)
+    ∷ (codes "refused", λ tally. tally.refused)
+    ∷ (codes "peak", λ tally. tally.peak)
+    ∷ (codes "left", λ tally. tally.left)
+    ∷ (codes "cut", λ tally. tally.cut)
     ∷ []
+
+-- the columns of one tally: a name and a number each
+abbrev pub columns_of : Tally → List (List ℕ × ℕ)
+columns_of tally = map (λ column. (column.0, column.1 tally)) columns
+
+-- the columns of the sums over the tallies, the peaks too
+abbrev pub sums_of : List Tally → List (List ℕ × ℕ)
+sums_of tallies = map (λ column. (column.0, sum_by column.1 tallies)) columns
+
+-- the numbers of the second columns added to those of the first, place by place
+abbrev pub plus : List (List ℕ × ℕ) → List (List ℕ × ℕ) → List (List ℕ × ℕ)
+plus some more = map (λ both. (both.0.0, both.0.1 + both.1.1)) (zip some more)
 
 -- a column's text
 abbrev pub column_text : List ℕ × ℕ → List ℕ
 column_text column = flat_map (λ text. text) (codes " " ∷ column.0 ∷ codes " " ∷ decimal column.1 ∷ [])
 
--- a line: what it is about, and the columns
-abbrev pub line_text : List ℕ → Tally → List ℕ
-line_text label tally = label ++ codes ":" ++ flat_map column_text (columns tally) ++ codes "\n"
+-- a line: what it is about, and its columns
+abbrev pub line_text : List ℕ → List (List ℕ × ℕ) → List ℕ
+line_text label line = label ++ codes ":" ++ flat_map column_text line ++ codes "\n"
 
 -- the lines of files that are numbered from here on
 abbrev pub lines_from : ℕ → List Tally → List ℕ
 lines_from number [] = []
-lines_from number (tally ∷ others) = line_text (decimal number) tally ++ lines_from (number + 1) others
-
--- each number is the sum over the files, the peaks too
-abbrev pub totals : List Tally → Tally
-totals tallies = record {
-  news = sum_by (λ tally. tally.news) tallies;
-  frees = sum_by (λ tally. tally.frees) tallies;
-  big = sum_by (λ tally. tally.big) tallies;
-  failed = sum_by (λ tally. tally.failed) tallies;
-  stray = sum_by (λ tally. tally.stray) tallies;
-  twice = sum_by (λ tally. tally.twice) tallies;
-  refused = sum_by (λ tally. tally.refused) tallies;
-  peak = sum_by (λ tally. tally.peak) tallies;
-  left = sum_by (λ tally. tally.left) tallies;
-  cut = sum_by (λ tally. tally.cut) tallies;
-}
+lines_from number (tally ∷ others) = line_text (decimal number) (columns_of tally) ++ lines_from (number + 1) others
 
 -- the report of some tallies
 abbrev pub report : List Tally → List ℕ
-report tallies = lines_from 1 tallies ++ line_text (codes "all") (totals tallies)
+report tallies = lines_from 1 tallies ++ line_text (codes "all") (sums_of tallies)

@@ -1,10 +1,10 @@
 // What playing a file counts.
-ghost use Rattle.std.specs.Prelude.{◌≡◌, ◌+◌, ◌-◌, ◌^◌, ◌<◌, ◌≤◌, [], max};
+ghost use Rattle.std.specs.Prelude.{◌≡◌, ◌+◌, ◌-◌, ◌^◌, ◌<◌, ◌≤◌, [], max, map};
 
 use mtrace_reader::Script;
 
 /// What one file did: what its player counted, and what its script says besides.
-#[derive(Clone, Copy, Debug, PartialEq, Eq, Hash)]
+#[derive(Clone, Copy, Debug, Default, PartialEq, Eq, Hash)]
 pub struct Tally {
     /// How many slots were placed.
     pub news: u64,
@@ -30,6 +30,26 @@ pub struct Tally {
 
 impl Tally {
     ghost use Rattle.trace_player.specs.Playing.{tally_after};
+    ghost use Rattle.trace_player.specs.Report.{columns_of};
+
+    /// The columns of the report's line of this file, in their order: a name and a number each. Those of the
+    /// default are the sums over no file.
+    pub fn columns(&self) -> [(&'static str, u64); 10]
+        ensures { map (λ column. (column.0.now, column.1)) result ≡ columns_of self.now }
+    {
+        [
+            ("news", self.news),
+            ("frees", self.frees),
+            ("big", self.big),
+            ("failed", self.failed),
+            ("stray", self.stray),
+            ("twice", self.twice),
+            ("refused", self.refused),
+            ("peak", self.peak),
+            ("left", self.left),
+            ("cut", self.cut),
+        ]
+    }
 
     /// The tally of a script of which nothing was played yet.
     pub(crate) fn begin(script: &Script) -> Tally
