@@ -23,14 +23,14 @@ use Rattle.transfer_machine.specs.declared.stage.NextStep.{NextStep}
 use Rattle.transfer_machine.specs.declared.stage.NextStep.TheVariants.{Rest, Announce, Try, LoadFinalState, LoadReply}
 use Rattle.pool_machine.specs.declared.view.PoolView.{PoolView}
 use Rattle.pool_machine.specs.declared.view.ProcessView.{ProcessView}
-use Rattle.pool_machine.specs.Beginning.{wish_of, due, begun_if_due, before_call, call_begun}
+use Rattle.pool_machine.specs.Beginning.{wish_for, due, begun_if_due, before_call, call_begun}
 use Rattle.pool_machine.specs.OwnSteps.{allocated, freed, pool_own_met}
 use Rattle.pool_machine.specs.Steps.{call_met, call_met_at}
 use Rattle.pool_machine.specs.Ready.{PlanFits, CanBegin}
 use Rattle.pool_machine.specs.Laws.{plan_after, CanBeginWish}
 
 -- the transfer that is due is the plan's choice
-begun_as_due : (v : ProcessView) (p : Pending) → (begun_if_due (wish_of v.pool p) v).pool.plan ≡ schedule.after_begin p v.pool.plan
+begun_as_due : (v : ProcessView) (p : Pending) → (begun_if_due (wish_for v.pool p) v).pool.plan ≡ schedule.after_begin p v.pool.plan
 begun_as_due v Idle = refl
 begun_as_due v Taking = refl
 begun_as_due v Giving = refl

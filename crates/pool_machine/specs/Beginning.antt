@@ -19,14 +19,14 @@ abbrev pub newest : PoolView → ℕ
 newest pool = slice_index pool.heads (length pool.heads - 1)
 
 -- the wish of a transfer that the plan begins: a give is one of the newest spare
-abbrev pub wish_of : PoolView → Pending → Option Wish
-wish_of pool Idle = None
-wish_of pool Taking = Some Take
-wish_of pool Giving = Some (Give (newest pool))
+abbrev pub wish_for : PoolView → Pending → Option Wish
+wish_for pool Idle = None
+wish_for pool Taking = Some Take
+wish_for pool Giving = Some (Give (newest pool))
 
 -- the transfer that is due as a call begins, by the plan
 abbrev pub due : PoolView → Option Wish
-due pool = wish_of pool (schedule.due pool.plan)
+due pool = wish_for pool (schedule.due pool.plan)
 
 -- a transfer is begun where one is due
 abbrev pub begun_if_due : Option Wish → ProcessView → ProcessView
