@@ -1,3 +1,4 @@
 pub mod Counting
 pub mod InMemory
 pub mod Told
+pub mod Writing

@@ -1,25 +1,16 @@
--- Bytes that were handed out, or that a sink took, in several pieces.
+-- Bytes that a sink took in several pieces.
 use Rattle.std.proofs.Common.{◌≡◌, ℕ, ◌+◌, ◌-◌, List, [], ◌++◌, length, take, drop, refl, sym, ap, ◌∙◌, subst, arith, append_assoc, append-nil, length-drop, Some, None}
 use Rattle.std.proofs.Math.Seq.{take-add}
 use Rattle.std.proofs.lemmas.List.{take_all}
 use Rattle.std.specs.Prelude.{Option, option_map, slice_range}
-use Rattle.pool_io.specs.Told.{HandsOut, GrowsBy}
+use Rattle.pool_io.specs.Told.{GrowsBy}
 
 -- no piece changes nothing
-pub HandsOut-nil : (left : Option (List ℕ)) → HandsOut left left []
-HandsOut-nil None = refl
-HandsOut-nil (Some rest) = refl
-
 pub GrowsBy-nil : (written : Option (List ℕ)) → GrowsBy written written []
 GrowsBy-nil None = refl
 GrowsBy-nil (Some bytes) = ap Some (sym (append-nil bytes))
 
 -- one piece after the other is one piece
-pub HandsOut-append : (before between now : Option (List ℕ)) (first second : List ℕ) → HandsOut before between first → HandsOut between now second → HandsOut before now (first ++ second)
-HandsOut-append before between None first second p q = p ∙ ap (option_map (λ rest. first ++ rest)) q
-HandsOut-append before between (Some rest) first second p q =
-    p ∙ ap (option_map (λ rest. first ++ rest)) q ∙ ap Some (sym (append_assoc first second rest))
-
 pub GrowsBy-append : (before between now : Option (List ℕ)) (first second : List ℕ) → GrowsBy before between first → GrowsBy between now second → GrowsBy before now (first ++ second)
 GrowsBy-append None between now first second p q = q ∙ ap (option_map (λ bytes. bytes ++ second)) p
 GrowsBy-append (Some bytes) between now first second p q =

@@ -1,5 +1,7 @@
 pub mod Counts
+pub mod Links
 pub mod MemoryFiles
 pub mod MemorySink
 pub mod StdSink
 pub mod Told
+pub mod Writes

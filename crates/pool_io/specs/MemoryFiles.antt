@@ -1,5 +1,5 @@
 -- What files in memory tell of their bytes.
-use Rattle.std.specs.Prelude.{ℕ, ◌+◌, Bool, List, drop, bytes_eq, string_bytes, slice_get, find, Option, option_map, String, Vec}
+use Rattle.std.specs.Prelude.{ℕ, ◌+◌, Bool, List, [], ◌∷◌, ◌++◌, drop, bytes_eq, string_bytes, slice_get, find, Option, option_map, String, Vec}
 use Rattle.std.specs.declared.alloc.Global.{Global}
 use Rattle.pool_io.specs.Counts.{one_more}
 use Rattle.pool_io.specs.declared.memory_files.MemoryFiles.{MemoryFiles}
@@ -24,6 +24,10 @@ called files = record files { calls = one_more files.calls }
 -- after one open more
 abbrev pub opened : MemoryFiles → MemoryFiles
 opened files = record files { opens = files.opens + 1 }
+
+-- after one read more, which gave so many bytes, or none
+abbrev pub noted : Option ℕ → MemoryFiles → MemoryFiles
+noted answer files = record files { reads = files.reads ++ answer ∷ [] }
 
 -- after one fault more
 abbrev pub faulted : MemoryFiles → MemoryFiles

@@ -1,5 +1,6 @@
 // Files as a reader sees them: what a name holds, what a source has left, and how often a call failed.
-ghost use Rattle.std.specs.Prelude.{◌≡◌, ◌+◌, ◌-◌, ◌^◌, ◌<◌, ◌≤◌, ℕ, List, [], Option, length, take, IfOk, OnOk, OnErr, IsOk, IsSome};
+ghost use Rattle.std.specs.Prelude.{◌≡◌, ◌+◌, ◌-◌, ◌^◌, ◌<◌, ◌≤◌, ℕ, List, [], ◌∷◌, ◌++◌, Option, length, take, IfOk, OnOk, OnErr, IsOk, IsSome};
+ghost use Rattle.std.specs.Result.{result_ok};
 ghost use Rattle.pool_io.specs.Counts.{HasRisen};
 ghost use Rattle.pool_io.specs.Told.{HandsOut, IsAtEnd};
 
@@ -37,6 +38,9 @@ pub trait Files {
     /// The bytes that a source has left, where they are told.
     ghost left: { Self → Self.Source → Option (List ℕ) };
 
+    /// The answers of all reads so far, in their order: how many bytes each gave, none where it failed.
+    ghost reads: { Self → List (Option ℕ) };
+
     /// From here on no read fails, nor an open of a name whose bytes are told.
     ghost reliable: { Self → Type 0 } = { λ _. ⊥ };
 
@@ -47,6 +51,7 @@ pub trait Files {
         ensures source { IfOk result (λ source. left self.new source ≡ told self.old name.now) }
         ensures names { told self.new ≡ told self.old }
         ensures opens { opens self.new ≡ opens self.old + 1 }
+        ensures reads { reads self.new ≡ reads self.old }
 
         ensures never_falls { faults self.old ≤ faults self.new }
         ensures failed { OnErr result (HasRisen (faults self.old) (faults self.new)) }
@@ -65,6 +70,7 @@ pub trait Files {
             count ≡ 0 → 0 < length buffer.new → IsAtEnd (left self.old source.old)) }
         ensures names { told self.new ≡ told self.old }
         ensures opens { opens self.new ≡ opens self.old }
+        ensures reads { reads self.new ≡ reads self.old ++ result_ok result ∷ [] }
 
         ensures never_falls { faults self.old ≤ faults self.new }
         ensures failed { OnErr result (HasRisen (faults self.old) (faults self.new)) }

@@ -5,11 +5,13 @@
 //! all; [`RealFiles`] and [`StdSink`] reach the system and tell nothing but their counts.
 #![tactic(auto)]
 
+mod answers;
 mod counts;
 mod files;
 mod gate;
 mod memory_files;
 mod memory_sink;
+mod reads;
 mod real;
 mod sink;
 mod write;
@@ -18,6 +20,7 @@ pub use files::{Failed, Files};
 pub use gate::{Gate, OpenGate};
 pub use memory_files::{MemoryFiles, MemorySource};
 pub use memory_sink::MemorySink;
+pub use reads::Reads;
 pub use real::{RealFiles, StdSink};
 pub use sink::Sink;
 pub use write::write_whole;

@@ -4,7 +4,7 @@ ghost use Rattle.pool_io.specs.Counts.{NoneFrom};
 ghost use Rattle.pool_io.specs.Told.{HandsOut};
 
 use crate::counts::{count_call, raise};
-use crate::{Failed, Files};
+use crate::{Failed, Files, Reads};
 
 /// Files in memory, each with its name; of two with the same name the first is opened. Takes no memory.
 ///
@@ -24,6 +24,8 @@ pub struct MemoryFiles {
     pub opens: u64,
     /// How many of them failed. Stays at `u64::MAX`.
     pub faults: u64,
+    /// What all reads answered.
+    pub reads: Reads,
 }
 
 /// An open file in memory: which of the files it is, and up to which byte it was read.
@@ -35,6 +37,23 @@ pub struct MemorySource {
 
 impl MemoryFiles {
     ghost use Rattle.pool_io.specs.MemoryFiles.{is_named, bytes_left, faulted};
+
+    /// Files of which no call was made so far.
+    pub fn new(files: Vec<(String, Vec<u8>)>, failing: Vec<u64>, most: usize) -> MemoryFiles
+        ensures setting { (result.files ≡ files) × (result.failing ≡ failing) × (result.most ≡ most) }
+        ensures counts { (result.calls ≡ 0) × (result.opens ≡ 0) × (result.faults ≡ 0) }
+        ensures reads { result.reads ≡ [] }
+    {
+        MemoryFiles {
+            files,
+            failing,
+            most,
+            calls: 0,
+            opens: 0,
+            faults: 0,
+            reads: Reads::new(),
+        }
+    }
 
     // Which of the files is the first of this name.
     fn place_of(&self, name: &str) -> Option<usize>
@@ -62,7 +81,7 @@ impl MemoryFiles {
 }
 
 impl Files for MemoryFiles {
-    ghost use Rattle.pool_io.specs.MemoryFiles.{bytes_of, bytes_left, called, opened, faulted};
+    ghost use Rattle.pool_io.specs.MemoryFiles.{bytes_of, bytes_left, called, opened, noted, faulted};
 
     type Source = MemorySource;
 
@@ -73,6 +92,8 @@ impl Files for MemoryFiles {
     ghost told = { bytes_of };
 
     ghost left = { bytes_left };
+
+    ghost reads = { λ files. files.reads };
 
     ghost reliable = { λ files. NoneFrom files.failing.items files.calls };
 
@@ -110,20 +131,22 @@ impl Files for MemoryFiles {
         ensures kept { OnErr result ((source.new ≡ source.old) × (buffer.new ≡ buffer.old)) }
         ensures fails { IsErr result ↔ Contains self.old.failing.items self.old.calls }
 
-        ensures ok { OnOk result (self.new ≡ called self.old) }
-        ensures err { OnErr result (self.new ≡ faulted (called self.old)) }
+        ensures ok { IfOk result (λ count. self.new ≡ noted (Some count) (called self.old)) }
+        ensures err { OnErr result (self.new ≡ faulted (noted None (called self.old))) }
 
         ensures never_falls { self.old.faults ≤ self.new.faults }
         ensures reliable { NoneFrom self.old.failing.items self.old.calls →
             NoneFrom self.new.failing.items self.new.calls }
     {
         if count_call(&mut self.calls, &self.failing) {
+            self.reads.note(None);
             return Err(self.fail());
         }
         let rest = self.rest(source);
         let count = rest.len().min(buffer.len()).min(self.most.max(1));
         buffer[..count].copy_from_slice(&rest[..count]);
         source.place += count;
+        self.reads.note(Some(count));
         Ok(count)
     }
 }

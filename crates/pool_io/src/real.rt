@@ -1,8 +1,8 @@
 // The system's files and streams. What they hold or receive is not told.
-ghost use Rattle.std.specs.Prelude.{◌≡◌, ◌≤◌, None};
+ghost use Rattle.std.specs.Prelude.{◌≡◌, [], None};
 
-use crate::counts::raise;
-use crate::{Failed, Files, Sink};
+use crate::answers::{counted, counted_write};
+use crate::{Failed, Files, Reads, Sink};
 use std::io::{Print, Read, Stderr, Stdout};
 use std::{fs, rt};
 
@@ -14,17 +14,20 @@ pub struct RealFiles<'a, R> {
     pub opens: u64,
     /// How many calls failed. Stays at `u64::MAX`.
     pub faults: u64,
+    /// What all reads answered.
+    pub reads: Reads,
 }
 
 impl<'a, R: rt::Files> RealFiles<'a, R> {
     /// The files that a runtime reaches, with no open and no fault so far.
     pub fn new(runtime: &'a R) -> RealFiles<'a, R>
-        ensures { (result.opens ≡ 0) × (result.faults ≡ 0) }
+        ensures { (result.opens ≡ 0) × (result.faults ≡ 0) × (result.reads ≡ []) }
     {
         RealFiles {
             runtime,
             opens: 0,
             faults: 0,
+            reads: Reads::new(),
         }
     }
 }
@@ -40,25 +43,17 @@ impl<R: rt::Files> Files for RealFiles<'_, R> {
 
     ghost left = { λ _ _. None };
 
+    ghost reads = { λ files. files.reads };
+
     fn open(&mut self, name: &str) -> Result<R::File, Failed> {
         self.opens += 1;
-        match fs::open(self.runtime, name) {
-            Ok(file) => Ok(file),
-            Err(_) => {
-                raise(&mut self.faults);
-                Err(Failed)
-            }
-        }
+        counted(&mut self.faults, fs::open(self.runtime, name))
     }
 
     fn read(&mut self, source: &mut R::File, buffer: &mut [u8]) -> Result<usize, Failed> {
-        match source.read(buffer) {
-            Ok(count) => Ok(count),
-            Err(_) => {
-                raise(&mut self.faults);
-                Err(Failed)
-            }
-        }
+        let answer = counted(&mut self.faults, source.read(buffer));
+        self.reads.note(answer.ok());
+        answer
     }
 }
 
@@ -72,7 +67,6 @@ pub enum StdSink {
 }
 
 impl StdSink {
-    ghost use Rattle.pool_io.specs.Counts.{one_more};
     ghost use Rattle.pool_io.specs.StdSink.{faults_of};
 
     /// Standard output, with no fault so far.
@@ -88,17 +82,6 @@ impl StdSink {
     {
         StdSink::Err { stream, faults: 0 }
     }
-
-    fn fail(&mut self) -> Failed
-        ensures raised { faults_of self.new ≡ one_more (faults_of self.old) }
-        ensures never_falls { faults_of self.old ≤ faults_of self.new }
-    {
-        match self {
-            StdSink::Out { faults, .. } => raise(faults),
-            StdSink::Err { faults, .. } => raise(faults),
-        }
-        Failed
-    }
 }
 
 impl Sink for StdSink {
@@ -109,13 +92,15 @@ impl Sink for StdSink {
     ghost written = { λ _. None };
 
     fn write(&mut self, bytes: &[u8]) -> Result<usize, Failed> {
-        let written = match self {
-            StdSink::Out { stream, .. } => stream.write_some(bytes),
-            StdSink::Err { stream, .. } => stream.write_some(bytes),
-        };
-        match written {
-            Ok(count) if count > 0 || bytes.is_empty() => Ok(count),
-            _ => Err(self.fail()),
+        match self {
+            StdSink::Out { stream, faults } => {
+                let answer = stream.write_some(bytes);
+                counted_write(faults, bytes, answer)
+            }
+            StdSink::Err { stream, faults } => {
+                let answer = stream.write_some(bytes);
+                counted_write(faults, bytes, answer)
+            }
         }
     }
 }

@@ -36,14 +36,7 @@ fn memory_files(alloc: Global, failing: u64, most: usize) -> Result<MemoryFiles,
 {
     let mut files = Vec::new(alloc);
     files.push((String::from_str(alloc, "f")?, TEXT.to_vec(alloc)?))?;
-    Ok(MemoryFiles {
-        files,
-        failing: vec![in alloc; failing]?,
-        most,
-        calls: 0,
-        opens: 0,
-        faults: 0,
-    })
+    Ok(MemoryFiles::new(files, vec![in alloc; failing]?, most))
 }
 
 #[test]
