@@ -1,15 +1,19 @@
 -- What one more entry makes of the numbers of a history.
-use Rattle.std.proofs.Common.{◌≡◌, ℕ, ◌<◌, ◌≤◌, ◌==◌, Bool, true, false, cond, refl, ◌∙◌, ap, inl, inr, arith, zero, suc, List, [], ◌∷◌, ◌++◌, length, take, drop, length-append, append-nil, Some, None}
+use Rattle.std.proofs.Common.{◌≡◌, ℕ, ◌+◌, ◌<◌, ◌≤◌, ◌==◌, Bool, true, false, cond, refl, ◌∙◌, ap, inl, inr, arith, zero, suc, List, [], ◌∷◌, ◌++◌, length, take, drop, length-append, append-nil, Some, None}
 use Rattle.std.specs.Prelude.{fold, slice_get}
-use Rattle.std.proofs.lemmas.List.{take-append-le, take_all, take-take}
+use Rattle.std.proofs.lemmas.List.{take-append-le, take_all, take-take, length-take}
 use Rattle.std.proofs.lemmas.List.Elements.{filter-append}
+use Rattle.std.specs.List.{Contains}
 use Rattle.std.proofs.lemmas.Bool.{cases_eq, cases_lt}
 use Rattle.std.proofs.lemmas.Bool.Decides.{nat_tests}
+use Rattle.std.proofs.lemmas.Option.{slice_get_past}
 use Rattle.pool_model.specs.declared.entry.Entry.{Entry}
-use Rattle.pool_model.specs.declared.entry.Entry.TheVariants.{Dry}
+use Rattle.pool_model.specs.declared.entry.Entry.TheVariants.{Got, Back, Dry}
 use Rattle.pool_model.specs.Limits.{Limits}
 use Rattle.pool_model.specs.History.{process_of, own, held_after, held, unheld}
 use Rattle.pool_model.specs.Legal.{MayFollow, HasNet, IsDryWhenFull, EachEntry, IsLegal, IsExact}
+use Rattle.pool_model.proofs.Places.{slice_get-append, slice_get-push, slice_get-take}
+use Rattle.pool_model.proofs.Members.{without_shorter}
 
 pub held_more : (history : List Entry) (entry : Entry) → held (history ++ entry ∷ []) ≡ held_after (held history) entry
 held_more history entry = go history []
@@ -17,6 +21,12 @@ held_more history entry = go history []
     go : (history : List Entry) (blocks : List ℕ) → fold held_after blocks (history ++ entry ∷ []) ≡ held_after (fold held_after blocks history) entry
     go [] blocks = refl
     go (first ∷ rest) blocks = go rest (held_after blocks first)
+
+pub held_got : (history : List Entry) (i block : ℕ) → length (held (history ++ Got i block ∷ [])) ≡ length (held history) + 1
+held_got history i block = ap length (held_more history (Got i block)) ∙ omega arith
+
+pub held_back : (history : List Entry) (i block : ℕ) → Contains (held history) block → length (held (history ++ Back i block ∷ [])) < length (held history)
+held_back history i block holds = rw (held_more history (Back i block)) (without_shorter block (held history) holds)
 
 -- the entry is its process's last
 pub own_more : (history : List Entry) (entry : Entry) (i : ℕ) → process_of entry ≡ i → own (history ++ entry ∷ []) i ≡ own history i ++ entry ∷ []
@@ -37,27 +47,12 @@ own_other history entry i apart = filter-append (λ e. process_of e == i) histor
 -- a fact of each entry, one entry on
 pub each_entry_more : (Fact : List Entry → Entry → Type 0) (history : List Entry) (entry : Entry) → EachEntry Fact history → Fact history entry → EachEntry Fact (history ++ entry ∷ [])
 each_entry_more Fact history entry each last x = elim (cases_lt x (length history)) [
-  | inl lt ↦ rw (slice_get_left history entry x lt) (rw (take-append-le x history (entry ∷ []) (omega arith)) (each x))
+  | inl lt ↦ rw (slice_get-append history (entry ∷ []) x lt) (rw (take-append-le x history (entry ∷ []) (omega arith)) (each x))
   | inr ge ↦ elim (cases_eq x (length history)) [
-    | inl at ↦ rw at (rw (slice_get_push history entry) (rw (take-append-le (length history) history (entry ∷ []) (omega arith)) (rw (take_all (length history) history (omega arith)) last)))
-    | inr past ↦ rw (slice_get_past history entry x (omega (arith, length-append history (entry ∷ [])))) tt
+    | inl at ↦ rw at (rw (slice_get-push history entry) (rw (take-append-le (length history) history (entry ∷ []) (omega arith)) (rw (take_all (length history) history (omega arith)) last)))
+    | inr past ↦ rw (slice_get_past (history ++ entry ∷ []) x (omega (arith, length-append history (entry ∷ [])))) tt
   ]
 ]
-  where
-    slice_get_left : (history : List Entry) (entry : Entry) (x : ℕ) → x < length history → slice_get (history ++ entry ∷ []) x ≡ slice_get history x
-    slice_get_left [] entry x lt = absurd (omega arith)
-    slice_get_left (first ∷ rest) entry zero lt = refl
-    slice_get_left (first ∷ rest) entry (suc x) lt = slice_get_left rest entry x (omega arith)
-
-    slice_get_push : (history : List Entry) (entry : Entry) → slice_get (history ++ entry ∷ []) (length history) ≡ Some entry
-    slice_get_push [] entry = refl
-    slice_get_push (first ∷ rest) entry = slice_get_push rest entry
-
-    slice_get_past : (history : List Entry) (entry : Entry) (x : ℕ) → length history < x → slice_get (history ++ entry ∷ []) x ≡ None
-    slice_get_past [] entry zero lt = absurd (omega arith)
-    slice_get_past [] entry (suc x) lt = refl
-    slice_get_past (first ∷ rest) entry zero lt = absurd (omega arith)
-    slice_get_past (first ∷ rest) entry (suc x) lt = slice_get_past rest entry x (omega arith)
 
 pub each_entry_none : (Fact : List Entry → Entry → Type 0) → EachEntry Fact []
 each_entry_none Fact zero = tt
@@ -81,23 +76,9 @@ exact_none limits = record { follows = each_entry_none (MayFollow limits); full 
 -- every place of a legal history is legal
 pub each_entry_take : (Fact : List Entry → Entry → Type 0) (history : List Entry) (place : ℕ) → EachEntry Fact history → EachEntry Fact (take place history)
 each_entry_take Fact history place each x = elim (cases_lt x place) [
-  | inl lt ↦ rw (slice_get_take history place x lt) (rw (take-take x place history (omega arith)) (each x))
-  | inr ge ↦ rw (slice_get_none history place x (omega arith)) tt
+  | inl lt ↦ rw (slice_get-take history place x lt) (rw (take-take x place history (omega arith)) (each x))
+  | inr ge ↦ rw (slice_get_past (take place history) x (omega (arith, length-take place history))) tt
 ]
-  where
-    slice_get_take : (history : List Entry) (place x : ℕ) → x < place → slice_get (take place history) x ≡ slice_get history x
-    slice_get_take history zero x lt = absurd (omega arith)
-    slice_get_take [] (suc place) x lt = refl
-    slice_get_take (first ∷ rest) (suc place) zero lt = refl
-    slice_get_take (first ∷ rest) (suc place) (suc x) lt = slice_get_take rest place x (omega arith)
-
-    slice_get_none : (history : List Entry) (place x : ℕ) → place ≤ x → slice_get (take place history) x ≡ None
-    slice_get_none history zero zero lt = refl
-    slice_get_none history zero (suc x) lt = refl
-    slice_get_none [] (suc place) zero lt = refl
-    slice_get_none [] (suc place) (suc x) lt = refl
-    slice_get_none (first ∷ rest) (suc place) zero lt = absurd (omega arith)
-    slice_get_none (first ∷ rest) (suc place) (suc x) lt = slice_get_none rest place x (omega arith)
 
 pub legal_take : (limits : Limits) (history : List Entry) (place : ℕ) → IsLegal limits history → IsLegal limits (take place history)
 legal_take limits history place legal = record {

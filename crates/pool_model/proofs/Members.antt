@@ -1,8 +1,9 @@
 -- What stands in a list of numbers after one is put before it, behind it, or left out.
-use Rattle.std.proofs.Common.{◌≡◌, ℕ, ◌<◌, ◌==◌, Bool, true, false, not, cond, refl, inl, inr, arith, zero, suc, ◌⊎◌, List, [], ◌∷◌, length, get_or, filter}
+use Rattle.std.proofs.Common.{◌≡◌, ℕ, ◌<◌, ◌≤◌, ◌==◌, Bool, true, false, not, cond, refl, inl, inr, arith, zero, suc, ◌⊎◌, List, [], ◌∷◌, length, get_or, filter}
 use Rattle.std.specs.List.{Contains}
 use Rattle.std.proofs.lemmas.Bool.{cases_eq}
 use Rattle.std.proofs.lemmas.Bool.Decides.{nat_tests}
+use Rattle.std.proofs.lemmas.List.Sums.{length-filter, count_by-le-length}
 
 pub contains_head : (x : ℕ) (xs : List ℕ) → Contains (x ∷ xs) x
 contains_head x xs = (0, omega arith, refl)
@@ -56,3 +57,24 @@ without_contains b x (y ∷ xs) c ne = elim (contains_cons_cases x y xs c) [
     there : (t : Bool) → Contains (filter (λ other. not (other == b)) xs) x → Contains (cond (not t) (y ∷ filter (λ other. not (other == b)) xs) (filter (λ other. not (other == b)) xs)) x
     there true c = c
     there false c = contains_tail x y _ c
+
+pub without_shorter : (b : ℕ) (xs : List ℕ) → Contains xs b → length (filter (λ other. not (other == b)) xs) < length xs
+without_shorter b [] c = absurd (contains_nil b c)
+without_shorter b (y ∷ xs) c = elim (cases_eq y b) [
+  | inl e ↦ dropped (y == b) (grind (arith, nat_tests))
+  | inr ne ↦ elim (contains_cons_cases b y xs c) [
+    | inl e ↦ absurd (ne e)
+    | inr d ↦ kept (y == b) (without_shorter b xs d)
+  ]
+]
+  where
+    shorter : length (filter (λ other. not (other == b)) xs) ≤ length xs
+    shorter = omega (arith, length-filter (λ other. not (other == b)) xs, count_by-le-length (λ other. not (other == b)) xs)
+
+    dropped : (t : Bool) → t ≡ true → length (cond (not t) (y ∷ filter (λ other. not (other == b)) xs) (filter (λ other. not (other == b)) xs)) < length (y ∷ xs)
+    dropped true e = omega (arith, shorter)
+    dropped false e = cc
+
+    kept : (t : Bool) → length (filter (λ other. not (other == b)) xs) < length xs → length (cond (not t) (y ∷ filter (λ other. not (other == b)) xs) (filter (λ other. not (other == b)) xs)) < length (y ∷ xs)
+    kept true lt = omega (arith, lt)
+    kept false lt = omega (arith, lt)

@@ -59,14 +59,6 @@ kept_front blocks given capacity rest block kept = record {
 pub kept_pop : (blocks given capacity : ℕ) (returned rest : List ℕ) (block : ℕ) → returned ≡ rest ++ block ∷ [] → IsKept blocks given returned capacity → IsKept blocks given rest capacity
 kept_pop blocks given capacity returned rest block same kept = kept_front blocks given capacity rest block (subst (λ (bs : List ℕ). IsKept blocks given bs capacity) same kept)
 
-pub kept_next : (blocks given capacity : ℕ) (returned : List ℕ) → given < blocks → IsKept blocks given returned capacity → IsKept blocks (given + 1) returned capacity
-kept_next blocks given capacity returned lt kept = record {
-  within = omega arith;
-  below = λ k d in'. let b : get_or returned k d < given = kept.below k d in' in omega arith;
-  once = kept.once;
-  room = kept.room;
-}
-
 pub kept_push : (blocks given capacity later : ℕ) (returned : List ℕ) (block : ℕ) → capacity ≤ later → block < given → ¬ Contains returned block → IsKept blocks given returned capacity → IsKept blocks given (returned ++ block ∷ []) later
 kept_push blocks given capacity later returned block grown lt out kept = record {
   within = kept.within;
@@ -184,11 +176,13 @@ left_by_back past i block old new left takes other = (
 pub left_by_none : (blocks : ℕ) → IsLeftBy [] (record { blocks = blocks; given = 0; returned = [] })
 left_by_none blocks other = ((λ c. absurd (contains_nil other c)), (λ h. absurd (omega (arith, h.0))))
 
+-- where all blocks are held, a history that left the pool so holds as many
+pub full_held : (past : List Entry) (pool : Plain) → IsLeftBy past pool → IsFull pool → pool.blocks ≤ length (held past)
+full_held past pool left full = le-length_from_below (held past) pool.blocks (λ q lt. list_any-from_Contains nat_eq_equiv q (held past) ((left q).1 (full q lt)))
+
 -- where all blocks are held, none is unheld
 pub full_unheld : (limits : Limits) (past : List Entry) (pool : Plain) → limits.blocks ≡ pool.blocks → IsLeftBy past pool → IsFull pool → unheld limits past (length past) ≡ 0
-full_unheld limits past pool same left full =
-    rw (take_all (length past) past (omega arith))
-    (omega (arith, same, le-length_from_below (held past) pool.blocks (λ q lt. list_any-from_Contains nat_eq_equiv q (held past) ((left q).1 (full q lt)))))
+full_unheld limits past pool same left full = rw (take_all (length past) past (omega arith)) (omega (arith, same, full_held past pool left full))
 
 -- the entries of a plain pool's calls may follow
 pub got_may_follow : (limits : Limits) (past : List Entry) (i block : ℕ) (old new : Plain) → i < limits.processes → limits.blocks ≡ old.blocks → IsLeftBy past old → Gives old new block → MayFollow limits past (Got i block)

@@ -15,6 +15,7 @@ use Rattle.trace_player.proofs.Agreeing.{keeps_all, keeps_more}
 use Rattle.trace_player.proofs.Leading.{leads_none, leads_got, leads_dry, leads_back}
 use Rattle.trace_player.proofs.Naming.{names_none, names_place, names_leave, next_slot, made_more, length-refused-le}
 use Rattle.trace_player.proofs.Filling.{holds_none, holds_got, holds_dry, holds_back, holds_passed, next_is_empty}
+use Rattle.trace_player.proofs.Sparing.{spared_none, spared_got, spared_dry, spared_back, spared_passed}
 use Rattle.trace_player.proofs.Counting.{counts_none, counts_got, counts_dry, counts_freed, counts_passed}
 use Rattle.trace_player.specs.Tally.{is_refused}
 use Rattle.trace_player.specs.Fit.{calls_of}
@@ -30,6 +31,7 @@ played_none i script pool n = record {
   leads = leads_none i pool;
   holds = holds_none pool n;
   counts = counts_none script n;
+  spared = spared_none pool;
 }
 
 -- a Place that was given a block
@@ -53,6 +55,7 @@ played_got i script done old pool new slots tally later slot block at within giv
       holds = holds_got i p.refused p.blocks done p.entries pool new slots slot block p.names next within gives p.holds;
       counts = counts_got script p.refused p.blocks done slots tally later slot block p.names given within
           (next_is_empty p.refused p.blocks done p.entries pool slots slot p.holds next) is p.counts;
+      spared = spared_got i p.refused p.blocks done p.entries old slot block p.names given (omega (arith, p.counts.counted)) p.spared;
     }
 
 -- a Place that was refused
@@ -73,6 +76,7 @@ played_dry i script done old pool slots tally later slot at full is p =
       leads = leads_dry i p.entries old pool full p.leads;
       holds = holds_dry i p.refused p.blocks done p.entries pool slots slot p.names next p.holds;
       counts = counts_dry script p.refused p.blocks done slots tally later slot p.names given is p.counts;
+      spared = spared_dry i p.refused p.blocks done p.entries old pool slot p.names given (omega (arith, p.counts.counted)) full p.leads p.spared;
     }
 
 -- a Leave of a slot that has a block
@@ -95,6 +99,7 @@ played_back i script done old pool new slots tally later slot block placed withi
       leads = leads_back i p.entries block old pool new takes fill.mine p.leads;
       holds = holds_back i p.refused p.blocks done p.entries pool new slots slot block within has takes p.holds;
       counts = counts_freed script p.refused p.blocks done slots tally later slot block p.names given within has is p.counts;
+      spared = spared_back i p.refused p.blocks done p.entries old pool slot block p.names given fill.held p.leads p.spared;
     }
 
 -- a Leave of a slot that has none, since it was refused
@@ -115,6 +120,7 @@ played_passed i script done old pool slots tally slot placed stays within free p
       leads = p.leads;
       holds = holds_passed p.refused p.blocks done p.entries pool slots slot within given p.holds;
       counts = counts_passed script p.refused p.blocks done slots tally slot p.names given within free p.counts;
+      spared = spared_passed p.refused p.blocks done p.entries old slot p.names given p.spared;
     }
 
 -- fewer slots were refused than a count can say

@@ -1,5 +1,5 @@
 -- A script that was played to its end.
-use Rattle.std.proofs.Common.{◌≡◌, ℕ, ◌+◌, ◌-◌, Bool, cond, Option, List, ◌∷◌, length, refl, sym, ap, ◌∙◌, arith}
+use Rattle.std.proofs.Common.{◌≡◌, ℕ, ◌+◌, ◌-◌, Bool, false, cond, replicate, Option, List, ◌∷◌, length, refl, sym, ap, ◌∙◌, arith}
 use Rattle.std.specs.List.{count_by}
 use Rattle.std.proofs.lemmas.List.Recursion.{is_count_by}
 use Rattle.std.proofs.lemmas.List.FromFn.{length-range_with_len}
@@ -10,6 +10,8 @@ use Rattle.mtrace_reader.specs.declared.steps.Script.{Script}
 use Rattle.mtrace_reader.specs.Script.{placed_slots, IsWellFormed}
 use Rattle.trace_player.specs.declared.tally.Tally.{Tally}
 use Rattle.trace_player.proofs.Determined.{only_refusals}
+use Rattle.trace_player.proofs.Peaks.{holding-le-peak}
+use Rattle.trace_player.proofs.Sparing.{peak_unrefused}
 use Rattle.trace_player.specs.Tally.{is_place, fills, empties, holding, tally_of}
 use Rattle.trace_player.specs.Fit.{Fits}
 use Rattle.trace_player.specs.Playing.{tally_after, IsPlayed, IsPlayedWhole}
@@ -34,6 +36,7 @@ pub played_whole : (i : ℕ) (script : Script) (old new : Plain) (slots : List (
 played_whole i script old new slots tally formed p =
     let one_each : length p.refused ≡ script.news =
     sym (length-range_with_len 0 (length p.refused)) ∙ ap length (sym p.names.in_order ∙ formed.in_order) ∙ length-range_with_len 0 script.news in
+    let tallied = p.counts.tallied ∙ tally_whole script p.refused formed one_each p.counts.answered in
     let fits : Fits i script p.refused p.entries = record { one_each = one_each; blocks = p.blocks; step_by_step = p.made } in
     record {
       entries = p.entries;
@@ -42,6 +45,11 @@ played_whole i script old new slots tally formed p =
         refused = p.refused;
         fits = fits;
         only = λ other also. only_refusals i script p.refused other p.entries formed fits also;
-        tallied = p.counts.tallied ∙ tally_whole script p.refused formed one_each p.counts.answered;
+        tallied = tallied;
       };
+      few = λ past left. omega (arith, p.spared.few past left, holding-le-peak p.refused script.steps, ap (λ (t : Tally). t.peak) tallied);
+      enough = λ past left room.
+          let unrefused = peak_unrefused script.news (length p.refused) script.steps p.names.below in
+          let none = p.spared.enough past left (omega (arith, room, unrefused)) in
+          tallied ∙ ap (tally_of script) (none ∙ ap (λ n. replicate n false) one_each);
     }

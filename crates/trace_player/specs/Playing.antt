@@ -1,5 +1,5 @@
 -- A script that is being played over a plain pool.
-use Rattle.std.specs.Prelude.{◌≡◌, ℕ, ◌+◌, ◌-◌, ◌^◌, ◌<◌, ◌≤◌, ◌⊎◌, Bool, true, false, Option, Some, None, is_some, List, [], ◌∷◌, ◌++◌, length, count_by, flat_map, slice_index, slice_index_or, All, Contains}
+use Rattle.std.specs.Prelude.{◌≡◌, ℕ, ◌+◌, ◌-◌, ◌^◌, ◌<◌, ◌≤◌, ◌⊎◌, Bool, true, false, Option, Some, None, is_some, List, [], ◌∷◌, ◌++◌, length, count_by, flat_map, slice_index, slice_index_or, All, Contains, replicate}
 use Rattle.std.specs.List.{range_with_len}
 use Rattle.pool_model.specs.declared.entry.Entry.{Entry}
 use Rattle.pool_model.specs.Limits.{Limits}
@@ -11,7 +11,7 @@ use Rattle.mtrace_reader.specs.declared.steps.Step.TheVariants.{Place, Leave}
 use Rattle.mtrace_reader.specs.declared.steps.Script.{Script}
 use Rattle.mtrace_reader.specs.Script.{placed_slots}
 use Rattle.trace_player.specs.declared.tally.Tally.{Tally}
-use Rattle.trace_player.specs.Tally.{is_refused, fills, empties, holding, peak_of}
+use Rattle.trace_player.specs.Tally.{is_refused, fills, empties, holding, peak_of, no_refusals, tally_of}
 use Rattle.trace_player.specs.Fit.{calls_of, IsTallied}
 
 -- the tally of a script after the steps so far
@@ -73,6 +73,13 @@ pub record CountsSteps (script : Script) (refused : List Bool) (done : List Step
   pub answered : count_by (fills refused) done + count_by (λ value. value) refused ≡ length refused
   pub tallied : tally ≡ tally_after script refused done
 
+-- no more blocks are held than before and in the slots, and nothing was refused where the blocks suffice for those that were held
+-- before and for the most that the steps hold
+pub record IsSpared (refused : List Bool) (done : List Step) (entries : List Entry) (old : Plain) : Type 0 where
+  pub few : (past : List Entry) → IsLeftBy past old → length (held (past ++ entries)) ≤ length (held past) + holding refused done
+  pub enough : (past : List Entry) → IsLeftBy past old → length (held past) + peak_of [] done ≤ old.blocks
+      → refused ≡ replicate (length refused) false
+
 -- process i has played these steps of the script, from the pool as it was to the pool as it is
 pub record IsPlayed (i : ℕ) (script : Script) (done : List Step) (old new : Plain) (slots : List (Option ℕ)) (tally : Tally) : Type 0 where
   pub refused : List Bool
@@ -83,6 +90,7 @@ pub record IsPlayed (i : ℕ) (script : Script) (done : List Step) (old new : Pl
   pub leads : Leads i entries old new
   pub holds : HoldsBlocks refused blocks done entries new slots
   pub counts : CountsSteps script refused done slots tally
+  pub spared : IsSpared refused done entries old
 
 -- the step may come after these: a Place is of the next slot, a Leave of one that was placed and not left
 abbrev pub MayCome : List Step → Step → Type 0
@@ -99,8 +107,12 @@ pub record IsNext (i : ℕ) (step : Step) (pool : Plain) (slots : List (Option �
   pub may_come : MayCome done step
   pub played : IsPlayed i script done old pool slots tally
 
--- the calls of process i for its whole script
+-- the calls of process i for its whole script: at most its peak of blocks is held besides those before it, and nothing was refused
+-- where the blocks suffice for these and for its peak without refusals
 pub record IsPlayedWhole (i : ℕ) (script : Script) (old new : Plain) (tally : Tally) : Type 0 where
   pub entries : List Entry
   pub leads : Leads i entries old new
   pub tallied : IsTallied i script entries tally
+  pub few : (past : List Entry) → IsLeftBy past old → length (held (past ++ entries)) ≤ length (held past) + tally.peak
+  pub enough : (past : List Entry) → IsLeftBy past old → length (held past) + peak_of (no_refusals script) script.steps ≤ old.blocks
+      → tally ≡ tally_of script (no_refusals script)

@@ -1,10 +1,14 @@
 -- The tally of a script by the refusals of its slots: a truth value for each slot, in the order of the slots.
-use Rattle.std.specs.Prelude.{ℕ, ◌+◌, ◌-◌, Bool, true, false, not, List, length, take, map, fold, count_by, max, slice_index_or}
+use Rattle.std.specs.Prelude.{ℕ, ◌+◌, ◌-◌, Bool, true, false, not, List, length, take, map, fold, count_by, max, replicate, slice_index_or}
 use Rattle.std.specs.List.{range_with_len}
 use Rattle.mtrace_reader.specs.declared.steps.Step.{Step}
 use Rattle.mtrace_reader.specs.declared.steps.Step.TheVariants.{Place, Leave}
 use Rattle.mtrace_reader.specs.declared.steps.Script.{Script}
 use Rattle.trace_player.specs.declared.tally.Tally.{Tally}
+
+-- the refusals of a script of which no slot was refused
+abbrev pub no_refusals : Script → List Bool
+no_refusals script = replicate script.news false
 
 -- whether the slot was refused a block
 abbrev pub is_refused : List Bool → ℕ → Bool

@@ -5,7 +5,7 @@ ghost use Rattle.mtrace_reader.specs.declared.steps.Step.{Step};
 ghost use Rattle.mtrace_reader.specs.declared.steps.Script.{Script};
 ghost use Rattle.mtrace_reader.specs.Script.{IsWellFormed};
 ghost use Rattle.trace_player.specs.Playing.{IsNext, IsPlayed, IsPlayedWhole, MayCome};
-ghost use Rattle.trace_player.specs.Plain.{PlayedInTurn};
+ghost use Rattle.trace_player.specs.Plain.{PlayedInTurn, peaks_without_refusals, tallies_without_refusals};
 
 use crate::tally::Tally;
 use mtrace_reader::{Script, Step};
@@ -13,12 +13,17 @@ use pool_model::{NoMemory, PlainPool};
 use std::alloc::Global;
 
 /// Plays the scripts on one thread over one plain pool of so many blocks, one after the other: script `k`
-/// by process `k`. Answers their tallies in the same order. Its only error is want of memory, which comes
-/// before the first call of the pool.
+/// by process `k`. Answers their tallies in the same order. Where the blocks are at least the sum of the
+/// scripts' peaks, nothing is refused, and the tallies follow from the scripts alone.
+///
+/// Its only error is want of memory, which comes before the first call of the pool. Besides the pool it
+/// takes slots for the script with the most of them, which serve each script in turn.
 pub fn play_plain(alloc: Global, blocks: u32, scripts: &[Script]) -> Result<Vec<Tally>, NoMemory>
     requires few { length scripts.now < 2 ^ 32 }
     requires well_formed { All IsWellFormed scripts.now }
-    ensures { IfOk result (λ tallies. PlayedInTurn blocks scripts.now tallies.items) }
+    ensures in_turn { IfOk result (λ tallies. PlayedInTurn blocks scripts.now tallies.items) }
+    ensures enough { IfOk result
+        (λ tallies. peaks_without_refusals scripts.now ≤ blocks → tallies.items ≡ tallies_without_refusals scripts.now) }
 {
     let mut pool = PlainPool::open(alloc, blocks)?;
     let mut tallies = Vec::with_capacity(alloc, scripts.len())?;
