@@ -1,5 +1,6 @@
 -- What files in memory tell of their bytes.
-use Rattle.std.specs.Prelude.{ℕ, ◌+◌, Bool, List, [], ◌∷◌, ◌++◌, drop, bytes_eq, string_bytes, slice_get, find, Option, option_map, String, Vec}
+use Rattle.std.specs.Prelude.{ℕ, ◌+◌, Bool, bytes_eq, Option, option_map, String, string_bytes, Vec}
+use Rattle.std.specs.Prelude.{List, [], ◌∷◌, ◌++◌, drop, find, slice_get}
 use Rattle.std.specs.declared.alloc.Global.{Global}
 use Rattle.pool_io.specs.Counts.{one_more}
 use Rattle.pool_io.specs.declared.memory_files.MemoryFiles.{MemoryFiles}

@@ -2,10 +2,11 @@
 //!
 //! [`Files`] and [`Sink`] say by their ghost members what is known of the outside: how often it failed, and,
 //! where an implementation tells them, its bytes. [`MemoryFiles`] and [`MemorySink`] stand in memory and tell
-//! all; [`RealFiles`] and [`StdSink`] reach the system and tell nothing but their counts.
+//! all; [`RealFiles`] and [`StdSink`] reach the system and tell nothing but their counts and what reads answered.
 #![tactic(auto)]
 
 mod answers;
+mod command_line;
 mod counts;
 mod files;
 mod gate;
@@ -16,6 +17,7 @@ mod real;
 mod sink;
 mod write;
 
+pub use command_line::words;
 pub use files::{Failed, Files};
 pub use gate::{Gate, OpenGate};
 pub use memory_files::{MemoryFiles, MemorySource};

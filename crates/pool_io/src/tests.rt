@@ -1,9 +1,12 @@
 ghost use Rattle.std.specs.Prelude.{◌≡◌, ◌-◌, ◌^◌, ◌<◌, IfOk};
 
 use super::*;
+use pool_model::NoMemory;
 use std::alloc::{AllocError, Global};
-use std::fs;
+use std::env::FillError;
+use std::rt::Env;
 use std::test::Fail;
+use std::{fs, mem};
 
 // Reads a file to its end, in pieces of at most 4 bytes. None where the files fail.
 fn read_whole<F: Files>(
@@ -88,22 +91,105 @@ fn a_memory_sink_takes_what_fits(rt: HostRuntime) -> Result<(), Fail> {
 }
 
 #[test]
-fn the_system_has_a_file(rt: HostRuntime) -> Result<(), Fail> {
-    let name = "pool_io_test.txt";
-    fs::write(&rt, name, TEXT)?;
-    let mut files = RealFiles::new(&rt);
-    let is_missing = files.open("pool_io_missing.txt").is_err();
-    let read = read_whole(rt.alloc(), &mut files, name)?;
-    fs::remove_file(&rt, name)?;
-    assert!(rt; is_missing && read.is_some_and(|bytes| bytes.as_slice() == TEXT));
-    assert_eq!(rt; (files.opens, files.faults), (2, 1));
+fn the_systems_files_answer_as_it_does(rt: HostRuntime) -> Result<(), Fail> {
+    let alloc = rt.alloc();
+    let names = ["pool_io_test.txt", " blanks around "];
+    for name in names {
+        fs::write(&rt, name, TEXT)?;
+    }
+    for (name, is_file) in [
+        ("pool_io_test.txt", true),
+        (" blanks around ", true),
+        ("blanks around", false),
+        ("pool_io_missing.txt", false),
+        ("", false),
+        (".", false),
+    ] {
+        let mut files = RealFiles::new(&rt);
+        let read = read_whole(alloc, &mut files, name)?;
+        let is_whole = read.is_some_and(|bytes| bytes.as_slice() == TEXT);
+        assert_eq!(rt;
+            (is_whole, files.opens, files.faults),
+            (is_file, 1, u64::from(!is_file)),
+            "{name}"
+        );
+    }
+    for name in names {
+        fs::remove_file(&rt, name)?;
+    }
     Ok(())
 }
 
 #[test]
 fn the_systems_streams_take_a_text(rt: HostRuntime) -> Result<(), Fail> {
-    write_whole(&mut StdSink::out(rt.stdout()), b"out\n")?;
-    write_whole(&mut StdSink::err(rt.stderr()), b"err\n")?;
+    let mut out = StdSink::out(rt.stdout());
+    let mut err = StdSink::err(rt.stderr());
+    write_whole(&mut out, b"out\n")?;
+    write_whole(&mut err, b"err\n")?;
+    assert_eq!(rt; (out.write(b""), err.write(b"")), (Ok(0), Ok(0)));
+    Ok(())
+}
+
+// A system that gives the words that stand between bytes 10.
+#[derive(Drop)]
+struct Given(&'static [u8]);
+
+impl Env for Given {
+    fn arg(&self, index: usize, buffer: &mut [u8]) -> Result<usize, FillError> {
+        let mut words = self.0.split(|byte| *byte == b'\n');
+        let word = words.nth(index).ok_or(FillError::NotPresent)?;
+        if word.len() > buffer.len() {
+            return Err(FillError::TooLong);
+        }
+        buffer[..word.len()].copy_from_slice(word);
+        Ok(word.len())
+    }
+
+    fn var(&self, _name: &str, _buffer: &mut [u8]) -> Result<usize, FillError> {
+        Err(FillError::NotPresent)
+    }
+
+    fn var_at(&self, _index: usize, _buffer: &mut [u8]) -> Result<usize, FillError> {
+        Err(FillError::NotPresent)
+    }
+}
+
+#[test]
+fn a_word_that_is_no_text_leaves_no_words(rt: HostRuntime) -> Result<(), Fail> {
+    let alloc = rt.alloc();
+    for (given, expected) in [
+        (
+            b"pooltrace\nplay\n f".as_slice(),
+            ["pooltrace", "play", " f"].as_slice(),
+        ),
+        (
+            b"pooltrace\n\xc3\xa9".as_slice(),
+            ["pooltrace", "\u{e9}"].as_slice(),
+        ),
+        (b"pooltrace\n\xff\nf".as_slice(), [].as_slice()),
+    ] {
+        let found = words(&(Given(given), alloc))?;
+        assert_eq!(rt; found.len(), expected.len());
+        for (word, text) in found.iter().zip(expected) {
+            assert_eq!(rt; word.as_str(), *text);
+        }
+    }
+    Ok(())
+}
+
+#[test]
+fn errors_have_a_text(rt: HostRuntime) -> Result<(), Fail> {
+    let alloc = rt.alloc();
+    assert_eq!(rt; format!(in alloc; "{Failed}")?.as_str(), "failed");
+    assert_eq!(rt; format!(in alloc; "{NoMemory}")?.as_str(), "no memory");
+    Ok(())
+}
+
+#[test]
+fn noted_reads_have_no_bytes(rt: HostRuntime) -> Result<(), Fail> {
+    let reads = Reads::default();
+    assert_eq!(rt; mem::size_of_val(&reads), 0);
+    assert_eq!(rt; format!(in rt.alloc(); "{reads:?}")?.as_str(), "Reads");
     Ok(())
 }
 

@@ -2,9 +2,7 @@
 #![tactic(auto)]
 
 use pool_cli::run;
-use pool_io::{OpenGate, RealFiles, StdSink};
-use std::env;
-use std::io::{self, ErrorKind};
+use pool_io::{OpenGate, RealFiles, StdSink, words};
 use std::process::ExitCode;
 
 /// The status where the system doesn't give the program its words.
@@ -27,14 +25,4 @@ fn main(rt: HostRuntime) -> ExitCode {
         &OpenGate,
     );
     ExitCode::from(ended.status)
-}
-
-/// The words of the command line. None where one of them isn't UTF-8, which makes them a faulty command
-/// line.
-fn words(rt: &HostRuntime) -> io::Result<Vec<String>> {
-    match env::args(rt) {
-        Ok(words) => Ok(words.collect(rt.alloc())?),
-        Err(error) if error.kind() == ErrorKind::InvalidData => Ok(Vec::new(rt.alloc())),
-        Err(error) => Err(error),
-    }
 }

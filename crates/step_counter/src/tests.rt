@@ -1,5 +1,6 @@
 use crate::{Kept, Quiet, Steps};
 use std::mem;
+use std::test::Fail;
 
 #[test]
 fn kept_steps_are_counted_one_by_one(rt: HostRuntime) {
@@ -16,4 +17,13 @@ fn quiet_steps_have_no_bytes(rt: HostRuntime) {
     steps.tick();
     steps.tick();
     assert_eq!(rt; (mem::size_of::<Quiet>(), mem::size_of_val(&steps)), (0, 0));
+}
+
+#[test]
+fn a_quiet_ledger_has_a_name(rt: HostRuntime) -> Result<(), Fail> {
+    assert_eq!(rt;
+        format!(in rt.alloc(); "{:?}", Quiet::new())?.as_str(),
+        "Quiet"
+    );
+    Ok(())
 }

@@ -1,11 +1,11 @@
 //! A worked rule: one word that never falls.
 //!
-//! What a seat knows is the number that it met last. No view is above the word, so what a seat has met once
-//! is the least that it will ever meet. A step that could let the word fall isn't accepted.
-ghost use Rattle.std.specs.Prelude.{◌≡◌, ◌≢◌, ◌+◌, ◌<◌, ◌≤◌, ◌^◌, IfOk, MatchResult};
+//! What a seat knows is what the word was after its last step. No view is above the word, so what a seat has
+//! seen once is the least that it will ever meet. A step that could let the word fall isn't accepted.
+ghost use Rattle.std.specs.Prelude.{◌≡◌, ◌≢◌, ◌+◌, ◌<◌, ◌≤◌, ◌^◌, IfOk, IfErr, OnOk, MatchResult};
 ghost use Rattle.word_table.specs.Seats.{SameSeat, met_by};
 
-use crate::{WordRule, WordSeat, WordTable};
+use crate::{TurnAbout, WordRule, WordSeat, WordTable};
 use pool_model::NoMemory;
 use std::alloc::Global;
 use step_counter::{Ledger, Steps};
@@ -24,6 +24,20 @@ impl WordRule for Rising {
     ghost first = { λ words. slice_index words 0 };
 
     ghost turn = { λ words _ _. slice_index words 0 };
+}
+
+/// What a step that raises the word is about: `to` comes where the word is `from`.
+#[derive(Drop)]
+struct Rise {
+    from: u64,
+    to: u64,
+}
+
+impl TurnAbout<u64, Rise> for Rising {
+    ghost use Rattle.std.specs.Prelude.{slice_index};
+    ghost use Rattle.word_rule.specs.Moves.{exchanged};
+
+    ghost turn_about = { λ rise words _ _. exchanged rise.from rise.to (slice_index words 0) };
 }
 
 /// A table of one word, and its first seat, which has met that word.
@@ -56,8 +70,8 @@ pub fn look<L: Ledger>(
     table.load(seat, 0, steps)
 }
 
-/// Raises the word where it is `from`, and answers the word that it met, which is at least what the seat met
-/// before.
+/// Raises the word where it is `from`, and answers the word that it met. After `Ok` the seat knows that the word
+/// is at least `to`; after `Err` it knows what it met.
 pub fn raise<L: Ledger>(
     table: &WordTable<Rising>,
     seat: &mut WordSeat<Rising>,
@@ -72,8 +86,9 @@ pub fn raise<L: Ledger>(
     ensures seat { SameSeat seat.old seat.new }
     ensures steps { steps.new ≡ steps.old + 1 }
     ensures answer { MatchResult result (λ word. word ≡ from) (λ word. word ≢ from) }
-    ensures seen { seat.new.view ≡ met_by result }
+    ensures raised { OnOk result (seat.new.view ≡ to) }
+    ensures missed { IfErr result (λ word. seat.new.view ≡ word) }
     ensures risen { seat.old.view ≤ met_by result }
 {
-    table.compare_exchange(seat, 0, from, to, steps)
+    table.compare_exchange_with(seat, 0, from, to, &Rise { from, to }, steps)
 }

@@ -8,4 +8,4 @@ pub returns-clause-seen : goal.returns-clause-seen
 returns-clause-seen g c = met_is_seen _ _ _ _ _ c.load.ensures.step
 
 pub returns-clause-risen : goal.returns-clause-risen
-returns-clause-risen g c = met_is_above _ _ _ _ _ c.load.ensures.step
+returns-clause-risen g c = met_is_above _ _ _ _ _ _ c.load.ensures.step
