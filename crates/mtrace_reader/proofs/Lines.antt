@@ -1,76 +1,48 @@
--- Lines that are read one by one.
-use Rattle.std.proofs.Common.{◌≡◌, ℕ, ◌+◌, ◌<◌, ◌≤◌, Bool, true, false, ltb, not, List, [], ◌∷◌, ◌++◌, length, take, drop, map, position, None, Some, inl, inr, refl, ap, sym, ◌∙◌, subst, arith}
-use Rattle.std.specs.List.{position_or_len}
-use Rattle.std.proofs.lemmas.Bool.{cases_lt, lt-ltb, ltb-true}
-use Rattle.std.proofs.lemmas.List.{append_assoc, length-append}
-use Rattle.std.proofs.lemmas.Option.{cond_some}
-use Rattle.std.proofs.lemmas.List.Elements.{All-from_get_or}
-use Rattle.std.proofs.lemmas.List.Splits.{slice_split_none, slice_split_first}
-use Rattle.std.proofs.lemmas.List.Sums.{prefix_len_passes}
+-- Bytes that are cut into lines, and what more bytes change.
+use Rattle.std.proofs.Common.{◌≡◌, ℕ, ◌+◌, ◌<◌, ◌≤◌, Bool, true, false, cond, ltb, not, List, [], ◌∷◌, ◌++◌, length, get_or, take, drop, suc, add-one, map, position, None, Some, inl, inr, refl, ap, sym, ◌∙◌, subst, arith}
+use Rattle.std.specs.Prelude.{Option, All}
+use Rattle.std.specs.Option.{option_or}
+use Rattle.std.specs.Bool.{then_some}
+use Rattle.std.specs.List.{position_or_len, slice_split, onto_first}
+use Rattle.std.proofs.lemmas.Bool.{cases_lt, lt-ltb}
+use Rattle.std.proofs.lemmas.List.{get_or-take, length-take-le, append_assoc, append-nil, length-append, length-map, map-append}
+use Rattle.std.proofs.lemmas.List.Elements.{All-from_get_or, All-nil, All-cons, All-append}
+use Rattle.std.proofs.lemmas.List.Splits.{slice_split_none, slice_split_at}
+use Rattle.std.proofs.lemmas.List.Sums.{fails_before_first}
+use Rattle.std.proofs.lemmas.List.Quantifiers.{position-Some}
+use Rattle.std.proofs.lemmas.Bool.Decides.{nat_tests}
+use Rattle.std.proofs.Math.Seq.{split_at}
 use Rattle.mtrace_reader.specs.declared.line.Meaning.{Meaning}
 use Rattle.mtrace_reader.specs.declared.line.Meaning.TheVariants.{Skipped, Says, Bad}
 use Rattle.mtrace_reader.specs.declared.trace.Operation.{Operation}
 use Rattle.mtrace_reader.specs.Line.{meaning_of}
 use Rattle.mtrace_reader.specs.Reading.{is_end, pieces, lines, last_piece, front, last, said, first_bad, is_bad, bad_line, operations_of}
+use Rattle.mtrace_reader.specs.LineReader.{HasNoEnd}
 use Rattle.mtrace_reader.proofs.Cuts.{HasFirst, slice_split_has_first}
 
-not_true : {b : Bool} → not b ≡ true → b ≡ false
-not_true {b} h = elim b as (λ b. not b ≡ true → b ≡ false) [ true ↦ λ e. sym e | false ↦ λ _. refl ] h
-
--- bytes without an end of a line are one piece
-pub pieces_without_end : (bytes : List ℕ) → position is_end bytes ≡ None → pieces bytes ≡ bytes ∷ []
-pieces_without_end bytes h =
+-- bytes without an end of a line, and bytes with one
+pub no_end : (bytes : List ℕ) → position is_end bytes ≡ None → HasNoEnd bytes
+no_end bytes none =
     let past : length bytes ≤ position_or_len is_end bytes =
     elim (cases_lt (position_or_len is_end bytes) (length bytes)) as (λ _. length bytes ≤ position_or_len is_end bytes) [
       | inl within ↦ let found : position is_end bytes ≡ Some (position_or_len is_end bytes) = rw (lt-ltb _ _ within) refl in absurd (cc)
       | inr past ↦ past
     ]
     in
-    slice_split_none is_end bytes (All-from_get_or (λ b. is_end b ≡ false) bytes 0 (λ k below.
-    not_true (prefix_len_passes (λ b. not (is_end b)) bytes k 0 (omega arith))))
+    All-from_get_or (λ byte. is_end byte ≡ false) bytes 0 (λ k below. fails_before_first is_end bytes k 0 (omega arith))
 
--- the first line ends at the first end
-pub pieces_at_end : (bytes : List ℕ) (end : ℕ) → position is_end bytes ≡ Some end → pieces bytes ≡ take end bytes ∷ pieces (drop (end + 1) bytes)
-pieces_at_end bytes end h =
-    let found = cond_some (ltb (position_or_len is_end bytes) (length bytes)) (position_or_len is_end bytes) end h in
-    let split = slice_split_first is_end bytes 0 (ltb-true _ _ found.0) in
-    subst (λ n. pieces bytes ≡ take n bytes ∷ pieces (drop (n + 1) bytes)) found.1 split
+pub no_end_before : (bytes : List ℕ) (end : ℕ) → position is_end bytes ≡ Some end → HasNoEnd (take end bytes)
+no_end_before bytes end found =
+    let at = position-Some is_end bytes end 0 found in
+    All-from_get_or (λ byte. is_end byte ≡ false) (take end bytes) 0 (λ k below.
+    let before : k < end = omega (arith, length-take-le end bytes (omega (arith, at.0))) in
+    rw (get_or-take end bytes k 0 before) (at.2 k before))
 
--- What is known when the bytes are read up to the rest: the operations so far, and the number of the next line.
-pub record ReadsUpTo (bytes rest : List ℕ) (operations : List Operation) (number : ℕ) : Type 0 where
-  pub said_so_far : operations ++ said (map meaning_of (pieces rest)) ≡ operations_of bytes
-  pub good_so_far : first_bad number (map meaning_of (lines rest)) ≡ bad_line bytes
-  pub same_end : last_piece rest ≡ last_piece bytes
-  pub few : length operations + length rest ≤ length bytes
-  pub counted : number + length rest ≤ length bytes + 1
-
-pub ReadsUpTo-start : (bytes : List ℕ) → ReadsUpTo bytes bytes [] 1
-ReadsUpTo-start bytes = record { said_so_far = refl; good_so_far = refl; same_end = refl; few = omega arith; counted = omega arith }
-
-said-cons : (meaning : Meaning) (meanings : List Meaning) → said (meaning ∷ meanings) ≡ said (meaning ∷ []) ++ said meanings
-said-cons Skipped meanings = refl
-said-cons (Says operation) meanings = refl
-said-cons Bad meanings = refl
-
-first_bad-good : (number : ℕ) (meaning : Meaning) (meanings : List Meaning) → is_bad meaning ≡ false → first_bad number (meaning ∷ meanings) ≡ first_bad (number + 1) meanings
-first_bad-good number Skipped meanings good = refl
-first_bad-good number (Says operation) meanings good = refl
-first_bad-good number Bad meanings good = cc
-
-first_bad-bad : (number : ℕ) (meaning : Meaning) (meanings : List Meaning) → is_bad meaning ≡ true → first_bad number (meaning ∷ meanings) ≡ Some number
-first_bad-bad number Skipped meanings bad = cc
-first_bad-bad number (Says operation) meanings bad = cc
-first_bad-bad number Bad meanings bad = refl
-
--- one line says one operation at most, and no bytes say none
-length-said : (meaning : Meaning) → length (said (meaning ∷ [])) ≤ 1
-length-said Skipped = omega arith
-length-said (Says operation) = omega arith
-length-said Bad = omega arith
-
-length-said_by_piece : (piece : List ℕ) → length (said (meaning_of piece ∷ [])) ≤ length piece
-length-said_by_piece [] = omega arith
-length-said_by_piece (byte ∷ bytes) = let most = length-said (meaning_of (byte ∷ bytes)) in omega (arith, most)
+pub parts_at_end : (bytes : List ℕ) (end : ℕ) → position is_end bytes ≡ Some end → bytes ≡ take end bytes ++ 10 ∷ drop (end + 1) bytes
+parts_at_end bytes end found =
+    let at = position-Some is_end bytes end 0 found in
+    let ten : get_or bytes end 0 ≡ 10 = grind (arith, nat_tests, at.1) in
+    rw add-one (split_at bytes end 0 at.0 ∙ ap (λ byte. take end bytes ++ byte ∷ drop (suc end) bytes) ten)
 
 -- a piece before others is a line, and not the last piece
 front-cons : (piece : List ℕ) (others : List (List ℕ)) → HasFirst others → front (piece ∷ others) ≡ piece ∷ front others
@@ -79,32 +51,164 @@ front-cons piece others h = rw h.is refl
 last-cons : (piece : List ℕ) (others : List (List ℕ)) → HasFirst others → last (piece ∷ others) ≡ last others
 last-cons piece others h = rw h.is refl
 
--- the lines from a line on, and what they mean
-lines-at_line : (rest line after : List ℕ) → pieces rest ≡ line ∷ pieces after → lines rest ≡ line ∷ lines after
-lines-at_line rest line after split = ap front split ∙ front-cons line (pieces after) (slice_split_has_first is_end after)
+HasFirst-append : (before others : List (List ℕ)) → HasFirst others → HasFirst (before ++ others)
+HasFirst-append [] others h = h
+HasFirst-append (piece ∷ before) others h = record { first = piece; others = before ++ others; is = refl }
 
--- one more line, which isn't bad
-pub ReadsUpTo-more : {bytes rest : List ℕ} {operations : List Operation} {number : ℕ} (line after : List ℕ) (next : List Operation) → ReadsUpTo bytes rest operations number → pieces rest ≡ line ∷ pieces after → length after < length rest → is_bad (meaning_of line) ≡ false → next ≡ operations ++ said (meaning_of line ∷ []) → ReadsUpTo bytes after next (number + 1)
-ReadsUpTo-more {bytes} {rest} {operations} {number} line after next read split shorter good kept =
-    let others = map meaning_of (pieces after) in
-    let most = length-said (meaning_of line) in
+front-append : (before others : List (List ℕ)) → HasFirst others → front (before ++ others) ≡ before ++ front others
+front-append [] others h = refl
+front-append (piece ∷ before) others h =
+    front-cons piece (before ++ others) (HasFirst-append before others h) ∙ ap (λ more. piece ∷ more) (front-append before others h)
+
+last-append : (before others : List (List ℕ)) → HasFirst others → last (before ++ others) ≡ last others
+last-append [] others h = refl
+last-append (piece ∷ before) others h =
+    last-cons piece (before ++ others) (HasFirst-append before others h) ∙ last-append before others h
+
+-- What is known of the pieces of some bytes: the last one has no end, they are no more than the bytes, and more bytes go on
+-- where the last one stands.
+record IsCut (bytes : List ℕ) (parts : List (List ℕ)) : Type 0 where
+  open_end : HasNoEnd (last parts)
+  few : length (front parts) + length (last parts) ≤ length bytes
+  goes_on : (more : List ℕ) → pieces (bytes ++ more) ≡ front parts ++ pieces (last parts ++ more)
+
+IsCut-end : (byte : ℕ) (bytes : List ℕ) (parts : List (List ℕ)) → HasFirst parts → is_end byte ≡ true → IsCut bytes parts → IsCut (byte ∷ bytes) ([] ∷ parts)
+IsCut-end byte bytes parts some ends cut =
+    let first = front-cons [] parts some in
+    let others = last-cons [] parts some in
     record {
-      said_so_far =
-          ap (λ ops. ops ++ said others) kept ∙ append_assoc operations (said (meaning_of line ∷ [])) (said others)
-          ∙ ap (λ ops. operations ++ ops) (sym (said-cons (meaning_of line) others))
-          ∙ ap (λ parts. operations ++ said (map meaning_of parts)) (sym split)
-          ∙ read.said_so_far;
-      good_so_far =
-          sym (first_bad-good number (meaning_of line) (map meaning_of (lines after)) good)
-          ∙ ap (λ parts. first_bad number (map meaning_of parts)) (sym (lines-at_line rest line after split))
-          ∙ read.good_so_far;
-      same_end = sym (last-cons line (pieces after) (slice_split_has_first is_end after)) ∙ ap last (sym split) ∙ read.same_end;
-      few = rw kept (omega (arith, length-append operations (said (meaning_of line ∷ [])), most, read.few));
-      counted = omega (arith, read.counted);
+      open_end = rw others cut.open_end;
+      few = rw (first, others) (omega (arith, cut.few));
+      goes_on = λ more. rw (first, others, ends) (ap (λ rest. [] ∷ rest) (cut.goes_on more));
     }
 
--- a bad line
-pub bad_line-found : {bytes rest : List ℕ} {operations : List Operation} {number : ℕ} (line after : List ℕ) → ReadsUpTo bytes rest operations number → pieces rest ≡ line ∷ pieces after → is_bad (meaning_of line) ≡ true → bad_line bytes ≡ Some number
-bad_line-found {bytes} {rest} {operations} {number} line after read split bad =
-    sym read.good_so_far ∙ ap (λ parts. first_bad number (map meaning_of parts)) (lines-at_line rest line after split)
-    ∙ first_bad-bad number (meaning_of line) (map meaning_of (lines after)) bad
+IsCut-other : (byte : ℕ) (bytes : List ℕ) (parts : List (List ℕ)) → HasFirst parts → is_end byte ≡ false → IsCut bytes parts → IsCut (byte ∷ bytes) (onto_first byte parts)
+IsCut-other byte bytes [] some other cut = absurd (let none = some.is in cc)
+IsCut-other byte bytes (part ∷ []) some other cut = record {
+  open_end = All-cons (λ b. is_end b ≡ false) byte part other cut.open_end;
+  few = omega (arith, cut.few);
+  goes_on = λ more. rw other (ap (onto_first byte) (cut.goes_on more));
+}
+IsCut-other byte bytes (part ∷ next ∷ others) some other cut = record {
+  open_end = cut.open_end;
+  few = omega (arith, cut.few);
+  goes_on = λ more. rw other (ap (onto_first byte) (cut.goes_on more));
+}
+
+is_cut : (bytes : List ℕ) → IsCut bytes (pieces bytes)
+is_cut [] = record { open_end = All-nil (λ b. is_end b ≡ false); few = omega arith; goes_on = λ more. refl }
+is_cut (byte ∷ bytes) =
+    let parts = pieces bytes in
+    let some = slice_split_has_first is_end bytes in
+    elim (is_end byte) as (λ ends. is_end byte ≡ ends → IsCut (byte ∷ bytes) (cond ends ([] ∷ parts) (onto_first byte parts))) [
+      | true ↦ λ ends. IsCut-end byte bytes parts some ends (is_cut bytes)
+      | false ↦ λ other. IsCut-other byte bytes parts some other (is_cut bytes)
+    ]
+    refl
+
+-- the lines of bytes and then more bytes, and what stands after them
+lines-append : (bytes more : List ℕ) → lines (bytes ++ more) ≡ lines bytes ++ lines (last_piece bytes ++ more)
+lines-append bytes more =
+    ap front ((is_cut bytes).goes_on more)
+    ∙ front-append (lines bytes) (pieces (last_piece bytes ++ more)) (slice_split_has_first is_end (last_piece bytes ++ more))
+
+last_piece-append : (bytes more : List ℕ) → last_piece (bytes ++ more) ≡ last_piece (last_piece bytes ++ more)
+last_piece-append bytes more =
+    ap last ((is_cut bytes).goes_on more)
+    ∙ last-append (lines bytes) (pieces (last_piece bytes ++ more)) (slice_split_has_first is_end (last_piece bytes ++ more))
+
+-- bytes in which no line ends go on with the last piece
+module _ (bytes more : List ℕ) (open_end : HasNoEnd more) where
+  one_piece : pieces (last_piece bytes ++ more) ≡ (last_piece bytes ++ more) ∷ []
+  one_piece =
+      slice_split_none is_end (last_piece bytes ++ more)
+      (All-append (λ b. is_end b ≡ false) (last_piece bytes) more (is_cut bytes).open_end open_end)
+
+  pub lines_with_more : lines (bytes ++ more) ≡ lines bytes
+  lines_with_more = lines-append bytes more ∙ ap (λ parts. lines bytes ++ front parts) one_piece ∙ append-nil (lines bytes)
+
+  pub last_piece_with_more : last_piece (bytes ++ more) ≡ last_piece bytes ++ more
+  last_piece_with_more = last_piece-append bytes more ∙ ap last one_piece
+
+  -- and with the end of a line they are a line
+  two_pieces : pieces (last_piece bytes ++ (more ++ 10 ∷ [])) ≡ (last_piece bytes ++ more) ∷ [] ∷ []
+  two_pieces =
+      ap pieces (sym (append_assoc (last_piece bytes) more (10 ∷ [])))
+      ∙ slice_split_at is_end (last_piece bytes ++ more) 10 [] (All-append (λ b. is_end b ≡ false) (last_piece bytes) more (is_cut bytes).open_end open_end) refl
+
+  pub lines_with_line : lines (bytes ++ (more ++ 10 ∷ [])) ≡ lines bytes ++ (last_piece bytes ++ more) ∷ []
+  lines_with_line = lines-append bytes (more ++ 10 ∷ []) ∙ ap (λ parts. lines bytes ++ front parts) two_pieces
+
+  pub last_piece_with_line : last_piece (bytes ++ (more ++ 10 ∷ [])) ≡ []
+  last_piece_with_line = last_piece-append bytes (more ++ 10 ∷ []) ∙ ap last two_pieces
+
+-- the lines are at most the bytes
+pub few_lines : (bytes : List ℕ) → length (lines bytes) + length (last_piece bytes) ≤ length bytes
+few_lines bytes = (is_cut bytes).few
+
+-- what one more meaning adds
+pub said-append : (before after : List Meaning) → said (before ++ after) ≡ said before ++ said after
+said-append [] after = refl
+said-append (Skipped ∷ before) after = said-append before after
+said-append (Says operation ∷ before) after = ap (λ others. operation ∷ others) (said-append before after)
+said-append (Bad ∷ before) after = said-append before after
+
+pub first_bad-append : (number : ℕ) (before after : List Meaning) → first_bad number (before ++ after) ≡ option_or (first_bad number before) (first_bad (number + length before) after)
+first_bad-append number [] after = ap (λ n. first_bad n after) (omega arith)
+first_bad-append number (Skipped ∷ before) after =
+    first_bad-append (number + 1) before after
+    ∙ ap (λ n. option_or (first_bad (number + 1) before) (first_bad n after)) (omega arith)
+first_bad-append number (Says operation ∷ before) after =
+    first_bad-append (number + 1) before after
+    ∙ ap (λ n. option_or (first_bad (number + 1) before) (first_bad n after)) (omega arith)
+first_bad-append number (Bad ∷ before) after = refl
+
+-- one meaning says one operation at most
+said_by_one : (meaning : Meaning) → length (said (meaning ∷ [])) ≤ 1
+said_by_one Skipped = omega arith
+said_by_one (Says operation) = omega arith
+said_by_one Bad = omega arith
+
+few_said : (meanings : List Meaning) → length (said meanings) ≤ length meanings
+few_said [] = omega arith
+few_said (Skipped ∷ meanings) = omega (arith, few_said meanings)
+few_said (Says operation ∷ meanings) = omega (arith, few_said meanings)
+few_said (Bad ∷ meanings) = omega (arith, few_said meanings)
+
+-- no bytes say nothing, and others one operation at most
+said_by_piece : (piece : List ℕ) → length (said (meaning_of piece ∷ [])) ≤ length piece
+said_by_piece [] = omega arith
+said_by_piece (byte ∷ bytes) = omega (arith, said_by_one (meaning_of (byte ∷ bytes)))
+
+-- the pieces are the lines and the last piece
+front_and_last : (parts : List (List ℕ)) → HasFirst parts → parts ≡ front parts ++ last parts ∷ []
+front_and_last [] some = absurd (let none = some.is in cc)
+front_and_last (part ∷ []) some = refl
+front_and_last (part ∷ next ∷ others) some =
+    ap (λ more. part ∷ more) (front_and_last (next ∷ others) (record { first = next; others = others; is = refl }))
+
+-- the operations are those of the lines and that of the last piece
+pub operations_of-parts : (bytes : List ℕ) → operations_of bytes ≡ said (map meaning_of (lines bytes)) ++ said (meaning_of (last_piece bytes) ∷ [])
+operations_of-parts bytes =
+    ap (λ parts. said (map meaning_of parts)) (front_and_last (pieces bytes) (slice_split_has_first is_end bytes))
+    ∙ ap said (map-append meaning_of (lines bytes) (last_piece bytes ∷ []))
+    ∙ said-append (map meaning_of (lines bytes)) (meaning_of (last_piece bytes) ∷ [])
+
+-- a trace has at most as many operations as bytes
+pub few_operations : (bytes : List ℕ) → length (operations_of bytes) ≤ length bytes
+few_operations bytes =
+    rw (operations_of-parts bytes)
+    (omega (
+      arith,
+      length-append (said (map meaning_of (lines bytes))) (said (meaning_of (last_piece bytes) ∷ [])),
+      few_said (map meaning_of (lines bytes)),
+      length-map (lines bytes) meaning_of,
+      said_by_piece (last_piece bytes),
+      few_lines bytes,
+    ))
+
+-- one meaning says that its line is bad, or not
+pub first_bad_of_one : (number : ℕ) (meaning : Meaning) → first_bad number (meaning ∷ []) ≡ then_some (is_bad meaning) number
+first_bad_of_one number Skipped = refl
+first_bad_of_one number (Says operation) = refl
+first_bad_of_one number Bad = refl

@@ -1,6 +1,8 @@
-// The reading of a trace: its lines, one by one, and what stands after the last of them.
-ghost use Rattle.std.specs.Prelude.{◌≡◌, ◌≢◌, ◌+◌, ◌≤◌, ◌<◌, ℕ, [], ◌∷◌, ◌++◌, length, IfOk, IfNone, IfSome, IfErr, position};
-ghost use Rattle.mtrace_reader.specs.Reading.{is_end, pieces, said, is_bad, bad_line, IsReading};
+// The reading of a trace, piece by piece: what its whole lines say, and the line that isn't whole yet.
+ghost use Rattle.std.specs.Prelude.{◌≡◌, ◌≢◌, ◌+◌, ◌^◌, ◌≤◌, ◌<◌, ℕ, List, [], ◌∷◌, ◌++◌, length, IfOk, IfNone, IfSome, IfErr, OnOk, position};
+ghost use Rattle.mtrace_reader.specs.Line.{meaning_of};
+ghost use Rattle.mtrace_reader.specs.Reading.{is_end, is_bad, said, AnswersFor};
+ghost use Rattle.mtrace_reader.specs.LineReader.{HasRead, Reads, HasNoEnd};
 
 use crate::line::read_line;
 use crate::{Meaning, Operation, OperationList, Trace, TraceFault};
@@ -18,9 +20,9 @@ fn line_end(bytes: &[u8]) -> Option<usize>
 
 /// The first line, without its end, and what stands after that end. `None` where no line ends.
 fn split_line(bytes: &[u8]) -> Option<(&[u8], &[u8])>
-    ensures none { IfNone result (pieces bytes.now ≡ bytes.now ∷ []) }
-    ensures line { IfSome result (λ parts. pieces bytes.now ≡ parts.0.now ∷ pieces parts.1.now) }
-    ensures shorter { IfSome result (λ parts. length parts.1.now < length bytes.now) }
+    ensures none { IfNone result (HasNoEnd bytes.now) }
+    ensures line { IfSome result (λ parts. HasNoEnd parts.0.now) }
+    ensures parts { IfSome result (λ parts. bytes.now ≡ parts.0.now ++ 10 ∷ parts.1.now) }
 {
     let end = line_end(bytes)?;
     Some((&bytes[..end], &bytes[end + 1..]))
@@ -42,28 +44,95 @@ fn keep(operations: &mut Vec<Operation>, meaning: Meaning) -> Result<bool, Trace
     }
 }
 
-/// The trace that bytes are read as.
-pub(crate) fn read_lines(alloc: Global, bytes: &[u8]) -> Result<Trace, TraceFault>
-    ensures reading { IfOk result (IsReading bytes.now) }
-    ensures few { IfOk result (λ trace. length trace.operations ≤ trace.bytes) }
-    ensures bad { (number : ℕ) → result ≡ Err (TraceFault.BadLine number) → bad_line bytes.now ≡ Some number }
-    ensures not_read { result ≢ Err TraceFault.ReadFault }
-    ensures not_long { result ≢ Err TraceFault.TooLong }
-{
-    let mut operations = Vec::new(alloc);
-    let mut number = 1;
-    let mut rest = bytes;
-    while let Some((line, after)) = split_line(rest) {
-        if keep(&mut operations, read_line(line))? {
-            return Err(TraceFault::BadLine(number));
+/// What the bytes of a trace say that were read so far, where more may come.
+#[derive(Drop)]
+pub(crate) struct LineReader {
+    /// The operations of the lines that have ended.
+    operations: Vec<Operation>,
+    /// The number of the first of these lines that is of no form.
+    bad_line: Option<u64>,
+    /// The number of the line that hasn't ended, counted from 1.
+    number: u64,
+    /// The bytes of that line: all that is kept of what was read.
+    unfinished: Vec<u8>,
+}
+
+impl LineReader {
+    /// A reader that has read nothing. Takes no memory.
+    pub(crate) fn new(alloc: Global) -> LineReader
+        ensures { HasRead [] result }
+    {
+        LineReader {
+            operations: Vec::new(alloc),
+            bad_line: None,
+            number: 1,
+            unfinished: Vec::new(alloc),
         }
-        number += 1;
-        rest = after;
     }
-    let cut = keep(&mut operations, read_line(rest))?;
-    Ok(Trace {
-        operations: OperationList::new(operations),
-        cut,
-        bytes: bytes.len() as u64,
-    })
+
+    /// What the line means that hasn't ended, where these are the others of its bytes. Leaves it empty.
+    fn take_line(&mut self, others: &[u8]) -> Result<Meaning, TraceFault>
+        ensures meaning { IfOk result (λ meaning.
+            meaning ≡ meaning_of (self.old.unfinished.items ++ others.now)) }
+        ensures emptied { OnOk result (self.new.unfinished.items ≡ []) }
+        ensures operations { self.new.operations ≡ self.old.operations }
+        ensures bad_line { self.new.bad_line ≡ self.old.bad_line }
+        ensures number { self.new.number ≡ self.old.number }
+        ensures memory { IfErr result (λ fault. fault ≡ TraceFault.NoMemory) }
+    {
+        if self.unfinished.is_empty() {
+            return Ok(read_line(others));
+        }
+        self.unfinished.extend_from_slice(others)?;
+        let meaning = read_line(&self.unfinished);
+        self.unfinished.clear();
+        Ok(meaning)
+    }
+
+    /// Reads the others of a line's bytes and the end of that line.
+    fn read_end(&mut self, others: &[u8]) -> Result<(), TraceFault>
+        requires { self.old.number + 1 < 2 ^ 64 }
+        ensures read { OnOk result (HasNoEnd others.now → Reads self.old self.new (others.now ++ 10 ∷ [])) }
+        ensures number { OnOk result (self.new.number ≡ self.old.number + 1) }
+        ensures memory { IfErr result (λ fault. fault ≡ TraceFault.NoMemory) }
+    {
+        let meaning = self.take_line(others)?;
+        let bad = keep(&mut self.operations, meaning)?;
+        self.bad_line = self.bad_line.or(bad.then_some(self.number));
+        self.number += 1;
+        Ok(())
+    }
+
+    /// Reads the next bytes. A line that lies whole in them isn't copied.
+    pub(crate) fn read(&mut self, piece: &[u8]) -> Result<(), TraceFault>
+        requires { self.old.number + length piece.now < 2 ^ 64 }
+        ensures read { OnOk result (Reads self.old self.new piece.now) }
+        ensures memory { IfErr result (λ fault. fault ≡ TraceFault.NoMemory) }
+    {
+        let mut rest = piece;
+        while let Some((line, after)) = split_line(rest) {
+            self.read_end(line)?;
+            rest = after;
+        }
+        self.unfinished.extend_from_slice(rest)?;
+        Ok(())
+    }
+
+    /// The trace, where all of its bytes were read, so many.
+    pub(crate) fn finish(mut self, bytes: u64) -> Result<Trace, TraceFault>
+        ensures answer { (all : List ℕ) → HasRead all self → length all ≡ bytes → AnswersFor bytes all result }
+        ensures count { IfOk result (λ trace. trace.bytes ≡ bytes) }
+        ensures not_read { result ≢ Err TraceFault.ReadFault }
+        ensures not_long { result ≢ Err TraceFault.TooLong }
+    {
+        if let Some(line) = self.bad_line {
+            return Err(TraceFault::BadLine(line));
+        }
+        let cut = keep(&mut self.operations, read_line(&self.unfinished))?;
+        Ok(Trace {
+            operations: OperationList::new(self.operations),
+            cut,
+            bytes,
+        })
+    }
 }

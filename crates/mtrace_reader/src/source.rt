@@ -1,12 +1,13 @@
-// The bytes of a source, read to its end or to one byte past a limit.
-ghost use Rattle.std.specs.Prelude.{◌≡◌, ◌≢◌, ◌+◌, ◌<◌, ◌≤◌, ◌^◌, ℕ, List, Option, length, min, vec_len, IfOk, IfErr, IfSome, OnOk, Err};
+// The trace of a source, read to its end or to one byte past a limit.
+ghost use Rattle.std.specs.Prelude.{◌≡◌, ◌≢◌, ◌+◌, ◌<◌, ◌≤◌, ◌^◌, [], ◌∷◌, ◌++◌, Some, None, length, min, vec_len, IfOk, IfErr, IfSome, IsOk, OnOk, OnErr, Err};
 ghost use Rattle.pool_io.specs.Counts.{HasRisen};
 ghost use Rattle.pool_io.specs.Told.{HandsOut, IsAtEnd};
 ghost use Rattle.mtrace_reader.specs.Reading.{AnswersFor};
+ghost use Rattle.mtrace_reader.specs.Taken.{ReadsFor};
 
-use crate::reading::read_lines;
+use crate::reading::LineReader;
 use crate::{Trace, TraceFault};
-use pool_io::Files;
+use pool_io::{Failed, Files};
 use std::alloc::Global;
 
 /// The most bytes that a trace may have.
@@ -23,88 +24,63 @@ fn new_buffer(alloc: Global) -> Result<Vec<u8>, TraceFault>
     Ok(vec![in alloc; 0u8; BUFFER_BYTES]?)
 }
 
-/// Reads the next bytes of a source to the end of `bytes`, and answers how many came: 0 at the end alone.
-fn read_piece<F: Files>(
-    files: &mut F,
-    source: &mut F::Source,
-    bytes: &mut Vec<u8>,
-    buffer: &mut [u8],
-) -> Result<usize, TraceFault>
-    requires { 0 < length buffer.old }
-
-    ensures fits { IfOk result (λ count. count ≤ length buffer.old) }
-    ensures grown { IfOk result (λ count. vec_len bytes.new ≡ vec_len bytes.old + count) }
-    ensures next { OnOk result ((start : Option (List ℕ)) →
-        HandsOut start (F.left files.old source.old) bytes.old.items →
-        HandsOut start (F.left files.new source.new) bytes.new.items) }
-    ensures end { IfOk result (λ count. count ≡ 0 → IsAtEnd (F.left files.new source.new)) }
-
-    ensures names { F.told files.new ≡ F.told files.old }
-    ensures opens { F.opens files.new ≡ F.opens files.old }
-    ensures never_falls { F.faults files.old ≤ F.faults files.new }
-    ensures failed { result ≡ Err TraceFault.ReadFault → HasRisen (F.faults files.old) (F.faults files.new) }
-    ensures no_fault { result ≢ Err TraceFault.ReadFault → F.faults files.new ≡ F.faults files.old }
-    ensures not_long { result ≢ Err TraceFault.TooLong }
-    ensures not_bad { (line : ℕ) → result ≢ Err (TraceFault.BadLine line) }
-    ensures reliable { F.reliable files.old → F.reliable files.new }
-    ensures sure { F.reliable files.old → result ≢ Err TraceFault.ReadFault }
+/// How many bytes the next read asks for, where so many were taken.
+fn next_count(taken: u64, limit: u64) -> usize
+    requires { taken ≤ limit }
+    ensures some { 0 < result }
+    ensures fits { result ≤ BUFFER_BYTES }
+    ensures within { taken + result ≤ limit + 1 }
 {
-    let Ok(count) = files.read(source, buffer) else {
-        return Err(TraceFault::ReadFault);
-    };
-    bytes.extend_from_slice(&buffer[..count])?;
-    Ok(count)
+    let others = limit - taken;
+    if others < BUFFER_BYTES as u64 {
+        others as usize + 1
+    } else {
+        BUFFER_BYTES
+    }
 }
 
-/// The bytes that a source has left, where they are no more than the limit. Reads nothing past the byte after
-/// the limit, and nothing more once the source is at its end or failed.
-fn read_up_to<F: Files>(
-    alloc: Global,
+/// Reads the next bytes of a source into a buffer, and answers them: none at the end alone.
+fn read_piece<'a, F: Files>(
     files: &mut F,
-    mut source: F::Source,
-    limit: usize,
-) -> Result<Vec<u8>, TraceFault>
-    requires { limit ≤ 2 ^ 24 }
+    source: &mut F::Source,
+    buffer: &'a mut [u8],
+) -> Result<&'a [u8], Failed>
+    requires { 0 < length buffer.old }
 
-    ensures whole { IfOk result (λ bytes. IfSome (F.left files.old source) (λ left. left ≡ bytes.items)) }
-    ensures short { IfOk result (λ bytes. vec_len bytes ≤ limit) }
-    ensures long { result ≡ Err TraceFault.TooLong → IfSome (F.left files.old source) (λ left. limit < length left) }
-    ensures not_bad { (line : ℕ) → result ≢ Err (TraceFault.BadLine line) }
+    ensures fits { IfOk result (λ piece. length piece.now ≤ length buffer.old) }
+    ensures next { IfOk result (λ piece.
+        HandsOut (F.left files.old source.old) (F.left files.new source.new) piece.now) }
+    ensures end { IfOk result (λ piece. length piece.now ≡ 0 → IsAtEnd (F.left files.old source.old)) }
+    ensures reads { IfOk result (λ piece. F.reads files.new ≡ F.reads files.old ++ Some (length piece.now) ∷ []) }
+    ensures no_read { OnErr result (F.reads files.new ≡ F.reads files.old ++ None ∷ []) }
 
     ensures names { F.told files.new ≡ F.told files.old }
     ensures opens { F.opens files.new ≡ F.opens files.old }
     ensures never_falls { F.faults files.old ≤ F.faults files.new }
-    ensures failed { result ≡ Err TraceFault.ReadFault → HasRisen (F.faults files.old) (F.faults files.new) }
-    ensures no_fault { result ≢ Err TraceFault.ReadFault → F.faults files.new ≡ F.faults files.old }
+    ensures failed { OnErr result (HasRisen (F.faults files.old) (F.faults files.new)) }
+    ensures no_fault { OnOk result (F.faults files.new ≡ F.faults files.old) }
     ensures reliable { F.reliable files.old → F.reliable files.new }
-    ensures sure { F.reliable files.old → result ≢ Err TraceFault.ReadFault }
+    ensures sure { F.reliable files.old → IsOk result }
 {
-    let mut buffer = new_buffer(alloc)?;
-    let mut bytes = Vec::new(alloc);
-    while bytes.len() <= limit {
-        let most = BUFFER_BYTES.min(limit + 1 - bytes.len());
-        let count = read_piece(files, &mut source, &mut bytes, &mut buffer[..most])?;
-        if count == 0 {
-            return Ok(bytes);
-        }
-    }
-    Err(TraceFault::TooLong)
+    let count = files.read(source, buffer)?;
+    Ok(&buffer[..count])
 }
 
 /// Reads the trace that a source has left, of at most 2^24 bytes and at most `room` bytes.
 ///
-/// `ReadFault` comes where a read of the source failed, `TooLong` where more bytes than the limit were taken,
+/// `ReadFault` comes where a read of the source failed, `TooLong` where one byte more than the limit was taken,
 /// `BadLine` where the source was read to its end and a line is of no form, `NoMemory` where memory ran out.
-/// Opens nothing, and reads nothing past the byte after the limit.
+/// Opens nothing, and reads nothing past the byte after the limit, nor after a read that gave nothing or failed.
 pub fn read_trace<F: Files>(
     alloc: Global,
     files: &mut F,
-    source: F::Source,
+    mut source: F::Source,
     room: u64,
 ) -> Result<Trace, TraceFault>
-    ensures answer { IfSome (F.left files.old source) (λ left. AnswersFor (min room MOST_BYTES) left result) }
-    ensures limit { IfOk result (λ trace. trace.bytes ≤ min room MOST_BYTES) }
+    ensures answer { IfSome (F.left files.old source) (λ left. AnswersFor (min room (2 ^ 24)) left result) }
+    ensures limit { IfOk result (λ trace. trace.bytes ≤ min room (2 ^ 24)) }
     ensures few { IfOk result (λ trace. length trace.operations ≤ trace.bytes) }
+    ensures reads { ReadsFor (min room (2 ^ 24)) (F.reads files.old) (F.reads files.new) result }
 
     ensures names { F.told files.new ≡ F.told files.old }
     ensures opens { F.opens files.new ≡ F.opens files.old }
@@ -114,9 +90,20 @@ pub fn read_trace<F: Files>(
     ensures reliable { F.reliable files.old → F.reliable files.new }
     ensures sure { F.reliable files.old → result ≢ Err TraceFault.ReadFault }
 {
-    let limit = room.min(MOST_BYTES) as usize;
-    let bytes = read_up_to(alloc, files, source, limit)?;
-    read_lines(alloc, &bytes)
+    let limit = room.min(MOST_BYTES);
+    let mut buffer = new_buffer(alloc)?;
+    let mut reader = LineReader::new(alloc);
+    let mut taken = 0;
+    while taken <= limit {
+        let most = next_count(taken, limit);
+        let piece = read_piece(files, &mut source, &mut buffer[..most])?;
+        if piece.is_empty() {
+            return reader.finish(taken);
+        }
+        reader.read(piece)?;
+        taken += piece.len() as u64;
+    }
+    Err(TraceFault::TooLong)
 }
 
 #[cfg(test)]
@@ -131,31 +118,43 @@ mod tests {
     /// The operations of a trace and whether it is cut, or its fault.
     type Read<'a> = Result<(&'a [Operation], bool), TraceFault>;
 
-    /// Compares what a file reads as.
+    /// How many bytes a read gives at most.
+    const PIECES: [usize; 3] = [1, 7, 1 << 20];
+
+    /// Compares what a file reads as, whose call number `failing` fails.
+    fn check_piecewise(
+        rt: &(impl Abort + AllocGlobal),
+        text: &[u8],
+        room: u64,
+        failing: u64,
+        expected: Read<'_>,
+    ) -> Result<(), Fail> {
+        let alloc = rt.alloc();
+        for most in PIECES {
+            let file = (String::from_str(alloc, "f")?, Vec::from_slice(alloc, text)?);
+            let failing = vec![in alloc; failing]?;
+            let mut files = MemoryFiles::new(vec![in alloc; file]?, failing, most);
+            let source = files.open("f")?;
+            let trace = read_trace(alloc, &mut files, source, room);
+            let read = match &trace {
+                Ok(trace) => Ok((trace.operations.as_slice(), trace.cut)),
+                Err(fault) => Err(*fault),
+            };
+            let same = read == expected;
+            let shown = &text[..text.len().min(100)];
+            assert!(rt; same, "{shown:?} by pieces of {most}");
+        }
+        Ok(())
+    }
+
+    /// Compares what a file reads as, all of whose calls go well.
     fn check(
         rt: &(impl Abort + AllocGlobal),
         text: &[u8],
         room: u64,
         expected: Read<'_>,
     ) -> Result<(), Fail> {
-        let alloc = rt.alloc();
-        let file = (String::from_str(alloc, "f")?, Vec::from_slice(alloc, text)?);
-        let mut files = MemoryFiles {
-            files: vec![in alloc; file]?,
-            failing: Vec::new(alloc),
-            most: 7,
-            calls: 0,
-            opens: 0,
-            faults: 0,
-        };
-        let source = files.open("f")?;
-        let trace = read_trace(alloc, &mut files, source, room);
-        let read = match &trace {
-            Ok(trace) => Ok((trace.operations.as_slice(), trace.cut)),
-            Err(fault) => Err(*fault),
-        };
-        assert!(rt; read == expected, "{text:?} reads as {read:?}");
-        Ok(())
+        check_piecewise(rt, text, room, u64::MAX, expected)
     }
 
     #[test]
@@ -169,7 +168,7 @@ mod tests {
             address: 32,
             size: 16,
         };
-        let cases: [(&[u8], &[Operation], bool); 10] = [
+        let cases: [(&[u8], &[Operation], bool); 12] = [
             (b"", &[], false),
             (b"\n  \n= Start\n=\n = x + 0x10 0x8\n", &[], false),
             (
@@ -205,6 +204,15 @@ mod tests {
             ),
             (b"= Start\n+ 0x10 0x8\n@ a.out:[0x40", &[block], true),
             (b"+ 0x10 0x8\n- 0x10", &[block, release], false),
+            (b"+ 0x10 0x8\n= En", &[block], false),
+            (
+                b"> (nil) 0x8\n",
+                &[New {
+                    address: 0,
+                    size: 8,
+                }],
+                false,
+            ),
         ];
         for (text, operations, cut) in cases {
             check(&rt, text, MOST_BYTES, Ok((operations, cut)))?;
@@ -214,7 +222,7 @@ mod tests {
 
     #[test]
     fn bad_lines(rt: HostRuntime) -> Result<(), Fail> {
-        let cases: [(&[u8], u64); 10] = [
+        let cases: [(&[u8], u64); 12] = [
             (b"a + 0x10 0x8\n", 1),
             (b"+ 0X10 0x8\n", 1),
             (b"+ 0x10 8\n", 1),
@@ -225,6 +233,8 @@ mod tests {
             (b"\xff\n", 1),
             (b"\n- 0x10\n+\n- 0x10\n", 3),
             (b"- 0\n", 1),
+            (b"+\t0x10 0x8\n", 1),
+            (b"+\n\n-\n", 1),
         ];
         for (text, line) in cases {
             check(&rt, text, MOST_BYTES, Err(TraceFault::BadLine(line)))?;
@@ -237,5 +247,32 @@ mod tests {
         check(&rt, b"= End\n", 6, Ok((&[], false)))?;
         check(&rt, b"= End\n", 5, Err(TraceFault::TooLong))?;
         check(&rt, b"+\n+\n+\n", 5, Err(TraceFault::TooLong))
+    }
+    #[test]
+    fn a_failing_read_goes_before_what_the_lines_say(rt: HostRuntime) -> Result<(), Fail> {
+        check_piecewise(&rt, b"+ 0x10 0x8\n", 100, 1, Err(TraceFault::ReadFault))?;
+        check_piecewise(&rt, b"+\n", 100, 2, Err(TraceFault::ReadFault))?;
+        check_piecewise(&rt, b"+\n", 0, 2, Err(TraceFault::TooLong))
+    }
+
+    #[test]
+    fn lines_across_the_ends_of_buffers(rt: HostRuntime) -> Result<(), Fail> {
+        let alloc = rt.alloc();
+        let mut text = Vec::new(alloc);
+        let mut operations = Vec::new(alloc);
+        for _ in 0..20_000 {
+            text.extend_from_slice(b"+ 0x10 0x8\n- 0x10\n")?;
+            operations.push(New {
+                address: 16,
+                size: 8,
+            })?;
+            operations.push(Release { address: 16 })?;
+        }
+        check(&rt, &text, MOST_BYTES, Ok((&operations, false)))?;
+        let mut long = Vec::from_slice(alloc, b"@")?;
+        long.resize(200_000, b'x')?;
+        long.extend_from_slice(b" - 0x10\n- 0x10")?;
+        let twice = [Release { address: 16 }, Release { address: 16 }];
+        check(&rt, &long, MOST_BYTES, Ok((&twice, false)))
     }
 }

@@ -1,6 +1,7 @@
 // What a trace file says, and why one isn't read.
 ghost use Rattle.std.specs.Prelude.{◌≡◌};
 
+use pool_io::Failed;
 use std::alloc::{AllocError, AllocFailed};
 use std::error::Error;
 use std::fmt;
@@ -107,6 +108,16 @@ impl fmt::Display for TraceFault {
 
 impl Error for TraceFault {}
 
+impl From<Failed> for TraceFault {
+    ghost use Rattle.mtrace_reader.specs.declared.trace.TraceFault.TheVariants.{ReadFault};
+
+    ghost from_gives = { λ _ fault. fault ≡ ReadFault };
+
+    fn from(_failed: Failed) -> TraceFault {
+        TraceFault::ReadFault
+    }
+}
+
 impl From<AllocError> for TraceFault {
     ghost use Rattle.mtrace_reader.specs.declared.trace.TraceFault.TheVariants.{NoMemory};
 
@@ -124,5 +135,27 @@ impl<T: Drop> From<AllocFailed<T>> for TraceFault {
 
     fn from(_error: AllocFailed<T>) -> TraceFault {
         TraceFault::NoMemory
+    }
+}
+
+#[cfg(test)]
+mod tests {
+    use super::TraceFault;
+    use std::test::Fail;
+
+    #[test]
+    fn texts_and_numbers_of_faults(rt: HostRuntime) -> Result<(), Fail> {
+        let cases = [
+            (TraceFault::ReadFault, "the source failed", 1),
+            (TraceFault::TooLong, "too long", 2),
+            (TraceFault::BadLine(42), "line 42", 3),
+            (TraceFault::NoMemory, "no memory", 4),
+        ];
+        for (fault, text, number) in cases {
+            let shown = format!(in rt.alloc(); "{fault}")?;
+            let same = shown.as_str() == text && fault.number() == number;
+            assert!(rt; same, "{fault:?} is shown as {shown}");
+        }
+        Ok(())
     }
 }

@@ -7,7 +7,8 @@ use crate::steps::{Script, Step, StepList};
 use crate::trace::{Operation, Trace};
 use pool_model::NoMemory;
 use std::alloc::Global;
-use std::collections::HashMap;
+use std::collections::BTreeMap;
+use std::collections::btree_map::Entry;
 
 /// What a live address names.
 #[derive(Clone, Copy, Debug, PartialEq, Eq)]
@@ -21,7 +22,7 @@ enum Live {
 /// A script that is being written, and what each live address names.
 #[derive(Drop)]
 struct ScriptWriter {
-    live: HashMap<u64, Live>,
+    live: BTreeMap<u64, Live>,
     script: Script,
 }
 
@@ -31,7 +32,7 @@ impl ScriptWriter {
         ensures counted { count_of result.script ≡ 0 }
     {
         ScriptWriter {
-            live: HashMap::new(alloc),
+            live: BTreeMap::new(alloc),
             script: Script {
                 steps: StepList::new(Vec::new(alloc)),
                 news: 0,
@@ -69,16 +70,21 @@ impl ScriptWriter {
     {
         if address == 0 {
             self.script.failed += 1;
-        } else if self.live.contains_key(&address) {
-            self.script.twice += 1;
-        } else if size < bytes {
-            self.live.insert(address, Live::Big)?;
-            self.script.big += 1;
-        } else {
-            let slot = self.script.news;
-            self.live.insert(address, Live::Slot(slot))?;
-            self.script.steps.push(Step::Place { slot })?;
-            self.script.news += 1;
+            return Ok(());
+        }
+        match self.live.entry(address)? {
+            Entry::Occupied(_) => self.script.twice += 1,
+            Entry::Vacant(entry) => {
+                if size < bytes {
+                    entry.insert(Live::Big);
+                    self.script.big += 1;
+                } else {
+                    let slot = self.script.news;
+                    self.script.steps.push(Step::Place { slot })?;
+                    entry.insert(Live::Slot(slot));
+                    self.script.news += 1;
+                }
+            }
         }
         Ok(())
     }
@@ -116,6 +122,8 @@ mod tests {
     use super::script;
     use crate::steps::{Script, Step};
     use crate::trace::{Operation, OperationList, Trace};
+    use std::alloc::Global;
+    use std::hash::{FoldHasher, Hasher};
     use std::test::Fail;
 
     #[derive(Drop)]
@@ -225,6 +233,42 @@ mod tests {
             let same = made.steps.as_slice() == case.steps && numbers_of(&made) == case.numbers;
             assert!(rt; same, "{}: {made:?}", case.name);
         }
+        Ok(())
+    }
+    /// Addresses whose hashes by a hasher of a fixed seed agree in their lowest bits.
+    fn colliding(alloc: Global) -> Result<Vec<u64>, Fail> {
+        let mut addresses = Vec::new(alloc);
+        for address in 1..2_000_000u64 {
+            let mut hasher = FoldHasher::default();
+            hasher.write_u64(address);
+            if hasher.finish() % 1024 == 0 {
+                addresses.push(address)?;
+            }
+        }
+        Ok(addresses)
+    }
+
+    #[test]
+    fn addresses_that_would_collide(rt: HostRuntime) -> Result<(), Fail> {
+        let alloc = rt.alloc();
+        let addresses = colliding(alloc)?;
+        let mut operations = Vec::new(alloc);
+        for address in &addresses {
+            operations.push(new(*address, 8))?;
+        }
+        for address in &addresses {
+            operations.push(release(*address))?;
+        }
+        assert!(rt; operations.len() < 1 << 20);
+        let trace = Trace {
+            operations: OperationList::new(operations),
+            cut: false,
+            bytes: 0,
+        };
+        let made = script(alloc, &trace, 64)?;
+        let count = addresses.len();
+        let same = made.news as usize == count && made.twice == 0 && made.stray == 0;
+        assert!(rt; same && count > 1000, "{count} addresses, {} slots", made.news);
         Ok(())
     }
 }
