@@ -1,6 +1,6 @@
 -- What one more entry makes of the numbers of a history.
-use Rattle.std.proofs.Common.{◌≡◌, ℕ, ◌+◌, ◌<◌, ◌≤◌, ◌==◌, Bool, true, false, cond, refl, ◌∙◌, ap, inl, inr, arith, zero, suc, List, [], ◌∷◌, ◌++◌, length, take, drop, length-append, append-nil, Some, None}
-use Rattle.std.specs.Prelude.{fold, slice_get}
+use Rattle.std.proofs.Common.{◌≡◌, ℕ, ◌+◌, ◌<◌, ◌==◌, Bool, true, false, cond, refl, ◌∙◌, ap, inl, inr, arith, zero, suc, List, [], ◌∷◌, ◌++◌, length, take, drop, length-append, append-nil}
+use Rattle.std.specs.Prelude.{fold}
 use Rattle.std.proofs.lemmas.List.{take-append-le, take_all, take-take, length-take}
 use Rattle.std.proofs.lemmas.List.Elements.{filter-append}
 use Rattle.std.specs.List.{Contains}

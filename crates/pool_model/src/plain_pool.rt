@@ -95,4 +95,12 @@ mod tests {
         assert_eq!(rt; pool.get(0), Some(0));
         Ok(())
     }
+
+    #[test]
+    fn pool_of_no_blocks(rt: HostRuntime) -> Result<(), Fail> {
+        let mut pool = PlainPool::open(rt.alloc(), 0)?;
+        assert_eq!(rt; pool.get(0), None);
+        assert_eq!(rt; pool.get(1), None);
+        Ok(())
+    }
 }

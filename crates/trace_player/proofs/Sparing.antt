@@ -1,12 +1,12 @@
 -- How many blocks some steps hold, and whether any of them was refused one, a step on.
-use Rattle.std.proofs.Common.{◌≡◌, ℕ, ◌+◌, ◌-◌, ◌<◌, ◌≤◌, zero, suc, Bool, true, false, not, replicate, List, [], ◌∷◌, ◌++◌, length, refl, sym, ap, ◌∙◌, arith, append_assoc, append-nil, length-append}
+use Rattle.std.proofs.Common.{◌≡◌, ℕ, ◌-◌, ◌<◌, ◌≤◌, zero, suc, Bool, true, false, not, replicate, List, [], ◌∷◌, ◌++◌, length, refl, sym, ap, ◌∙◌, arith, append_assoc, append-nil, length-append}
 use Rattle.std.specs.List.{count_by}
 use Rattle.std.proofs.lemmas.List.{replicate-append-replicate}
 use Rattle.std.proofs.Math.Nat.{le-max_left}
 use Rattle.pool_model.specs.declared.entry.Entry.{Entry}
 use Rattle.pool_model.specs.declared.entry.Entry.TheVariants.{Got, Back, Dry}
 use Rattle.pool_model.specs.History.{held}
-use Rattle.pool_model.specs.Plain.{Plain, IsHeld, IsFull, IsLeftBy}
+use Rattle.pool_model.specs.Plain.{Plain, IsHeld, IsFull}
 use Rattle.pool_model.proofs.Histories.{held_more, held_got, held_back}
 use Rattle.pool_model.proofs.PlainSteps.{full_held}
 use Rattle.mtrace_reader.specs.declared.steps.Step.{Step}

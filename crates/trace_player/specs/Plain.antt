@@ -26,7 +26,8 @@ tallies_without_refusals scripts = map (λ script. tally_of script (no_refusals 
 -- where all blocks are held
 pub record PlayedInTurn (blocks : ℕ) (scripts : List Script) (tallies : List Tally) : Type 0 where
   pub history : List Entry
-  pub exact : (limits : Limits) → limits.processes ≡ length scripts → limits.blocks ≡ blocks → 0 < limits.batch_length → IsExact limits history
+  pub exact : (limits : Limits) → limits.processes ≡ length scripts → limits.blocks ≡ blocks → 0 < limits.batch_length
+      → IsExact limits history
   pub in_turn : IsInTurn (length scripts) history
   pub one_each : length tallies ≡ length scripts
   pub each : (i : ℕ) (script : Script) (tally : Tally) → slice_get scripts i ≡ Some script → slice_get tallies i ≡ Some tally

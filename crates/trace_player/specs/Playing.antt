@@ -39,7 +39,8 @@ slot_of (Place slot) = slot
 slot_of (Leave slot) = slot
 
 -- a slot's block is the one that it was given, and is held by its process
-pub record IsFilled (refused : List Bool) (blocks : List ℕ) (done : List Step) (entries : List Entry) (pool : Plain) (slot block : ℕ) : Type 0 where
+pub record IsFilled (refused : List Bool) (blocks : List ℕ) (done : List Step) (entries : List Entry) (pool : Plain)
+    (slot block : ℕ) : Type 0 where
   pub placed : slot < length refused
   pub given : is_refused refused slot ≡ false
   pub block_of : slice_index blocks slot ≡ block
@@ -62,9 +63,11 @@ pub record NamesSlots (refused : List Bool) (blocks : List ℕ) (done : List Ste
   pub block_each : length blocks ≡ length refused
 
 -- the slots have the blocks that were given to them, until they are left, and no two have the same
-pub record HoldsBlocks (refused : List Bool) (blocks : List ℕ) (done : List Step) (entries : List Entry) (pool : Plain) (slots : List (Option ℕ)) : Type 0 where
+pub record HoldsBlocks (refused : List Bool) (blocks : List ℕ) (done : List Step) (entries : List Entry) (pool : Plain)
+    (slots : List (Option ℕ)) : Type 0 where
   pub filled : (slot block : ℕ) → block_in slots slot ≡ Some block → IsFilled refused blocks done entries pool slot block
-  pub empty : (slot : ℕ) → slot < length refused → block_in slots slot ≡ None → (is_refused refused slot ≡ true) ⊎ Contains done (Leave slot)
+  pub empty : (slot : ℕ) → slot < length refused → block_in slots slot ≡ None
+      → (is_refused refused slot ≡ true) ⊎ Contains done (Leave slot)
   pub apart : (a b block : ℕ) → block_in slots a ≡ Some block → block_in slots b ≡ Some block → a ≡ b
 
 -- the tally is that of the steps so far, and counts the slots that have a block as left
@@ -73,8 +76,8 @@ pub record CountsSteps (script : Script) (refused : List Bool) (done : List Step
   pub answered : count_by (fills refused) done + count_by (λ value. value) refused ≡ length refused
   pub tallied : tally ≡ tally_after script refused done
 
--- no more blocks are held than before and in the slots, and nothing was refused where the blocks suffice for those that were held
--- before and for the most that the steps hold
+-- no more blocks are held than before and by the steps, and nothing was refused where the blocks suffice for those that were held
+-- before and for the most that the steps hold without refusals
 pub record IsSpared (refused : List Bool) (done : List Step) (entries : List Entry) (old : Plain) : Type 0 where
   pub few : (past : List Entry) → IsLeftBy past old → length (held (past ++ entries)) ≤ length (held past) + holding refused done
   pub enough : (past : List Entry) → IsLeftBy past old → length (held past) + peak_of [] done ≤ old.blocks

@@ -220,6 +220,7 @@ mod tests {
         Ok(())
     }
 
+    // The same resize by two files: each holds one block at most, and keeps one.
     #[test]
     fn tallies_of_two_files(rt: HostRuntime) -> Result<(), Fail> {
         let resize = [new(0x10), release(0x10), new(0x20)];
@@ -227,11 +228,21 @@ mod tests {
             scripted(&rt, rt.alloc(), &resize)?,
             scripted(&rt, rt.alloc(), &resize)?,
         ];
-        let each = tally([2, 1, 0, 0, 0, 0, 0, 1, 1, 0]);
-        assert_eq!(rt;
-            play_plain(rt.alloc(), 4096, &scripts)?.as_slice(),
-            [each, each].as_slice()
-        );
+        let served = tally([2, 1, 0, 0, 0, 0, 0, 1, 1, 0]);
+        let refused = tally([2, 0, 0, 0, 0, 0, 2, 0, 0, 0]);
+        let cases = [
+            (4096, [served, served]),
+            (2, [served, served]),
+            (1, [served, refused]),
+            (0, [refused, refused]),
+        ];
+        for (blocks, tallies) in &cases {
+            assert_eq!(rt;
+                play_plain(rt.alloc(), *blocks, &scripts)?.as_slice(),
+                tallies.as_slice(),
+                "{blocks} blocks"
+            );
+        }
         Ok(())
     }
 }
