@@ -1,4 +1,4 @@
-pub mod Growing
+pub mod Sums
 pub mod Reports
 pub mod FilesRead
 pub mod Endings

@@ -1,9 +1,8 @@
 -- How a run ends: its status, and its line on the error sink.
-use Rattle.std.specs.Prelude.{ℕ, Result, Ok, Err, List, [], ◌∷◌, codes, decimal}
+use Rattle.std.specs.Prelude.{ℕ, Result, Ok, Err, List, [], ◌++◌, codes, decimal}
 use Rattle.command_words.specs.declared.fault.WordsFault.{WordsFault}
 use Rattle.command_words.specs.declared.fault.WordsFault.TheVariants.{Faulty, NoMemory}
 use Rattle.word_layout.specs.Faults.{number_of}
-use Rattle.pool_cli.specs.Pieces.{texts}
 use Rattle.pool_cli.specs.declared.ending.Ending.{Ending}
 use Rattle.pool_cli.specs.declared.ending.Ending.TheVariants.{Done, Words, Shape, Read, Long, Line, Write, Memory}
 
@@ -18,14 +17,18 @@ status_of (Line file line) = 6
 status_of Write = 7
 status_of Memory = 8
 
+-- the beginning of the text of an ending at a file
+abbrev pub file_text : ℕ → List ℕ
+file_text file = codes "pooltrace: file " ++ decimal file
+
 -- the text of an ending on the error sink
 abbrev pub line_of : Ending → List ℕ
 line_of Done = []
 line_of Words = codes "pooltrace: words\n"
-line_of (Shape fault) = texts (codes "pooltrace: shape " ∷ decimal (number_of fault) ∷ codes "\n" ∷ [])
-line_of (Read file) = texts (codes "pooltrace: file " ∷ decimal file ∷ codes " read\n" ∷ [])
-line_of (Long file) = texts (codes "pooltrace: file " ∷ decimal file ∷ codes " long\n" ∷ [])
-line_of (Line file line) = texts (codes "pooltrace: file " ∷ decimal file ∷ codes " line " ∷ decimal line ∷ codes "\n" ∷ [])
+line_of (Shape fault) = codes "pooltrace: shape " ++ decimal (number_of fault) ++ codes "\n"
+line_of (Read file) = file_text file ++ codes " read\n"
+line_of (Long file) = file_text file ++ codes " long\n"
+line_of (Line file line) = file_text file ++ codes " line " ++ decimal line ++ codes "\n"
 line_of Write = codes "pooltrace: write\n"
 line_of Memory = codes "pooltrace: memory\n"
 

@@ -1,6 +1,5 @@
 pub mod Causes
 pub mod Ending
-pub mod Pieces
+pub mod Outside
 pub mod Scripts
 pub mod Shapes
-pub mod Totals

@@ -2,7 +2,7 @@
 #![tactic(auto)]
 
 mod ending;
-mod pieces;
+mod line;
 mod program;
 mod reading;
 mod report;

@@ -1,9 +1,14 @@
 // The top call.
-ghost use Rattle.std.specs.Prelude.{◌≡◌, ◌⊎◌, ◌^◌, ◌<◌, Some, Option, IfOk, IfErr, map, string_bytes};
+ghost use Rattle.std.specs.Prelude.{◌≡◌, ◌⊎◌, ◌^◌, ◌<◌, List, Some, Option, IfOk, IfErr, map, string_bytes};
 ghost use Rattle.command_words.specs.declared.command.Command.{Command};
 ghost use Rattle.command_words.specs.Meant.{meant};
 ghost use Rattle.pool_cli.specs.Ending.{ending_of};
-ghost use Rattle.pool_cli.specs.Causes.{CauseOf, Ends, IsTold, IsUnhindered, outside};
+ghost use Rattle.pool_io.specs.Told.{GrowsBy};
+ghost use Rattle.mtrace_reader.specs.declared.steps.Script.{Script};
+ghost use Rattle.trace_player.specs.Plain.{tallies_without_refusals};
+ghost use Rattle.trace_player.specs.Report.{report};
+ghost use Rattle.pool_cli.specs.Causes.{CauseOf, Ends, IsAmple, IsSure, IsTold, IsUnhindered};
+ghost use Rattle.pool_cli.specs.Outside.{outside};
 ghost use Rattle.pool_cli.specs.Shapes.{IsShapeOf, IsRefused};
 
 use crate::reading::read_files;
@@ -33,14 +38,19 @@ pub fn run<R: Threads + Sync, F: Files, K: Sink, G: Gate + Sync>(
 ) -> Ended
     requires { F.opens files.old < 2 ^ 63 }
     ensures ends { Ends (meant (map string_bytes words.now))
-        (outside (F.told files.old) (F.opens files.old) (F.faults files.old) (K.written out.old) (K.faults out.old))
-        (outside (F.told files.new) (F.opens files.new) (F.faults files.new) (K.written out.new) (K.faults out.new))
-        (IsTold (K.written err.old) (K.written err.new) (K.faults err.old) (K.faults err.new))
+        (outside F.Files files.old K.Sink out.old)
+        (outside F.Files files.new K.Sink out.new)
+        (IsTold K.Sink err.old err.new)
         result.status }
     ensures unhindered { IsUnhindered (meant (map string_bytes words.now))
-        (outside (F.told files.old) (F.opens files.old) (F.faults files.old) (K.written out.old) (K.faults out.old))
-        (outside (F.told files.new) (F.opens files.new) (F.faults files.new) (K.written out.new) (K.faults out.new))
+        (outside F.Files files.old K.Sink out.old)
+        (outside F.Files files.new K.Sink out.new)
         → (result.status ≡ 0) ⊎ (result.status ≡ 8) }
+    ensures sure { IsSure (meant (map string_bytes words.now)) (outside F.Files files.old K.Sink out.old)
+        → (result.status ≡ 0) ⊎ (result.status ≡ 8) }
+    ensures enough { (scripts : List Script) → IsAmple (meant (map string_bytes words.now)) (F.told files.old) scripts
+        → result.status ≡ 0
+        → GrowsBy (K.written out.old) (K.written out.new) (report (tallies_without_refusals scripts)) }
 {
     let _ = rt;
     let _ = gate;
@@ -60,8 +70,8 @@ fn work<F: Files, K: Sink>(
 ) -> Result<(), Ending>
     requires { F.opens files.old < 2 ^ 63 }
     ensures { CauseOf (meant (map string_bytes words.now))
-        (outside (F.told files.old) (F.opens files.old) (F.faults files.old) (K.written out.old) (K.faults out.old))
-        (outside (F.told files.new) (F.opens files.new) (F.faults files.new) (K.written out.new) (K.faults out.new))
+        (outside F.Files files.old K.Sink out.old)
+        (outside F.Files files.new K.Sink out.new)
         (ending_of result) }
 {
     let play = play_of(read_words(alloc, words)?);
@@ -86,8 +96,8 @@ fn play_files<F: Files, K: Sink>(
 ) -> Result<(), Ending>
     requires { F.opens files.old < 2 ^ 63 }
     ensures { (meaning : Option Command) → meaning ≡ Some (Command.Play play.now) → CauseOf meaning
-        (outside (F.told files.old) (F.opens files.old) (F.faults files.old) (K.written out.old) (K.faults out.old))
-        (outside (F.told files.new) (F.opens files.new) (F.faults files.new) (K.written out.new) (K.faults out.new))
+        (outside F.Files files.old K.Sink out.old)
+        (outside F.Files files.new K.Sink out.new)
         (ending_of result) }
 {
     let shape = shape_of(play)?;

@@ -28,7 +28,8 @@ fn read_file<F: Files>(
     size: u64,
 ) -> Result<FileScript, TraceFault>
     requires { F.opens files.old < 2 ^ 64 - 1 }
-    ensures answer { (bytes : List ℕ) → F.told files.old name.now ≡ Some bytes → FileAnswers room size bytes result }
+    ensures answer { (bytes : List ℕ) → F.told files.old name.now ≡ Some bytes →
+        FileAnswers (F.reliable files.old) room size bytes result }
     ensures within { IfOk result (λ file. file.bytes ≤ room) }
     ensures well_formed { IfOk result (λ file. IsWellFormed file.script) }
 
@@ -36,6 +37,7 @@ fn read_file<F: Files>(
     ensures opens { F.opens files.new ≡ F.opens files.old + 1 }
     ensures never_falls { F.faults files.old ≤ F.faults files.new }
     ensures failed { result ≡ Err TraceFault.ReadFault → HasRisen (F.faults files.old) (F.faults files.new) }
+    ensures reliable { F.reliable files.old → F.reliable files.new }
 {
     let Ok(source) = files.open(name) else {
         return Err(TraceFault::ReadFault);
@@ -73,8 +75,8 @@ pub(crate) fn read_files<F: Files>(
     ensures scripts { IfOk result
         (λ scripts. ReadsAll size (F.told files.old) (map string_bytes names.now) scripts.items) }
     ensures well_formed { IfOk result (λ scripts. All IsWellFormed scripts.items) }
-    ensures stopped { IfErr result
-        (StopsReading (F.told files.old) (map string_bytes names.now) (F.opens files.old) (F.opens files.new) (F.faults files.old) (F.faults files.new)) }
+    ensures opened { OnOk result (F.opens files.new ≡ F.opens files.old + length names.now) }
+    ensures stopped { IfErr result (StopsReading F.Files files.old files.new (map string_bytes names.now)) }
 {
     let mut scripts = Vec::new(alloc);
     let mut taken = 0;

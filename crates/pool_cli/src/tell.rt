@@ -1,68 +1,60 @@
 // The line on the error sink.
-ghost use Rattle.std.specs.Prelude.{◌≡◌, ◌≤◌, [], ◌∷◌, decimal, OnOk, OnErr};
-ghost use Rattle.pool_io.specs.Counts.{HasRisen};
-ghost use Rattle.pool_io.specs.Told.{GrowsBy, GrowsByPart};
-ghost use Rattle.pool_cli.specs.Pieces.{texts};
-ghost use Rattle.pool_cli.specs.Ending.{line_of};
+ghost use Rattle.std.specs.Prelude.{◌≡◌, ◌≤◌};
+ghost use Rattle.arrayvec.specs.ArrayString.{array_string_len};
+ghost use Rattle.pool_io.specs.Writes.{Writes};
+ghost use Rattle.pool_cli.specs.Ending.{file_text, line_of};
 
 use crate::Ending;
-use crate::pieces::write_each;
-use itoa::Buffer;
+use crate::line::{Line, push_number};
 use pool_io::{Failed, Sink, write_whole};
 
-/// Writes a number between two texts.
-fn tell_number<K: Sink>(err: &mut K, before: &[u8], number: u64, after: &[u8]) -> Result<(), Failed>
-    ensures whole { OnOk result
-        (GrowsBy (K.written err.old) (K.written err.new) (texts (before.now ∷ decimal number ∷ after.now ∷ []))) }
-    ensures part { OnErr result
-        (GrowsByPart (K.written err.old) (K.written err.new) (texts (before.now ∷ decimal number ∷ after.now ∷ []))) }
-
-    ensures never_falls { K.faults err.old ≤ K.faults err.new }
-    ensures failed { OnErr result (HasRisen (K.faults err.old) (K.faults err.new)) }
-    ensures no_fault { OnOk result (K.faults err.new ≡ K.faults err.old) }
+/// The beginning of the line of an ending at a file.
+fn file_line(file: u64) -> Line
+    ensures text { result.bytes ≡ file_text file }
+    ensures length { array_string_len result ≤ 56 }
 {
-    let mut digits = Buffer::new();
-    write_each(err, &[before, digits.format(number).as_bytes(), after])
+    let mut line = Line::new();
+    line.push_str("pooltrace: file ");
+    push_number(&mut line, u128::from(file));
+    line
 }
 
-/// Writes the line of a bad line.
-fn tell_line<K: Sink>(err: &mut K, file: u64, line: u64) -> Result<(), Failed>
-    ensures whole { OnOk result
-        (GrowsBy (K.written err.old) (K.written err.new) (line_of (Ending.Line file line))) }
-    ensures part { OnErr result
-        (GrowsByPart (K.written err.old) (K.written err.new) (line_of (Ending.Line file line))) }
-
-    ensures never_falls { K.faults err.old ≤ K.faults err.new }
-    ensures failed { OnErr result (HasRisen (K.faults err.old) (K.faults err.new)) }
-    ensures no_fault { OnOk result (K.faults err.new ≡ K.faults err.old) }
+/// The line of an ending.
+fn ending_line(ending: Ending) -> Line
+    ensures { result.bytes ≡ line_of ending }
 {
-    let mut file_digits = Buffer::new();
-    let mut line_digits = Buffer::new();
-    let file = file_digits.format(file).as_bytes();
-    let line = line_digits.format(line).as_bytes();
-    write_each(err, &[b"pooltrace: file ", file, b" line ", line, b"\n"])
-}
-
-/// Writes the line of an ending.
-pub(crate) fn tell<K: Sink>(err: &mut K, ending: Ending) -> Result<(), Failed>
-    ensures whole { OnOk result (GrowsBy (K.written err.old) (K.written err.new) (line_of ending)) }
-    ensures part { OnErr result
-        (GrowsByPart (K.written err.old) (K.written err.new) (line_of ending)) }
-
-    ensures never_falls { K.faults err.old ≤ K.faults err.new }
-    ensures failed { OnErr result (HasRisen (K.faults err.old) (K.faults err.new)) }
-    ensures no_fault { OnOk result (K.faults err.new ≡ K.faults err.old) }
-{
+    let mut line = Line::new();
     match ending {
-        Ending::Done => write_whole(err, b""),
-        Ending::Words => write_whole(err, b"pooltrace: words\n"),
+        Ending::Done => {}
+        Ending::Words => line.push_str("pooltrace: words\n"),
         Ending::Shape(fault) => {
-            tell_number(err, b"pooltrace: shape ", u64::from(fault.number()), b"\n")
+            line.push_str("pooltrace: shape ");
+            push_number(&mut line, u128::from(fault.number()));
+            line.push_str("\n");
         }
-        Ending::Read { file } => tell_number(err, b"pooltrace: file ", file, b" read\n"),
-        Ending::Long { file } => tell_number(err, b"pooltrace: file ", file, b" long\n"),
-        Ending::Line { file, line } => tell_line(err, file, line),
-        Ending::Write => write_whole(err, b"pooltrace: write\n"),
-        Ending::Memory => write_whole(err, b"pooltrace: memory\n"),
+        Ending::Read { file } => {
+            line = file_line(file);
+            line.push_str(" read\n");
+        }
+        Ending::Long { file } => {
+            line = file_line(file);
+            line.push_str(" long\n");
+        }
+        Ending::Line { file, line: number } => {
+            line = file_line(file);
+            line.push_str(" line ");
+            push_number(&mut line, u128::from(number));
+            line.push_str("\n");
+        }
+        Ending::Write => line.push_str("pooltrace: write\n"),
+        Ending::Memory => line.push_str("pooltrace: memory\n"),
     }
+    line
+}
+
+/// Writes the line of an ending, in one piece.
+pub(crate) fn tell<K: Sink>(err: &mut K, ending: Ending) -> Result<(), Failed>
+    ensures { Writes K.Sink (line_of ending) err.old err.new result }
+{
+    write_whole(err, ending_line(ending).as_str().as_bytes())
 }

@@ -54,14 +54,7 @@ fn failing_files(
     for (name, bytes) in files {
         owned.push((String::from_str(alloc, name)?, bytes.to_vec(alloc)?))?;
     }
-    Ok(MemoryFiles {
-        files: owned,
-        failing: vec![in alloc; failing]?,
-        most,
-        calls: 0,
-        opens: 0,
-        faults: 0,
-    })
+    Ok(MemoryFiles::new(owned, vec![in alloc; failing]?, most))
 }
 
 // Files of which none fails and each is read at once.
@@ -175,8 +168,22 @@ fn first_report(rt: HostRuntime) -> Result<(), Fail> {
 #[test]
 fn reports_of_one_file(rt: HostRuntime) -> Result<(), Fail> {
     let alloc = rt.alloc();
-    let cases: [(&str, &str, u64, &[u8], &str); 11] = [
+    let cases: [(&str, &str, u64, &[u8], &str); 13] = [
         ("empty file", "pooltrace play f", 0, b"", ZEROS),
+        (
+            "last piece that is skipped",
+            "pooltrace play f",
+            1,
+            b"= En",
+            "1 0 0 0 0 0 0 1 1 0",
+        ),
+        (
+            "last piece that is cut",
+            "pooltrace play f",
+            1,
+            b"En",
+            "1 0 0 0 0 0 0 1 1 1",
+        ),
         (
             "killed program",
             "pooltrace play f",
@@ -261,14 +268,44 @@ fn reports_of_one_file(rt: HostRuntime) -> Result<(), Fail> {
 #[test]
 fn report_of_two_files(rt: HostRuntime) -> Result<(), Fail> {
     let alloc = rt.alloc();
-    let mut files = files_of(alloc, &[("f", RESIZE), ("g", RESIZE)])?;
-    let outcome = run_line(&rt, alloc, "pooltrace play f g", &mut files)?;
     let text = report(
         alloc,
         &["2 1 0 0 0 0 0 1 1 0", "2 1 0 0 0 0 0 1 1 0"],
         "4 2 0 0 0 0 0 2 2 0",
     )?;
-    assert_eq!(rt; outcome.parts(), (0, text.as_str(), ""));
+    for line in ["pooltrace play f g", "pooltrace play f f"] {
+        let mut files = files_of(alloc, &[("f", RESIZE), ("g", RESIZE)])?;
+        let outcome = run_line(&rt, alloc, line, &mut files)?;
+        assert_eq!(rt; outcome.parts(), (0, text.as_str(), ""), "{line}");
+        assert_eq!(rt; files.opens, 2, "{line}");
+    }
+    Ok(())
+}
+
+#[test]
+fn each_line_is_one_write(rt: HostRuntime) -> Result<(), Fail> {
+    let alloc = rt.alloc();
+    for (line, outs, errs) in [
+        ("pooltrace play f", 2, 0),
+        ("pooltrace play f f f", 4, 0),
+        ("pooltrace play g", 0, 1),
+        ("pooltrace", 0, 1),
+    ] {
+        let words = words_of(alloc, line)?;
+        let mut files = files_of(alloc, &[("f", FIRST_TRACE), ("g", b"bad\n")])?;
+        let mut out = failing_sink(alloc, AMPLE, AMPLE, NEVER)?;
+        let mut err = failing_sink(alloc, AMPLE, AMPLE, NEVER)?;
+        run(
+            &rt,
+            alloc,
+            words.as_slice(),
+            &mut files,
+            &mut out,
+            &mut err,
+            &OpenGate,
+        );
+        assert_eq!(rt; (out.calls, err.calls), (outs, errs), "{line}");
+    }
     Ok(())
 }
 
@@ -290,6 +327,7 @@ fn faulty_words_and_refused_shapes_open_no_file(rt: HostRuntime) -> Result<(), F
             "pooltrace: words\n",
         ),
         (many.as_str(), 3, "pooltrace: shape 2\n"),
+        ("pooltrace play --batches 0 f", 3, "pooltrace: shape 3\n"),
         ("pooltrace play --batches 1 f", 3, "pooltrace: shape 3\n"),
         (
             "pooltrace play --quantum 3 --batches 1 f",

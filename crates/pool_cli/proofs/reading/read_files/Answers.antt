@@ -1,5 +1,6 @@
-use Rattle.std.proofs.Common.{◌≡◌, ◌+◌, ◌∷◌, [], ◌++◌, ap, ◌∙◌, arith, Err}
+use Rattle.std.proofs.Common.{◌≡◌, ◌+◌, ◌∷◌, [], ◌++◌, refl, ap, ◌∙◌, arith, Err}
 use Rattle.std.proofs.lemmas.List.Elements.{All-push}
+use Rattle.mtrace_reader.specs.declared.trace.TraceFault.TheVariants.{NoMemory}
 use Rattle.mtrace_reader.specs.Script.{IsWellFormed}
 use Rattle.pool_cli.proofs.FilesRead.{name_at, reads_next, stops_next}
 use Rattle.pool_cli.proofs.reading.read_files.Goals as goal
@@ -10,22 +11,33 @@ returns-in-Err-clause-stopped g c =
       file = c.loop-index.index + 1;
       fault = c.in-Err.fault;
       is = c.ending_at.ensures;
-      stops = stops_next c.args.size _ _ c.loop-index.index c.loop-index.taken c.loop-index.scripts.items _ c.in-Err.fault _ _ _ (g.F.Files.faults c.loop-index.files) _
+      opened = omega (arith, c.in-Err.ensures.opens, c.loop-index.invariant.opens);
+      stops = stops_next g.F.Files _ c.loop-index.files _ c.args.size _ c.loop-index.index c.loop-index.taken c.loop-index.scripts.items _ c.in-Err.fault
           (name_at c.args.names.now c.loop-index.index _ c.loop-index-test.true c.index-names-index.is) c.loop-index.invariant.reads
           (λ bytes has. c.in-Err.ensures.answer bytes (ap (λ (told : _). told c.as_str.result.now) c.loop-index.invariant.names ∙ ap (g.F.Files.told c.args.files.now) c.as_str.ensures.value ∙ has))
-          (omega (arith, c.in-Err.ensures.opens, c.loop-index.invariant.opens)) c.loop-index.invariant.never_falls (λ e. c.in-Err.ensures.failed (ap Err e));
+          c.loop-index.invariant.reliable c.loop-index.invariant.never_falls (λ e. c.in-Err.ensures.failed (ap Err e));
     }
+
+pub returns-in_default-clause-stopped : goal.returns-in_default-clause-stopped
+returns-in_default-clause-stopped g c = record {
+  file = c.loop-index.index + 1;
+  fault = NoMemory;
+  is = refl;
+  opened = omega (arith, c.read_file.ensures.opens, c.loop-index.invariant.opens);
+  stops = tt;
+}
 
 pub loop-index-preserved : goal.loop-index-preserved
 loop-index-preserved g c =
     let pushed : c.push.new.self.items ≡ c.loop-index.scripts.items ++ c.in-Ok.file.script ∷ [] = c.in-Ok-push.ensures.items in
     record {
-      reads = rw pushed (reads_next c.args.size _ _ c.loop-index.index c.loop-index.taken c.loop-index.scripts.items _ c.in-Ok.file
+      reads = rw pushed (reads_next (g.F.Files.reliable c.loop-index.files) c.args.size _ _ c.loop-index.index c.loop-index.taken c.loop-index.scripts.items _ c.in-Ok.file
           (name_at c.args.names.now c.loop-index.index _ c.loop-index-test.true c.index-names-index.is) c.loop-index.invariant.reads
           (λ bytes has. c.in-Ok.ensures.answer bytes (ap (λ (told : _). told c.as_str.result.now) c.loop-index.invariant.names ∙ ap (g.F.Files.told c.args.files.now) c.as_str.ensures.value ∙ has))
           c.in-Ok.ensures.within);
       well_formed = rw pushed (All-push IsWellFormed c.loop-index.scripts.items c.in-Ok.file.script c.loop-index.invariant.well_formed c.in-Ok.ensures.well_formed);
       names = c.read_file.ensures.names ∙ c.loop-index.invariant.names;
       opens = omega (arith, c.read_file.ensures.opens, c.loop-index.invariant.opens);
+      reliable = λ sure. c.read_file.ensures.reliable (c.loop-index.invariant.reliable sure);
       never_falls = omega (arith, c.read_file.ensures.never_falls, c.loop-index.invariant.never_falls);
     }

@@ -10,5 +10,6 @@ invariant-loop-index g l = record {
   well_formed : All IsWellFormed l.scripts.items;
   names : g.F.Files.told l.files ≡ g.F.Files.told l.initial.files;
   opens : g.F.Files.opens l.files ≡ g.F.Files.opens l.initial.files + l.index;
+  reliable : g.F.Files.reliable l.initial.files → g.F.Files.reliable l.files;
   never_falls : g.F.Files.faults l.initial.files ≤ g.F.Files.faults l.files;
 }

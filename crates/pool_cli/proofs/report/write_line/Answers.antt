@@ -1,17 +1,16 @@
-use Rattle.std.proofs.lemmas.Result.{err_from_is_err_and, on_ok_weaker, on_err_weaker}
-use Rattle.pool_cli.proofs.Reports.{line_whole, line_part_second, line_part_third}
-use Rattle.pool_cli.specs.Totals.{tally_of}
+use Rattle.std.proofs.Common.{List, ℕ, ◌∙◌, subst, arith}
+use Rattle.pool_io.specs.Writes.{Writes}
+use Rattle.trace_player.specs.Report.{sums_of}
+use Rattle.pool_cli.proofs.Sums.{line_more, line_whole}
 use Rattle.pool_cli.proofs.report.write_line.Goals as goal
 
-pub returns-in_err-write_columns-clause-part : goal.returns-in_err-write_columns-clause-part
-returns-in_err-write_columns-clause-part g c =
-    let p = err_from_is_err_and c.from_residual-in_err-write_columns.result c.from_residual-in_err-write_columns.ensures.1 in
-    rw p.1 (line_part_second _ _ _ c.args.label.now (tally_of c.args.totals.now) _ c.columns.ensures c.in_ok-write_each.ensures.whole c.in_err-write_columns.ensures.part)
+pub loop-index-preserved : goal.loop-index-preserved
+loop-index-preserved g c = record {
+  text = line_more c.args.label.now (sums_of c.args.tallies.now) c.loop-index.index _ _ _ c.column_of_sums-number.ensures.column c.loop-index.invariant.text c.push_column.ensures.text;
+  short = omega arith;
+}
 
-pub returns-clause-whole : goal.returns-clause-whole
-returns-clause-whole g c =
-    on_ok_weaker c.write_whole.result (line_whole _ _ _ _ c.args.label.now (tally_of c.args.totals.now) _ c.columns.ensures c.in_ok-write_each.ensures.whole c.in_ok-write_columns.ensures.whole) c.write_whole.ensures.whole
-
-pub returns-clause-part : goal.returns-clause-part
-returns-clause-part g c =
-    on_err_weaker c.write_whole.result (line_part_third _ _ _ _ c.args.label.now (tally_of c.args.totals.now) _ c.columns.ensures c.in_ok-write_each.ensures.whole c.in_ok-write_columns.ensures.whole) c.write_whole.ensures.part
+pub returns : goal.returns
+returns g c =
+    let Text : List ℕ → Type 0 = λ text. Writes g.K.Sink text c.args.out.now c.write_whole.new.out c.write_whole.result in
+    subst Text (c.as_bytes.ensures.value ∙ c.as_str.ensures.value ∙ line_whole c.args.label.now (sums_of c.args.tallies.now) c.loop-index.index _ _ (omega arith) c.loop-index.invariant.text c.push_str-3.ensures.bytes) c.write_whole.ensures
