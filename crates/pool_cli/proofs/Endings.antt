@@ -7,7 +7,7 @@ use Rattle.command_words.specs.declared.command.Command.TheVariants.{Play as Pla
 use Rattle.command_words.specs.declared.command.Play.{Play}
 use Rattle.word_layout.specs.declared.fault.ShapeFault.{ShapeFault}
 use Rattle.word_layout.specs.declared.fault.ShapeFault.TheVariants.{NoProcess, ManyProcesses, FewBatches, BadQuantum, ManyBlocks, WideBlock}
-use Rattle.word_layout.specs.Sizes.{Sizes, IsLength, blocks}
+use Rattle.word_layout.specs.Sizes.{Sizes, IsLength, blocks, limits_of}
 use Rattle.word_layout.specs.Faults.{HasFault, IsFirstFault, rank}
 use Rattle.word_layout.proofs.Lengths.{one_length}
 use Rattle.word_layout.proofs.Limits.{two_blocks_a_batch}
@@ -28,7 +28,7 @@ use Rattle.trace_player.specs.Report.{report}
 use Rattle.pool_cli.specs.declared.ending.Ending.{Ending}
 use Rattle.pool_cli.specs.declared.ending.Ending.TheVariants.{Done, Words, Shape, Read, Long, Line, Write, Memory}
 use Rattle.pool_cli.specs.Ending.{status_of}
-use Rattle.pool_cli.specs.Causes.{CauseOf, Ends, EndsAtFile, EndsAtShape, EndsPlayed, GivesTallies, HasEnoughBlocks, Hold, IsAccepted, IsAmple, IsPlayable, IsPlayed, IsScriptOf, IsSure, IsUnhindered, IsWithin, limits_of, taken}
+use Rattle.pool_cli.specs.Causes.{CauseOf, Ends, EndsAtFile, EndsAtShape, EndsPlayed, GivesTallies, HasEnoughBlocks, Hold, IsAccepted, IsAmple, IsPlayable, IsPlayed, IsScriptOf, IsSure, IsUnhindered, IsWithin, taken}
 use Rattle.pool_cli.specs.Outside.{HasOpened, Outside, outside}
 use Rattle.pool_cli.specs.Scripts.{ReadsAll, StopsReading, StopsWith, ending_for}
 use Rattle.pool_cli.specs.Shapes.{IsShapeOf}

@@ -4,10 +4,9 @@ use Rattle.command_words.specs.declared.command.Command.{Command}
 use Rattle.command_words.specs.declared.command.Command.TheVariants.{Play as PlayCommand}
 use Rattle.command_words.specs.declared.command.Play.{Play}
 use Rattle.word_layout.specs.declared.fault.ShapeFault.{ShapeFault}
-use Rattle.word_layout.specs.Sizes.{Sizes, blocks}
+use Rattle.word_layout.specs.Sizes.{Sizes, blocks, limits_of}
 use Rattle.word_layout.specs.Faults.{IsFirstFault}
 use Rattle.pool_model.specs.declared.entry.Entry.{Entry}
-use Rattle.pool_model.specs.Limits.{Limits}
 use Rattle.pool_model.specs.History.{own}
 use Rattle.pool_model.specs.Legal.{IsExact}
 use Rattle.pool_io.specs.Counts.{HasRisen}
@@ -59,10 +58,6 @@ pub record AreScriptsOf (size : ℕ) (content : ℕ → List ℕ) (count : ℕ) 
 pub record IsAccepted (meaning : Option Command) (play : Play) (sizes : Sizes) : Type 0 where
   pub meant : meaning ≡ Some (PlayCommand play)
   pub asked : IsShapeOf play sizes
-
--- the numbers of a pool by which its history is judged
-abbrev pub limits_of : Sizes → Limits
-limits_of sizes = record { processes = sizes.processes; blocks = blocks sizes; batch_length = sizes.length }
 
 -- one history of a free set, which refuses only where all blocks are held: the files were played one after the other, and the
 -- entries of each process fit the script of its file and give its tally
