@@ -29,13 +29,15 @@ times_without b c (x ∷ xs) = elim (cases_eq x b) [
 
     same : (t : Bool) → t ≡ true → cond (c == b) 0 (cond (x == c) 1 0 + times c xs) ≡ cond (c == b) 0 (times c xs)
         → times c (filter (λ other. not (other == b)) xs) ≡ cond (c == b) 0 (times c xs)
-        → times c (cond (not t) (x ∷ filter (λ other. not (other == b)) xs) (filter (λ other. not (other == b)) xs)) ≡ cond (c == b) 0 (times c (x ∷ xs))
+        → times c (cond (not t) (x ∷ filter (λ other. not (other == b)) xs) (filter (λ other. not (other == b)) xs))
+        ≡ cond (c == b) 0 (times c (x ∷ xs))
     same true e k h = rw (times_push c x xs) (rw k h)
     same false e k h = cc
 
     other : (t : Bool) → t ≡ false → cond (c == b) 0 (cond (x == c) 1 0 + times c xs) ≡ cond (x == c) 1 0 + cond (c == b) 0 (times c xs)
         → times c (filter (λ other. not (other == b)) xs) ≡ cond (c == b) 0 (times c xs)
-        → times c (cond (not t) (x ∷ filter (λ other. not (other == b)) xs) (filter (λ other. not (other == b)) xs)) ≡ cond (c == b) 0 (times c (x ∷ xs))
+        → times c (cond (not t) (x ∷ filter (λ other. not (other == b)) xs) (filter (λ other. not (other == b)) xs))
+        ≡ cond (c == b) 0 (times c (x ∷ xs))
     other true e k h = cc
     other false e k h = rw (times_push c x xs) (rw (times_push c x (filter (λ other. not (other == b)) xs)) (rw h (sym k)))
 
@@ -44,7 +46,9 @@ length_without b [] = omega arith
 length_without b (x ∷ xs) = rw (times_push b x xs) (step (x == b) (length_without b xs))
   where
     step : (t : Bool) → length (filter (λ other. not (other == b)) xs) + times b xs ≡ length xs
-        → length (cond (not t) (x ∷ filter (λ other. not (other == b)) xs) (filter (λ other. not (other == b)) xs)) + (cond t 1 0 + times b xs) ≡ length (x ∷ xs)
+        → length (cond (not t) (x ∷ filter (λ other. not (other == b)) xs) (filter (λ other. not (other == b)) xs))
+        + (cond t 1 0 + times b xs)
+        ≡ length (x ∷ xs)
     step true h = omega arith
     step false h = omega arith
 

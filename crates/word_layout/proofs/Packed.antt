@@ -43,7 +43,11 @@ wish_of-wish_code (Give head) = rw add-one refl
 pub announced_of-announced_word : (announced : Announced) → FitsAnnounced announced → announced_of (announced_word announced) ≡ announced
 announced_of-announced_word announced h =
     let small = wish_code_lt announced.wish h.1 in
-    rw (tag_of-tagged announced.number (wish_code announced.wish) small, value_of-tagged announced.number (wish_code announced.wish) small, wish_of-wish_code announced.wish) refl
+    rw (
+      tag_of-tagged announced.number (wish_code announced.wish) small,
+      value_of-tagged announced.number (wish_code announced.wish) small,
+      wish_of-wish_code announced.wish,
+    ) refl
 
 -- the word of an announcement has 64 bits
 pub announced_word_lt : (announced : Announced) → FitsAnnounced announced → announced_word announced < 2 ^ 64

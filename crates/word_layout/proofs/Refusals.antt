@@ -7,7 +7,15 @@ use Rattle.word_layout.specs.declared.fault.ShapeFault.TheVariants.{NoProcess, M
 use Rattle.word_layout.proofs.Lengths.{one_length}
 
 -- numbers that passed all tests are those of a shape
-pub shape_is : (processes batches words quantum l : ℕ) → 1 ≤ processes → processes ≤ 32 → 2 * processes ≤ batches → IsQuantum quantum → IsLength processes quantum l → batches * l ≤ most_blocks → words ≤ 8 → IsShape (record { processes = processes; batches = batches; words = words; quantum = quantum; length = l })
+pub shape_is : (processes batches words quantum l : ℕ)
+    → 1 ≤ processes
+    → processes ≤ 32
+    → 2 * processes ≤ batches
+    → IsQuantum quantum
+    → IsLength processes quantum l
+    → batches * l ≤ most_blocks
+    → words ≤ 8
+    → IsShape (record { processes = processes; batches = batches; words = words; quantum = quantum; length = l })
 unfolding blocks
 shape_is processes batches words quantum l some few two is_quantum is_length few_blocks narrow = record {
   a_process = some;
@@ -20,7 +28,9 @@ shape_is processes batches words quantum l some few two is_quantum is_length few
 }
 
 -- the numbers of a shape have no fault
-pub no_fault : (sizes : Sizes) (fault : ShapeFault) → IsShape sizes → ¬ HasFault sizes.processes sizes.batches sizes.words sizes.quantum fault
+pub no_fault : (sizes : Sizes) (fault : ShapeFault)
+    → IsShape sizes
+    → ¬ HasFault sizes.processes sizes.batches sizes.words sizes.quantum fault
 unfolding blocks
 no_fault sizes NoProcess is has = omega (arith, is.a_process)
 no_fault sizes ManyProcesses is has = omega (arith, is.few_processes)

@@ -23,11 +23,29 @@ impl Model for Shape {
 
     ghost Value = { Sizes };
 
-    ghost view = { λ shape. record { processes = shape.processes; batches = shape.batches; words = shape.words; quantum = shape.quantum; length = shape.length } };
+    ghost view = { λ shape. record {
+      processes = shape.processes;
+      batches = shape.batches;
+      words = shape.words;
+      quantum = shape.quantum;
+      length = shape.length;
+    } };
 
-    ghost invariant = { λ shape. IsShape (record { processes = shape.processes; batches = shape.batches; words = shape.words; quantum = shape.quantum; length = shape.length }) };
+    ghost invariant = { λ shape. IsShape (record {
+      processes = shape.processes;
+      batches = shape.batches;
+      words = shape.words;
+      quantum = shape.quantum;
+      length = shape.length;
+    }) };
 
-    ghost inverse = { λ sizes. record { processes = sizes.processes; batches = sizes.batches; words = sizes.words; quantum = sizes.quantum; length = sizes.length } };
+    ghost inverse = { λ sizes. record {
+      processes = sizes.processes;
+      batches = sizes.batches;
+      words = sizes.words;
+      quantum = sizes.quantum;
+      length = sizes.length;
+    } };
 }
 
 impl Shape {
