@@ -1,22 +1,23 @@
 -- beginnings of transfers and of calls keep the invariant
-use Rattle.std.proofs.Common.{◌≡◌, ◌≢◌, ℕ, ◌<◌, ◌^◌, Bool, true, false, Option, None, Some, List, refl, sym, ◌∙◌, ap, subst, inl, inr, arith}
+use Rattle.std.proofs.Common.{◌≡◌, ◌≢◌, ℕ, ◌<◌, Bool, true, false, Option, None, Some, List, refl, sym, ◌∙◌, ap, subst, inl, inr, arith}
 use Rattle.std.specs.Prelude.{nat_lt, ◌&&◌}
 use Rattle.std.proofs.Math.Path.{fun_ext}
 use Rattle.std.proofs.lemmas.Bool.{cases_eq}
-use Rattle.word_layout.specs.Sizes.{Sizes, IsShape, transfer_bound}
+use Rattle.word_layout.specs.Sizes.{Sizes, IsShape, transfer_bound, limits_of}
 use Rattle.word_layout.specs.declared.announced.Wish.{Wish}
+use Rattle.word_layout.specs.Packing.{most_age}
 use Rattle.pool_model.specs.declared.entry.Entry.{Entry}
 use Rattle.pool_model.specs.History.{own, grip}
 use Rattle.transfer_machine.specs.Machine.{begun}
-use Rattle.transfer_machine.specs.Pools.{MayBegin}
+use Rattle.pool_machine.specs.Pools.{MayBegin}
 use Rattle.transfer_machine.specs.States.{StackState}
-use Rattle.transfer_machine.specs.declared.call.Call.{Call}
-use Rattle.transfer_machine.specs.declared.call.Call.TheVariants.{Allocate, Free, Read, Write}
-use Rattle.transfer_machine.specs.declared.call.CallStage.TheVariants.{Between}
-use Rattle.transfer_machine.specs.declared.call.Way.{Way}
-use Rattle.transfer_machine.specs.declared.call.Way.TheVariants.{Fresh, Alone, Calls}
+use Rattle.pool_machine.specs.declared.call.Call.{Call}
+use Rattle.pool_machine.specs.declared.call.Call.TheVariants.{Allocate, Free, Read, Write}
+use Rattle.pool_machine.specs.declared.call.CallStage.TheVariants.{Between}
+use Rattle.pool_machine.specs.declared.call.Way.{Way}
+use Rattle.pool_machine.specs.declared.call.Way.TheVariants.{Fresh, Alone, Calls}
 use Rattle.transfer_machine.specs.declared.transfer.TransferView.{TransferView}
-use Rattle.transfer_machine.specs.declared.view.ProcessView.{ProcessView}
+use Rattle.pool_machine.specs.declared.view.ProcessView.{ProcessView}
 use Rattle.transfer_machine.specs.declared.stage.NextStep.TheVariants.{Rest}
 use Rattle.transfer_invariant.specs.Memory.{Words, States, state_tag}
 use Rattle.stack_invariant.specs.Stack.{StackHolds}
@@ -42,8 +43,8 @@ use Rattle.call_invariant.proofs.Alone.{moves_alone}
 use Rattle.call_invariant.proofs.Begun.{changing_call_begins, keeping_call_begins}
 use Rattle.call_invariant.proofs.Standing.{some_quantum}
 use Rattle.call_invariant.proofs.Uses.{due_begins, uses_calls, calls_used, uses_transfers}
-use Rattle.interleaving_core.specs.Invariant.{Ghosts, Holds, Meets, BlockIsHeld, KnowsOfNothing, held_in, limits_of}
-use Rattle.interleaving_core.specs.Moves.{may_move, may_wish}
+use Rattle.interleaving_core.specs.Invariant.{Ghosts, Holds, Meets, BlockIsHeld, KnowsOfNothing, held_in}
+use Rattle.interleaving_core.specs.Moves.{may_go_alone, may_wish}
 use Rattle.interleaving_core.proofs.Joins.{transfers, keeps, scheduled, same_ledgers}
 use Rattle.interleaving_core.proofs.Standing.{less, both_first, both_second, wish_fits_at, call_way, call_young, call_names, call_can}
 
@@ -62,7 +63,7 @@ begun_knows s i wish t ledger announced = absurd (grind arith)
 -- a transfer begins alone
 pub alone_begins_at : (sizes : Sizes) (words : Words) (views after : ProcessViews) (history : List Entry) (ghosts : Ghosts) (i : ℕ) (wish : Wish) → IsShape sizes → i < sizes.processes
     → Holds sizes words views history ghosts
-    → MayMove (views i) → (views i).transfer.next ≡ Rest → MayBegin wish (views i).pool → (views i).transfer.age < 2 ^ 32
+    → MayMove (views i) → (views i).transfer.next ≡ Rest → MayBegin wish (views i).pool → (views i).transfer.age < most_age
     → MovedProcess i (alone_begun wish (views i)) views after → Holds sizes words after history ghosts
 alone_begins_at sizes words views after history ghosts i wish shape li h free rest begins young moved =
     let v = views i in
@@ -85,17 +86,17 @@ alone_begins_at sizes words views after history ghosts i wish shape li h free re
     }
 
 pub alone_begins : (sizes : Sizes) (words : Words) (views after : ProcessViews) (history : List Entry) (i : ℕ) (wish : Wish) → IsShape sizes → i < sizes.processes → Meets sizes words views history
-    → (views i).transfer.next ≡ Rest → may_move wish (views i) ≡ true
+    → (views i).transfer.next ≡ Rest → may_go_alone wish (views i) ≡ true
     → MovedProcess i (alone_begun wish (views i)) views after → Meets sizes words after history
 alone_begins sizes words views after history i wish shape li (ghosts, h) rest may moved =
     let v = views i in
-    let tests : (may_use_transfers v.calls.way && (nat_lt v.transfer.age (2 ^ 32) && may_wish wish v.pool)) ≡ true = rw rest at may in
-    let both = both_second (may_use_transfers v.calls.way) (nat_lt v.transfer.age (2 ^ 32) && may_wish wish v.pool) tests in
-    let fits = wish_fits_at sizes words views history ghosts i wish shape li h (both_second (nat_lt v.transfer.age (2 ^ 32)) (may_wish wish v.pool) both) in (
+    let tests : (may_use_transfers v.calls.way && (nat_lt v.transfer.age most_age && may_wish wish v.pool)) ≡ true = rw rest at may in
+    let both = both_second (may_use_transfers v.calls.way) (nat_lt v.transfer.age most_age && may_wish wish v.pool) tests in
+    let fits = wish_fits_at sizes words views history ghosts i wish shape li h (both_second (nat_lt v.transfer.age most_age) (may_wish wish v.pool) both) in (
       ghosts,
       alone_begins_at sizes words views after history ghosts i wish shape li h
-          (by_way v.calls.way (both_first (may_use_transfers v.calls.way) (nat_lt v.transfer.age (2 ^ 32) && may_wish wish v.pool) tests))
-          rest fits.1 (less v.transfer.age (2 ^ 32) (both_first (nat_lt v.transfer.age (2 ^ 32)) (may_wish wish v.pool) both)) moved,
+          (by_way v.calls.way (both_first (may_use_transfers v.calls.way) (nat_lt v.transfer.age most_age && may_wish wish v.pool) tests))
+          rest fits.1 (less v.transfer.age most_age (both_first (nat_lt v.transfer.age most_age) (may_wish wish v.pool) both)) moved,
     )
   where
     by_way : (way : Way) → may_use_transfers way ≡ true → way ≢ Calls
@@ -185,7 +186,7 @@ pub record CallGoes (sizes : Sizes) (history : List Entry) (i : ℕ) (x : Proces
 
 pub call_goes : (sizes : Sizes) (history : List Entry) (i : ℕ) (v : ProcessView) (ledgers : Ledgers) (call : Call) (t : Bool) → changes_pool (Some call) ≡ t → i < sizes.processes
     → HistoryHolds (limits_of sizes) (transfer_bound sizes) sizes.quantum history ledgers
-    → Scheduled sizes (ledgers i).account → InCalls sizes i v (ledgers i) → v.calls.stage ≡ Between → v.transfer.age < 2 ^ 32
+    → Scheduled sizes (ledgers i).account → InCalls sizes i v (ledgers i) → v.calls.stage ≡ Between → v.transfer.age < most_age
     → CallGoes sizes history i (call_begun call v) ledgers (ledger_begun call (ledgers i))
 call_goes sizes history i v ledgers call true changes li h s calls between young =
     let carries = changing_call_begins sizes i v (ledgers i) call changes (some_quantum sizes s.fit) between young calls in
@@ -223,7 +224,7 @@ call_goes sizes history i v ledgers call false keeps li h s calls between young 
 
 pub call_begins_at : (sizes : Sizes) (words : Words) (views after : ProcessViews) (history : List Entry) (ghosts : Ghosts) (i : ℕ) (call : Call) → IsShape sizes → i < sizes.processes
     → Holds sizes words views history ghosts
-    → (views i).transfer.age < 2 ^ 32 → NamesHeld sizes (held_in ghosts.ledgers i) (Some call)
+    → (views i).transfer.age < most_age → NamesHeld sizes (held_in ghosts.ledgers i) (Some call)
     → CallGoes sizes history i (call_begun call (views i)) ghosts.ledgers (ledger_begun call (ghosts.ledgers i))
     → MovedProcess i (call_begun call (views i)) views after
     → Holds sizes words after history (record ghosts { ledgers = with_ledger i (ledger_begun call (ghosts.ledgers i)) ghosts.ledgers })

@@ -1,12 +1,13 @@
 -- the laws of calls, of the state at the end of every run
 use Rattle.std.proofs.Common.{◌≡◌, ◌≢◌, ℕ, ◌+◌, ◌-◌, ◌*◌, ◌<◌, ◌≤◌, ◌^◌, Bool, true, false, Option, Some, List, length, refl, sym, ap, ◌∙◌, subst, arith}
 use Rattle.std.specs.Prelude.{◌↔◌, Contains, IfSome, slice_get, take, if◌then◌else◌}
-use Rattle.word_layout.specs.Sizes.{Sizes, blocks, slack, transfer_bound}
+use Rattle.word_layout.specs.Sizes.{Sizes, blocks, transfer_bound, limits_of, most_blocks}
 use Rattle.word_layout.specs.Names.{word_at}
 use Rattle.word_layout.proofs.Limits.{length_le_blocks}
+use Rattle.process_sums.specs.Sums.{total}
 use Rattle.pool_model.specs.declared.entry.Entry.{Entry}
 use Rattle.pool_model.specs.declared.entry.Entry.TheVariants.{Dry}
-use Rattle.pool_model.specs.Limits.{Limits}
+use Rattle.pool_model.specs.Limits.{Limits, slack}
 use Rattle.pool_model.specs.Legal.{IsLegal, HadFew, MayFollow}
 use Rattle.pool_model.specs.History.{own, held, grip}
 use Rattle.transfer_schedule.specs.Table.{InTable}
@@ -15,17 +16,15 @@ use Rattle.transfer_schedule.specs.Account as schedule
 use Rattle.transfer_schedule.specs.Laws.{CountsSteps}
 use Rattle.transfer_schedule.proofs.Reaching.{reached_stands, reached_sizes, stands_in_time, stands_counts}
 use Rattle.transfer_machine.specs.Words.{stack}
-use Rattle.transfer_machine.specs.declared.call.CallStage.{CallStage}
-use Rattle.transfer_machine.specs.declared.call.CallView.{CallView}
-use Rattle.transfer_machine.specs.declared.call.CallStage.TheVariants.{Moving}
-use Rattle.transfer_machine.specs.declared.call.Way.TheVariants.{Alone}
-use Rattle.transfer_machine.specs.declared.view.ProcessView.{ProcessView}
-use Rattle.transfer_invariant.specs.Tags.{total}
+use Rattle.pool_machine.specs.declared.call.CallStage.{CallStage}
+use Rattle.pool_machine.specs.declared.call.CallView.{CallView}
+use Rattle.pool_machine.specs.declared.call.CallStage.TheVariants.{Moving}
+use Rattle.pool_machine.specs.declared.call.Way.TheVariants.{Alone}
+use Rattle.pool_machine.specs.declared.view.ProcessView.{ProcessView}
 use Rattle.history_invariant.specs.Grips.{times}
 use Rattle.history_invariant.proofs.Holding.{held_shared}
 use Rattle.call_invariant.specs.Phases.{call_phase_at}
 use Rattle.call_invariant.proofs.Uses.{calls_used}
-use Rattle.interleaving_core.specs.Invariant.{limits_of}
 use Rattle.interleaving_core.specs.Kept.{kept_by, kept}
 use Rattle.interleaving_core.specs.Moves.{CoreState, view_at, holder_of, is_holder}
 use Rattle.interleaving_core.specs.Runs.{opens, turns, is_made}
@@ -77,11 +76,11 @@ pub holders_hold : laws.HoldersHold
 holders_hold = every_run (λ sizes history s. (i block : ℕ) → (is_holder i (holder_of s block) ≡ true) ↔ Contains (grip (own history i)) block) holders_here
 
 -- what is withheld
-few_here : (history : List Entry) (s : CoreState) → RunFits s history → blocks s.sizes ≤ length (held history) + s.sizes.length * length (stack s.sizes s.words) + slack s.sizes
+few_here : (history : List Entry) (s : CoreState) → RunFits s history → blocks s.sizes ≤ length (held history) + s.sizes.length * length (stack s.sizes s.words) + slack (limits_of s.sizes)
 few_here history s fits = let (ghosts, h) = fits.meets in few_withheld s.sizes s.words (view_at s) history ghosts fits.shape h
 
 pub few_are_withheld : laws.FewAreWithheld
-few_are_withheld = every_run (λ sizes history s. blocks sizes ≤ length (held history) + sizes.length * length (stack sizes s.words) + slack sizes) few_here
+few_are_withheld = every_run (λ sizes history s. blocks sizes ≤ length (held history) + sizes.length * length (stack sizes s.words) + slack (limits_of sizes)) few_here
 
 pub five_here : (history : List Entry) (s : CoreState) → RunFits s history → (i : ℕ) → i < s.sizes.processes → kept s i ≤ 5 * s.sizes.length
 five_here history s fits i li = let (ghosts, h) = fits.meets in keeps_five s.sizes s.words (view_at s) history ghosts i fits.shape li h
@@ -103,7 +102,7 @@ kept_small s now history i e fits li =
     let low : i < s.sizes.processes = rw e li in
     rw (sym e) (small s.sizes.length (five_here history s fits i low) (length_le_blocks s.sizes fits.shape) fits.shape.few_blocks)
   where
-    small : (long : ℕ) {n all : ℕ} → n ≤ 5 * long → 2 * long ≤ all → all ≤ 2 ^ 22 → n < 2 ^ 32
+    small : (long : ℕ) {n all : ℕ} → n ≤ 5 * long → 2 * long ≤ all → all ≤ most_blocks → n < 2 ^ 32
     small long five two few = omega (arith, five, two, few)
 
 pub process_low : (s now : CoreState) (i : ℕ) → s ≡ now → i < now.sizes.processes → i < s.sizes.processes

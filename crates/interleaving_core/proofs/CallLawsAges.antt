@@ -9,11 +9,11 @@ use Rattle.transfer_schedule.specs.declared.pending.Pending.{Pending}
 use Rattle.transfer_schedule.specs.declared.pending.Pending.TheVariants.{Idle}
 use Rattle.transfer_schedule.proofs.Products.{less_of_times}
 use Rattle.transfer_machine.specs.Words.{met_word}
-use Rattle.transfer_machine.specs.declared.call.Call.{Call}
-use Rattle.transfer_machine.specs.declared.call.CallStage.{CallStage}
-use Rattle.transfer_machine.specs.declared.call.CallStage.TheVariants.{Between, Moving, Own}
-use Rattle.transfer_machine.specs.declared.call.Way.TheVariants.{Calls}
-use Rattle.transfer_machine.specs.declared.view.ProcessView.{ProcessView}
+use Rattle.pool_machine.specs.declared.call.Call.{Call}
+use Rattle.pool_machine.specs.declared.call.CallStage.{CallStage}
+use Rattle.pool_machine.specs.declared.call.CallStage.TheVariants.{Between, Moving, Own}
+use Rattle.pool_machine.specs.declared.call.Way.TheVariants.{Calls}
+use Rattle.pool_machine.specs.declared.view.ProcessView.{ProcessView}
 use Rattle.transfer_machine.specs.declared.stage.NextStep.{NextStep}
 use Rattle.transfer_machine.specs.declared.stage.NextStep.TheVariants.{Rest}
 use Rattle.pool_invariant.specs.Stages.{is_moving}
@@ -26,7 +26,7 @@ use Rattle.call_invariant.proofs.Uses.{idle_pool_rests}
 use Rattle.interleaving_core.specs.Moves.{CoreState, view_at}
 use Rattle.interleaving_core.specs.Runs.{Turn, Moves, Events, IsRun, turns, is_made, turning_view, after_turn, turn_answer, entries_of}
 use Rattle.interleaving_core.specs.Steps.{is_in_call, next_action}
-use Rattle.interleaving_core.specs.CallLaws.{Rests, Pends, PendsSince, pends_first, pends_on, pends_still, pends_too, TransfersAreShort}
+use Rattle.interleaving_core.specs.CallLaws.{IsIdle, HasPending, PendsSince, pends_first, pends_on, pends_still, pends_too, TransfersAreShort}
 use Rattle.interleaving_core.proofs.Joins.{keeps}
 use Rattle.interleaving_core.proofs.Tables.{between_calls}
 use Rattle.interleaving_core.proofs.Runs.{RunFits}
@@ -69,7 +69,7 @@ first_turn_ages quantum v call false inside idle none = elim (first_ages quantum
 
 -- with nothing pending no step is counted
 abbrev pub RestCounts : Sizes → List Entry → CoreState → Type 0
-RestCounts sizes history s = (i : ℕ) → i < sizes.processes → Rests i s → (view_at s i).pool.plan.done ≡ 0
+RestCounts sizes history s = (i : ℕ) → i < sizes.processes → IsIdle i s → (view_at s i).pool.plan.done ≡ 0
 
 rest_counts : (history : List Entry) (s : CoreState) → RunFits s history → RestCounts s.sizes history s
 rest_counts history s fits i li idle =
@@ -83,7 +83,7 @@ rest_counts history s fits i li idle =
 
 -- the turn that begins a transfer
 abbrev pub FirstTurnsAge : Sizes → List Entry → CoreState → Type 0
-FirstTurnsAge sizes history s = (i : ℕ) (call : Call) → i < sizes.processes → is_made (Events i call) s ≡ true → Rests i s → Pends i (after_turn (Events i call) s) → Aged sizes.quantum 0 (turning_view (Events i call) s)
+FirstTurnsAge sizes history s = (i : ℕ) (call : Call) → i < sizes.processes → is_made (Events i call) s ≡ true → IsIdle i s → HasPending i (after_turn (Events i call) s) → Aged sizes.quantum 0 (turning_view (Events i call) s)
 
 first_turns_age : (history : List Entry) (s : CoreState) → RunFits s history → FirstTurnsAge s.sizes history s
 first_turns_age history s fits i call li made idle pends =
@@ -102,11 +102,11 @@ pub record AgedRun (sizes : Sizes) (i n : ℕ) (t : CoreState) : Type 0 where
   pub history : List Entry
   pub run : IsRun sizes past history t
   pub way : (view_at t i).calls.way ≡ Calls
-  pub pends : Pends i t
+  pub pends : HasPending i t
   pub aged : Aged sizes.quantum n (view_at t i)
 
 -- what a made turn of the process leads to
-made_ages : (sizes : Sizes) (past : List Turn) (history : List Entry) (s : CoreState) (i n : ℕ) (call : Call) → i < sizes.processes → IsRun sizes past history s → is_made (Events i call) s ≡ true → Aged sizes.quantum n (turning_view (Events i call) s) → Pends i (after_turn (Events i call) s)
+made_ages : (sizes : Sizes) (past : List Turn) (history : List Entry) (s : CoreState) (i n : ℕ) (call : Call) → i < sizes.processes → IsRun sizes past history s → is_made (Events i call) s ≡ true → Aged sizes.quantum n (turning_view (Events i call) s) → HasPending i (after_turn (Events i call) s)
     → AgedRun sizes i (n + length (entries_of (turn_answer (Events i call) s))) (after_turn (Events i call) s)
 made_ages sizes past history s i n call li run made aged pends =
     let next = turns past history s (Events i call) run in

@@ -4,7 +4,7 @@ use Rattle.std.specs.Prelude.{if◌then◌else◌, not}
 use Rattle.std.proofs.lemmas.Bool.{cases_eq}
 use Rattle.std.proofs.lemmas.Bool.Decides.{nat_tests}
 use Rattle.std.proofs.lemmas.List.{length-append}
-use Rattle.word_layout.specs.Sizes.{Sizes, IsShape, blocks, slack, transfer_bound}
+use Rattle.word_layout.specs.Sizes.{Sizes, IsShape, blocks, transfer_bound, limits_of}
 use Rattle.word_layout.specs.Names.{word_at}
 use Rattle.word_layout.specs.Packing.{tag_of, reply_of, is_odd_reply}
 use Rattle.word_layout.specs.declared.announced.Wish.{Wish}
@@ -12,8 +12,11 @@ use Rattle.word_layout.specs.declared.announced.Wish.TheVariants.{Take, Give}
 use Rattle.word_layout.specs.declared.name.WordName.TheVariants.{Announcement}
 use Rattle.word_layout.specs.declared.reply.Reply.{Reply}
 use Rattle.word_layout.specs.declared.reply.Reply.TheVariants.{Nothing, Took, Gave}
+use Rattle.process_sums.specs.Sums.{total}
+use Rattle.process_sums.proofs.Sums.{total_same, total_at_most}
 use Rattle.pool_model.specs.declared.entry.Entry.{Entry}
-use Rattle.pool_model.specs.History.{held, grip}
+use Rattle.pool_model.specs.History.{held}
+use Rattle.pool_model.specs.Limits.{slack}
 use Rattle.transfer_schedule.specs.Numbers.{is_idle, withheld}
 use Rattle.transfer_schedule.specs.declared.pending.Pending.{Pending}
 use Rattle.transfer_schedule.specs.declared.pending.Pending.TheVariants.{Idle}
@@ -21,9 +24,8 @@ use Rattle.transfer_machine.specs.States.{StackState}
 use Rattle.transfer_machine.specs.Tries.{is_pending}
 use Rattle.transfer_machine.specs.Words.{first_of, stack}
 use Rattle.transfer_machine.specs.declared.transfer.TransferView.{TransferView}
-use Rattle.transfer_machine.specs.declared.view.ProcessView.{ProcessView}
+use Rattle.pool_machine.specs.declared.view.ProcessView.{ProcessView}
 use Rattle.transfer_invariant.specs.Memory.{state_tag, current_record, word_value}
-use Rattle.transfer_invariant.specs.Tags.{total}
 use Rattle.transfer_invariant.specs.Progress.{has_announced}
 use Rattle.stack_invariant.specs.Shown.{Shows}
 use Rattle.stack_invariant.proofs.Content.{words_show}
@@ -33,14 +35,12 @@ use Rattle.batch_invariant.specs.Places.{has_only_begun, given, taken, announced
 use Rattle.chain_invariant.specs.Laws.{kept_blocks}
 use Rattle.chain_invariant.proofs.Counts.{blocks_counted}
 use Rattle.chain_invariant.proofs.Kept.{kept_is_withheld}
-use Rattle.chain_invariant.proofs.Weights.{total_le, total_each}
 use Rattle.history_invariant.proofs.Holding.{held_shared}
 use Rattle.call_invariant.specs.Uses.{PoolKeeps}
 use Rattle.call_invariant.proofs.Uses.{idle_pool_rests}
-use Rattle.interleaving_core.specs.Invariant.{Ghosts, Holds, held_in, limits_of}
+use Rattle.interleaving_core.specs.Invariant.{Ghosts, Holds, held_in}
 use Rattle.interleaving_core.specs.Kept.{reply_value_at, pends_at, given_batches, taken_batches, announced_batches, in_transit, kept_by}
 use Rattle.interleaving_core.proofs.Joins.{transfers, keeps}
-use Rattle.interleaving_core.proofs.Empties.{same_total}
 
 -- a transfer pends exactly where its number isn't that of the last applied one
 odd_apart : (age applied : ℕ) (a b : Bool) → (age % 2 == 1) ≡ a → (applied % 2 == 1) ≡ b → age ≡ applied + 1 → (if a then not b else b) ≡ true
@@ -148,11 +148,6 @@ stack_many sizes table views history ghosts h =
     ap (λ xs. length xs) (tables_show sizes table (transfers views) ghosts.states h.stack).heads ∙ first_many s.height s.content
 
 -- all blocks
-total_same : (count : ℕ) (f g : ℕ → ℕ) → ((o : ℕ) → o < count → f o ≡ g o) → total count f ≡ total count g
-unfolding total
-total_same zero f g same = refl
-total_same (suc count) f g same = rw (total_same count f g (λ o lt. same o (omega arith)), same count (omega arith)) refl
-
 joined : (l all : ℕ) {kept mine height kept_too held_too height_too : ℕ} → kept + mine + l * height ≡ all → kept_too ≡ kept → held_too ≡ mine → height_too ≡ height → kept_too + held_too + l * height_too ≡ all
 joined l all counted e f g = rw (e, f, g) counted
 
@@ -164,19 +159,18 @@ all_counted sizes table views history ghosts h =
     let mine = held_in ghosts.ledgers in
     let counted = blocks_counted sizes words s views h.chains.batch_blocks h.chains.current_blocks mine h.chains.hold in
     let shared = held_shared (limits_of sizes) (transfer_bound sizes) sizes.quantum history ghosts.ledgers h.entries in
-    joined sizes.length (blocks sizes) counted (total_same sizes.processes (λ i. kept_by sizes table i (views i)) (λ i. kept_blocks sizes s i (views i)) (λ i li. kept_said sizes table views history ghosts i li h))
-    (shared.grips.count ∙ same_total sizes.processes (λ i. length (grip (ghosts.ledgers i).entries)))
+    joined sizes.length (blocks sizes) counted (total_same sizes.processes (λ i. kept_blocks sizes s i (views i)) (λ i. kept_by sizes table i (views i)) (λ i li. kept_said sizes table views history ghosts i li h))
+    shared.grips.count
     (stack_many sizes table views history ghosts h)
 
-few : (processes l kept mine height all : ℕ) → kept + mine + l * height ≡ all → kept ≤ 5 * l * processes → all ≤ mine + l * height + 5 * (processes * l)
+few : (processes l kept mine height all : ℕ) → kept + mine + l * height ≡ all → kept ≤ 5 * l * processes → all ≤ mine + l * height + 5 * processes * l
 few processes l kept mine height all counted least = omega (arith, counted, least, five_times l processes)
   where
-    five_times : (l p : ℕ) → 5 * l * p ≡ 5 * (p * l)
+    five_times : (l p : ℕ) → 5 * l * p ≡ 5 * p * l
     five_times l p = omega arith
 
 pub few_withheld : (sizes : Sizes) (table : List ℕ) (views : ProcessViews) (history : List Entry) (ghosts : Ghosts) → IsShape sizes → Holds sizes (word_at sizes table) views history ghosts
-    → blocks sizes ≤ length (held history) + sizes.length * length (stack sizes table) + slack sizes
-unfolding slack
+    → blocks sizes ≤ length (held history) + sizes.length * length (stack sizes table) + slack (limits_of sizes)
 few_withheld sizes table views history ghosts shape h =
     few sizes.processes sizes.length (total sizes.processes (λ i. kept_by sizes table i (views i))) (length (held history)) (length (stack sizes table)) (blocks sizes) (all_counted sizes table views history ghosts h)
-    (at_most refl (total_le sizes.processes (λ i. kept_by sizes table i (views i)) (λ i. 5 * sizes.length) (λ i li. keeps_five sizes table views history ghosts i shape li h)) (omega (arith, total_each (5 * sizes.length) sizes.processes)))
+    (total_at_most (5 * sizes.length) sizes.processes (λ i. kept_by sizes table i (views i)) (λ i li. keeps_five sizes table views history ghosts i shape li h))

@@ -15,17 +15,17 @@ use Rattle.transfer_schedule.specs.declared.own_step.Target.{Target}
 use Rattle.transfer_schedule.specs.declared.own_step.Target.TheVariants as target
 use Rattle.transfer_schedule.specs.declared.pending.Pending.{Pending}
 use Rattle.transfer_schedule.specs.declared.pending.Pending.TheVariants.{Idle}
-use Rattle.transfer_machine.specs.Phases.{is_rest}
-use Rattle.transfer_machine.specs.Pools.{view_begun, pool_met_at, view_met, pool_ended}
-use Rattle.transfer_machine.specs.declared.call.Call.{Call}
-use Rattle.transfer_machine.specs.declared.call.Call.TheVariants.{Allocate, Free, Read, Write}
-use Rattle.transfer_machine.specs.declared.call.CallStage.{CallStage}
-use Rattle.transfer_machine.specs.declared.call.CallStage.TheVariants.{Between, Moving, Own}
-use Rattle.transfer_machine.specs.declared.call.CallView.{CallView}
-use Rattle.transfer_machine.specs.declared.view.PoolView.{PoolView}
-use Rattle.transfer_machine.specs.declared.view.ProcessView.{ProcessView}
+use Rattle.pool_machine.specs.Pools.{view_begun, pool_met_at, view_met, pool_ended}
+use Rattle.pool_machine.specs.declared.call.Call.{Call}
+use Rattle.pool_machine.specs.declared.call.Call.TheVariants.{Allocate, Free, Read, Write}
+use Rattle.pool_machine.specs.declared.call.CallStage.{CallStage}
+use Rattle.pool_machine.specs.declared.call.CallStage.TheVariants.{Between, Moving, Own}
+use Rattle.pool_machine.specs.declared.call.CallView.{CallView}
+use Rattle.pool_machine.specs.declared.view.PoolView.{PoolView}
+use Rattle.pool_machine.specs.declared.view.ProcessView.{ProcessView}
 use Rattle.transfer_machine.specs.declared.stage.NextStep.{NextStep}
-use Rattle.transfer_machine.specs.declared.stage.NextStep.TheVariants.{Rest, Announce, LoadState, LoadRecordWord, LoadCoveredSlot, ExchangeSlot, LoadAnnouncement, LoadPoppedSlot, StoreRecordWord, ExchangeState, LoadFinalState, LoadReply}
+use Rattle.transfer_machine.specs.declared.stage.NextStep.TheVariants.{Rest, Announce, LoadFinalState, LoadReply, Try}
+use Rattle.transfer_machine.specs.Stages.{is_rest}
 use Rattle.pool_machine.specs.Beginning.{before_call, begun_if_due, due, entered, call_begun}
 use Rattle.pool_machine.specs.OwnSteps.{pool_own_met, own_answer_for, own_kind_for, allocate_answer, next_block, allocated, freed}
 use Rattle.pool_machine.specs.Steps.{call_met_at, call_answer_at, happened}
@@ -55,14 +55,7 @@ pool_ended_idle Gave pool = ended_idle true pool.plan
 step_counts : (word : ℕ) (pool : PoolView) (s : NextStep) → s ≢ Rest → (pool_met_at word pool s).plan.pending ≢ Idle → (pool_met_at word pool s).plan.done ≡ pool.plan.done + 1
 step_counts word pool Rest busy pends = absurd (busy refl)
 step_counts word pool Announce busy pends = refl
-step_counts word pool LoadState busy pends = refl
-step_counts word pool (LoadRecordWord index) busy pends = refl
-step_counts word pool (LoadCoveredSlot offset) busy pends = refl
-step_counts word pool (ExchangeSlot offset) busy pends = refl
-step_counts word pool (LoadAnnouncement process) busy pends = refl
-step_counts word pool (LoadPoppedSlot process) busy pends = refl
-step_counts word pool (StoreRecordWord index) busy pends = refl
-step_counts word pool ExchangeState busy pends = refl
+step_counts word pool (Try second step) busy pends = refl
 step_counts word pool LoadFinalState busy pends = refl
 step_counts word pool LoadReply busy pends = absurd (pends (pool_ended_idle (reply_of (value_of word)) _))
 

@@ -6,16 +6,15 @@ use Rattle.word_layout.specs.Names.{word_at}
 use Rattle.pool_model.specs.declared.entry.Entry.{Entry}
 use Rattle.transfer_schedule.specs.declared.pending.Pending.{Pending}
 use Rattle.transfer_schedule.specs.declared.pending.Pending.TheVariants.{Idle}
-use Rattle.transfer_machine.specs.Phases.{is_rest}
-use Rattle.transfer_machine.specs.Pools.{opening_view}
-use Rattle.transfer_machine.specs.declared.call.Call.{Call}
-use Rattle.transfer_machine.specs.declared.call.CallStage.{CallStage}
-use Rattle.transfer_machine.specs.declared.call.CallStage.TheVariants.{Between, Moving, Own}
-use Rattle.transfer_machine.specs.declared.call.Way.{Way}
-use Rattle.transfer_machine.specs.declared.call.Way.TheVariants.{Fresh, Alone, Calls}
-use Rattle.transfer_machine.specs.declared.view.ProcessView.{ProcessView}
+use Rattle.pool_machine.specs.Pools.{opening_view}
+use Rattle.pool_machine.specs.declared.call.Call.{Call}
+use Rattle.pool_machine.specs.declared.call.CallStage.{CallStage}
+use Rattle.pool_machine.specs.declared.call.CallStage.TheVariants.{Between, Moving, Own}
+use Rattle.pool_machine.specs.declared.call.Way.{Way}
+use Rattle.pool_machine.specs.declared.call.Way.TheVariants.{Fresh, Alone, Calls}
+use Rattle.pool_machine.specs.declared.view.ProcessView.{ProcessView}
 use Rattle.transfer_machine.specs.declared.stage.NextStep.{NextStep}
-use Rattle.transfer_machine.specs.declared.stage.NextStep.TheVariants.{Rest, Announce, LoadState, LoadRecordWord, LoadCoveredSlot, ExchangeSlot, LoadAnnouncement, LoadPoppedSlot, StoreRecordWord, ExchangeState, LoadFinalState, LoadReply}
+use Rattle.transfer_machine.specs.declared.stage.NextStep.TheVariants.{Rest, Announce, LoadFinalState, LoadReply, Try}
 use Rattle.pool_invariant.specs.Stages.{is_moving}
 use Rattle.pool_machine.specs.Beginning.{call_begun}
 use Rattle.pool_machine.specs.Steps.{call_met_at, call_answer_at}
@@ -25,10 +24,11 @@ use Rattle.call_invariant.proofs.Standing.{shape_fits, some_quantum}
 use Rattle.call_invariant.proofs.Uses.{calls_used, idle_pool_rests, steps_can_count}
 use Rattle.batch_invariant.specs.Batches.{ProcessViews}
 use Rattle.transfer_machine.specs.Words.{met_word}
+use Rattle.transfer_machine.specs.Stages.{is_rest}
 use Rattle.interleaving_core.specs.Moves.{CoreState, view_at}
 use Rattle.interleaving_core.specs.Runs.{Events, is_made, turning_view, after_turn, turn_answer, entries_of}
 use Rattle.interleaving_core.specs.Steps.{is_alone, is_busy, is_in_call, next_action, next_met, next_answer}
-use Rattle.interleaving_core.specs.CallLaws.{Pends}
+use Rattle.interleaving_core.specs.CallLaws.{HasPending}
 use Rattle.interleaving_core.proofs.Standing.{isnt_alone, alone_between}
 use Rattle.interleaving_core.proofs.Joins.{keeps, given}
 use Rattle.interleaving_core.proofs.Runs.{RunFits, turn_low, turn_meets, turn_busy}
@@ -106,7 +106,7 @@ met_way sizes v word Own = refl
 
 -- a process with a pending transfer isn't at rest
 abbrev pub PendingMoves : Sizes → List Entry → CoreState → Type 0
-PendingMoves sizes history s = (i : ℕ) → i < sizes.processes → Pends i s → (is_rest (view_at s i).transfer.next ≡ false) × ((view_at s i).pool.plan.done < sizes.quantum * sizes.length)
+PendingMoves sizes history s = (i : ℕ) → i < sizes.processes → HasPending i s → (is_rest (view_at s i).transfer.next ≡ false) × ((view_at s i).pool.plan.done < sizes.quantum * sizes.length)
 
 pub pending_moves : (history : List Entry) (s : CoreState) → RunFits s history → PendingMoves s.sizes history s
 pending_moves history s fits i li pends =
@@ -122,14 +122,7 @@ pending_moves history s fits i li pends =
     moves : (s : NextStep) (p : Pending) → (is_moving s ≡ false → p ≡ Idle) → p ≢ Idle → is_rest s ≡ false
     moves Rest p idle pends = absurd (pends (idle refl))
     moves Announce p idle pends = refl
-    moves LoadState p idle pends = refl
-    moves (LoadRecordWord index) p idle pends = refl
-    moves (LoadCoveredSlot offset) p idle pends = refl
-    moves (ExchangeSlot offset) p idle pends = refl
-    moves (LoadAnnouncement process) p idle pends = refl
-    moves (LoadPoppedSlot process) p idle pends = refl
-    moves (StoreRecordWord index) p idle pends = refl
-    moves ExchangeState p idle pends = refl
+    moves (Try second step) p idle pends = refl
     moves LoadFinalState p idle pends = refl
     moves LoadReply p idle pends = refl
 
@@ -142,7 +135,7 @@ pending_moves history s fits i li pends =
 -- a turn of a call keeps the age of the transfer
 abbrev pub TurnsAge : Sizes → List Entry → CoreState → Type 0
 TurnsAge sizes history s = (i n : ℕ) (call : Call) → is_made (Events i call) s ≡ true → Aged sizes.quantum n (turning_view (Events i call) s)
-    → is_rest (view_at (after_turn (Events i call) s) i).transfer.next ≡ false → Pends i (after_turn (Events i call) s)
+    → is_rest (view_at (after_turn (Events i call) s) i).transfer.next ≡ false → HasPending i (after_turn (Events i call) s)
     → Aged sizes.quantum (n + length (entries_of (turn_answer (Events i call) s))) (view_at (after_turn (Events i call) s) i) × ((view_at (after_turn (Events i call) s) i).calls.way ≡ Calls)
 
 pub turns_age : (history : List Entry) (s : CoreState) → RunFits s history → TurnsAge s.sizes history s

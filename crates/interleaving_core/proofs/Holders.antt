@@ -4,7 +4,7 @@ use Rattle.std.specs.Prelude.{replicate, slice_get, Contains}
 use Rattle.std.proofs.lemmas.Bool.{cases_eq, cases_lt}
 use Rattle.std.proofs.lemmas.Bool.Decides.{nat_tests}
 use Rattle.std.proofs.lemmas.List.{take-append-le, take_all, get_or-replicate, length-replicate, get_or_past}
-use Rattle.word_layout.specs.Sizes.{Sizes, blocks}
+use Rattle.word_layout.specs.Sizes.{Sizes, blocks, limits_of}
 use Rattle.pool_model.specs.declared.entry.Entry.{Entry}
 use Rattle.pool_model.specs.declared.entry.Entry.TheVariants.{Got, Back, Dry}
 use Rattle.pool_model.specs.History.{process_of, own, held_after, held, grip}
@@ -12,15 +12,15 @@ use Rattle.pool_model.specs.Legal.{MayFollow, IsLegal}
 use Rattle.pool_model.specs.Limits.{Limits}
 use Rattle.pool_model.proofs.Histories.{held_more, own_more, own_other, legal_take}
 use Rattle.pool_model.proofs.Members.{contains_head, contains_tail, contains_cons_cases, contains_nil, contains_without, without_contains}
-use Rattle.transfer_machine.specs.declared.call.Call.{Call}
-use Rattle.transfer_machine.specs.declared.call.Call.TheVariants.{Allocate, Free, Read, Write}
+use Rattle.pool_machine.specs.declared.call.Call.{Call}
+use Rattle.pool_machine.specs.declared.call.Call.TheVariants.{Allocate, Free, Read, Write}
 use Rattle.batch_invariant.specs.Batches.{ProcessViews}
 use Rattle.history_invariant.proofs.Grips.{grip_all}
 use Rattle.history_invariant.proofs.Shared.{legal_shared}
-use Rattle.history_invariant.proofs.Totals.{times_contained, contained_times}
+use Rattle.history_invariant.proofs.Times.{times_contained, contained_times}
 use Rattle.pool_machine.specs.declared.event.Happened.{Happened}
 use Rattle.pool_machine.specs.declared.event.Happened.TheVariants.{Step, Ended, Loaded, Stored, Ignored}
-use Rattle.interleaving_core.specs.Invariant.{MeetsInvariant, BlockIsHeld, limits_of}
+use Rattle.interleaving_core.specs.Invariant.{MeetsInvariant, BlockIsHeld}
 use Rattle.interleaving_core.specs.Moves.{is_holder, holds_for, holders_after, holders_entered}
 use Rattle.interleaving_core.specs.Runs.{entries_of}
 

@@ -3,12 +3,11 @@ use Rattle.std.proofs.Common.{◌≡◌, ◌≢◌, ℕ, ◌<◌, Bool, true, fa
 use Rattle.word_layout.specs.Sizes.{Sizes, IsShape}
 use Rattle.pool_model.specs.declared.entry.Entry.{Entry}
 use Rattle.transfer_machine.specs.Machine.{action_of, CanAct, CanMeet}
-use Rattle.transfer_machine.specs.Phases.{is_rest}
-use Rattle.transfer_machine.specs.Pools.{view_met, CanCount, CanMeetPool}
+use Rattle.pool_machine.specs.Pools.{view_met, CanCount, CanMeetPool}
 use Rattle.transfer_machine.specs.Words.{name_of}
-use Rattle.transfer_machine.specs.declared.call.CallStage.TheVariants.{Between, Moving, Own}
-use Rattle.transfer_machine.specs.declared.call.Way.TheVariants.{Alone}
-use Rattle.transfer_machine.specs.declared.view.ProcessView.{ProcessView}
+use Rattle.pool_machine.specs.declared.call.CallStage.TheVariants.{Between, Moving, Own}
+use Rattle.pool_machine.specs.declared.call.Way.TheVariants.{Alone}
+use Rattle.pool_machine.specs.declared.view.ProcessView.{ProcessView}
 use Rattle.transfer_machine.specs.declared.stage.NextStep.TheVariants.{Rest}
 use Rattle.transfer_invariant.specs.Memory.{Words, Acted}
 use Rattle.batch_invariant.specs.Batches.{ProcessViews, MovedProcess}
@@ -16,9 +15,9 @@ use Rattle.pool_machine.specs.Ready.{CanActCall, CanMeetCall, CanActCallAt, CanM
 use Rattle.pool_machine.specs.Steps.{call_action, call_action_at, call_met, call_met_at, call_answer, call_answer_at}
 use Rattle.std.specs.Prelude.{if◌then◌else◌, not}
 use Rattle.std.proofs.lemmas.List.{append-nil}
-use Rattle.transfer_machine.specs.Stages.{kind_of}
-use Rattle.transfer_machine.specs.declared.call.Way.{Way}
-use Rattle.transfer_machine.specs.declared.call.CallStage.{CallStage}
+use Rattle.transfer_machine.specs.Stages.{kind_of, is_rest}
+use Rattle.pool_machine.specs.declared.call.Way.{Way}
+use Rattle.pool_machine.specs.declared.call.CallStage.{CallStage}
 use Rattle.transfer_machine.specs.declared.stage.NextStep.{NextStep}
 use Rattle.stack_invariant.proofs.Follows.{can_be_made}
 use Rattle.pool_machine.specs.declared.event.Happened.TheVariants.{Step}

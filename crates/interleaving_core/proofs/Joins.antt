@@ -1,5 +1,5 @@
 -- what the parts of the invariant give each other for the step of a transfer
-use Rattle.std.proofs.Common.{◌≡◌, ◌≢◌, ℕ, ◌<◌, true, false, List, refl, inl, inr, arith}
+use Rattle.std.proofs.Common.{◌≡◌, ◌≢◌, ℕ, ◌<◌, Bool, true, false, List, refl, inl, inr, arith}
 use Rattle.std.proofs.Math.Path.{fun_ext}
 use Rattle.std.proofs.lemmas.Bool.{cases_eq}
 use Rattle.word_layout.specs.Sizes.{Sizes, IsShape}
@@ -13,7 +13,8 @@ use Rattle.pool_model.specs.declared.entry.Entry.{Entry}
 use Rattle.transfer_machine.specs.Machine.{action_of}
 use Rattle.transfer_machine.specs.Tries.{is_take}
 use Rattle.transfer_machine.specs.Words.{name_of}
-use Rattle.transfer_machine.specs.declared.stage.NextStep.TheVariants.{ExchangeState}
+use Rattle.transfer_machine.specs.declared.stage.NextStep.TheVariants.{Try}
+use Rattle.transfer_machine.specs.declared.stage.TryStep.TheVariants.{ExchangeState}
 use Rattle.transfer_invariant.specs.Memory.{Words, Views, state_tag}
 use Rattle.transfer_invariant.proofs.Keeps.{row_fits}
 use Rattle.plan_invariant.specs.Heads.{WishIsBlock}
@@ -64,10 +65,11 @@ in_step sizes words views history ghosts i li h =
     }
 
 -- a view that installs a state installs the next one
-pub installs_next : (sizes : Sizes) (words : Words) (views : ProcessViews) (history : List Entry) (ghosts : Ghosts) (i : ℕ) → IsShape sizes → i < sizes.processes → Holds sizes words views history ghosts → (views i).transfer.next ≡ ExchangeState → words State ≡ (views i).transfer.loaded.state
+pub installs_next : (sizes : Sizes) (words : Words) (views : ProcessViews) (history : List Entry) (ghosts : Ghosts) (i : ℕ) (second : Bool) → IsShape sizes → i < sizes.processes → Holds sizes words views history ghosts
+    → (views i).transfer.next ≡ Try second ExchangeState → words State ≡ (views i).transfer.loaded.state
     → InstallsNext sizes (ghosts.states (state_tag words)) views (views i).transfer
-installs_next sizes words views history ghosts i shape li h e hit =
-    let gives = installed_next sizes words (transfers views) ghosts.states i shape li h.stack e hit in
+installs_next sizes words views history ghosts i second shape li h e hit =
+    let gives = installed_next sizes words (transfers views) ghosts.states i second shape li h.stack e hit in
     record {
       row = row_fits sizes words i (views i).transfer shape.few_processes li (h.stack.transfers.records.own i li);
       present = λ o lo. record {
@@ -91,7 +93,7 @@ supplied sizes words views history ghosts i shape li h =
     record {
       age = λ e. (keeps sizes words views history ghosts i shape li h).runs.age.below (rw e refl);
       wish = λ e. wish_is_block sizes (views i).transfer.wish (begun e);
-      room = λ e hit. (plans_have_room sizes words s views (held_in ghosts.ledgers) (views i).transfer shape h.chains (installs_next sizes words views history ghosts i shape li h e hit)).within;
+      room = λ second e hit. (plans_have_room sizes words s views (held_in ghosts.ledgers) (views i).transfer shape h.chains (installs_next sizes words views history ghosts i second shape li h e hit)).within;
     }
 
 -- the reply that ends a transfer answers its wish

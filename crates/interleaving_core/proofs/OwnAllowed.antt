@@ -8,10 +8,10 @@ use Rattle.transfer_schedule.specs.Numbers as schedule
 use Rattle.transfer_schedule.specs.declared.own_step.Source.TheVariants as source
 use Rattle.transfer_schedule.specs.declared.own_step.Target.TheVariants as target
 use Rattle.transfer_machine.specs.Words.{name_of}
-use Rattle.transfer_machine.specs.declared.call.Call.{Call}
-use Rattle.transfer_machine.specs.declared.call.Call.TheVariants.{Allocate, Free, Read, Write}
-use Rattle.transfer_machine.specs.declared.call.CallStage.TheVariants.{Own}
-use Rattle.transfer_machine.specs.declared.call.Way.TheVariants.{Alone}
+use Rattle.pool_machine.specs.declared.call.Call.{Call}
+use Rattle.pool_machine.specs.declared.call.Call.TheVariants.{Allocate, Free, Read, Write}
+use Rattle.pool_machine.specs.declared.call.CallStage.TheVariants.{Own}
+use Rattle.pool_machine.specs.declared.call.Way.TheVariants.{Alone}
 use Rattle.transfer_invariant.specs.Memory.{Words, state_tag}
 use Rattle.pool_machine.specs.OwnSteps.{block_from, allocate_action, own_action, own_action_for}
 use Rattle.pool_machine.specs.Ready.{CanAllocate, CanFollow, CanOwnFor, CanMeetOwnFor, CanOwn, CanMeetOwn}

@@ -9,9 +9,9 @@ use Rattle.pool_model.proofs.Members.{contains_tail, without_contains}
 use Rattle.transfer_machine.specs.Words.{name_of}
 use Rattle.transfer_machine.specs.declared.action.Action.{Action}
 use Rattle.transfer_machine.specs.declared.action.Action.TheVariants.{Load, Store}
-use Rattle.transfer_machine.specs.declared.call.Call.{Call}
-use Rattle.transfer_machine.specs.declared.call.Call.TheVariants.{Allocate, Free, Read, Write}
-use Rattle.transfer_machine.specs.declared.view.PoolView.{PoolView}
+use Rattle.pool_machine.specs.declared.call.Call.{Call}
+use Rattle.pool_machine.specs.declared.call.Call.TheVariants.{Allocate, Free, Read, Write}
+use Rattle.pool_machine.specs.declared.view.PoolView.{PoolView}
 use Rattle.transfer_invariant.specs.Memory.{Words, Acted}
 use Rattle.pool_machine.specs.OwnSteps.{next_block, allocate_action, own_action_for}
 use Rattle.chain_invariant.specs.Calls.{with_got, held_by_call, NamesHeld}

@@ -2,16 +2,16 @@
 use Rattle.std.proofs.Common.{◌≡◌, ◌≢◌, ℕ, ◌<◌, true, Option, None, Some, List, [], ◌∷◌, ◌++◌, refl}
 use Rattle.std.specs.Prelude.{Contains}
 use Rattle.std.proofs.lemmas.List.{append-nil}
-use Rattle.word_layout.specs.Sizes.{Sizes, IsShape, transfer_bound}
+use Rattle.word_layout.specs.Sizes.{Sizes, IsShape, transfer_bound, limits_of}
 use Rattle.pool_model.specs.declared.entry.Entry.{Entry}
 use Rattle.pool_model.specs.declared.entry.Entry.TheVariants.{Got, Back, Dry}
 use Rattle.pool_model.specs.History.{held}
 use Rattle.transfer_schedule.specs.Account as schedule
-use Rattle.transfer_machine.specs.declared.call.Call.{Call}
-use Rattle.transfer_machine.specs.declared.call.Call.TheVariants.{Allocate, Free, Read, Write}
-use Rattle.transfer_machine.specs.declared.call.CallStage.TheVariants.{Own}
-use Rattle.transfer_machine.specs.declared.call.Way.TheVariants.{Alone}
-use Rattle.transfer_machine.specs.declared.view.ProcessView.{ProcessView}
+use Rattle.pool_machine.specs.declared.call.Call.{Call}
+use Rattle.pool_machine.specs.declared.call.Call.TheVariants.{Allocate, Free, Read, Write}
+use Rattle.pool_machine.specs.declared.call.CallStage.TheVariants.{Own}
+use Rattle.pool_machine.specs.declared.call.Way.TheVariants.{Alone}
+use Rattle.pool_machine.specs.declared.view.ProcessView.{ProcessView}
 use Rattle.transfer_invariant.specs.Memory.{Words, state_tag}
 use Rattle.pool_machine.specs.OwnSteps.{next_block, own_met, own_answer_for, own_kind_for, allocate_kind, allocate_answer}
 use Rattle.pool_machine.specs.Steps.{happened}
@@ -32,7 +32,7 @@ use Rattle.call_invariant.specs.InCalls.{Scheduled, InCalls}
 use Rattle.call_invariant.specs.Phases.{changes_pool}
 use Rattle.call_invariant.proofs.Owned.{phase_own, gets_leave, refusals_leave, frees_leave, keeping_steps_leave, block_has_source, no_block_has_none}
 use Rattle.call_invariant.proofs.Uses.{calls_used}
-use Rattle.interleaving_core.specs.Invariant.{Ghosts, held_in, limits_of, Holds}
+use Rattle.interleaving_core.specs.Invariant.{Ghosts, held_in, Holds}
 use Rattle.interleaving_core.specs.Runs.{entries_of}
 use Rattle.interleaving_core.proofs.Joins as joins
 use Rattle.interleaving_core.proofs.OwnParts.{ledger_allocated, ledger_by_call}

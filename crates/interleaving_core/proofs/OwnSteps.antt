@@ -8,9 +8,9 @@ use Rattle.word_layout.specs.Sizes.{Sizes, IsShape}
 use Rattle.pool_model.specs.declared.entry.Entry.{Entry}
 use Rattle.pool_model.specs.History.{grip}
 use Rattle.transfer_machine.specs.Words.{name_of}
-use Rattle.transfer_machine.specs.declared.call.CallStage.TheVariants.{Own}
-use Rattle.transfer_machine.specs.declared.call.Way.TheVariants.{Alone}
-use Rattle.transfer_machine.specs.declared.view.ProcessView.{ProcessView}
+use Rattle.pool_machine.specs.declared.call.CallStage.TheVariants.{Own}
+use Rattle.pool_machine.specs.declared.call.Way.TheVariants.{Alone}
+use Rattle.pool_machine.specs.declared.view.ProcessView.{ProcessView}
 use Rattle.transfer_invariant.specs.Memory.{Words, Views, States, Acted, state_tag}
 use Rattle.pool_machine.specs.OwnSteps.{own_action, own_met, own_answer, own_kind}
 use Rattle.pool_machine.specs.Steps.{happened}

@@ -14,19 +14,19 @@ use Rattle.transfer_schedule.specs.declared.own_step.Source.TheVariants as sourc
 use Rattle.transfer_schedule.specs.declared.own_step.Target.{Target}
 use Rattle.transfer_schedule.specs.declared.own_step.Target.TheVariants as target
 use Rattle.transfer_machine.specs.Machine.{met_at}
-use Rattle.transfer_machine.specs.Phases.{is_rest}
-use Rattle.transfer_machine.specs.Pools.{opening_view, pool_met_at, view_begun}
+use Rattle.pool_machine.specs.Pools.{opening_view, pool_met_at, view_begun}
 use Rattle.transfer_machine.specs.Words.{met_word}
-use Rattle.transfer_machine.specs.declared.call.Call.{Call}
-use Rattle.transfer_machine.specs.declared.call.Call.TheVariants.{Allocate, Free, Read, Write}
-use Rattle.transfer_machine.specs.declared.call.CallStage.{CallStage}
-use Rattle.transfer_machine.specs.declared.call.CallStage.TheVariants.{Between, Moving, Own}
-use Rattle.transfer_machine.specs.declared.call.Way.{Way}
-use Rattle.transfer_machine.specs.declared.call.Way.TheVariants.{Alone}
-use Rattle.transfer_machine.specs.declared.view.PoolView.{PoolView}
-use Rattle.transfer_machine.specs.declared.view.ProcessView.{ProcessView}
+use Rattle.pool_machine.specs.declared.call.Call.{Call}
+use Rattle.pool_machine.specs.declared.call.Call.TheVariants.{Allocate, Free, Read, Write}
+use Rattle.pool_machine.specs.declared.call.CallStage.{CallStage}
+use Rattle.pool_machine.specs.declared.call.CallStage.TheVariants.{Between, Moving, Own}
+use Rattle.pool_machine.specs.declared.call.Way.{Way}
+use Rattle.pool_machine.specs.declared.call.Way.TheVariants.{Alone}
+use Rattle.pool_machine.specs.declared.view.PoolView.{PoolView}
+use Rattle.pool_machine.specs.declared.view.ProcessView.{ProcessView}
 use Rattle.transfer_machine.specs.declared.stage.NextStep.{NextStep}
-use Rattle.transfer_machine.specs.declared.stage.NextStep.TheVariants.{Rest, Announce, LoadState, LoadRecordWord, LoadCoveredSlot, ExchangeSlot, LoadAnnouncement, LoadPoppedSlot, StoreRecordWord, ExchangeState, LoadFinalState, LoadReply}
+use Rattle.transfer_machine.specs.declared.stage.NextStep.TheVariants.{Rest, Announce, LoadFinalState, LoadReply, Try}
+use Rattle.transfer_machine.specs.Stages.{is_rest}
 use Rattle.pool_machine.specs.Beginning.{due, begun_if_due, alone_begun, call_begun}
 use Rattle.pool_machine.specs.OwnSteps.{allocated, freed, pool_own_met}
 use Rattle.pool_machine.specs.Steps.{call_met_at}
@@ -83,14 +83,7 @@ transfers_are_bounded sizes past history s i run li = bounded s history i (run_f
 step_counts : (sizes : Sizes) (v : ProcessView) (word : ℕ) (s : NextStep) → is_rest s ≡ false → is_rest (met_at sizes v.transfer word s).next ≡ false → (pool_met_at word v.pool s).plan.done ≡ v.pool.plan.done + 1
 step_counts sizes v word Rest busy goes = grind arith
 step_counts sizes v word Announce busy goes = refl
-step_counts sizes v word LoadState busy goes = refl
-step_counts sizes v word (LoadRecordWord index) busy goes = refl
-step_counts sizes v word (LoadCoveredSlot offset) busy goes = refl
-step_counts sizes v word (ExchangeSlot offset) busy goes = refl
-step_counts sizes v word (LoadAnnouncement process) busy goes = refl
-step_counts sizes v word (LoadPoppedSlot process) busy goes = refl
-step_counts sizes v word (StoreRecordWord index) busy goes = refl
-step_counts sizes v word ExchangeState busy goes = refl
+step_counts sizes v word (Try second step) busy goes = refl
 step_counts sizes v word LoadFinalState busy goes = refl
 step_counts sizes v word LoadReply busy goes = grind arith
 

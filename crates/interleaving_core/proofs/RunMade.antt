@@ -1,15 +1,16 @@
 -- which turns are steps of transfers
-use Rattle.std.proofs.Common.{◌≡◌, ◌^◌, Bool, true, false, refl, arith}
+use Rattle.std.proofs.Common.{◌≡◌, Bool, true, false, refl, arith}
 use Rattle.std.specs.Prelude.{if◌then◌else◌, nat_lt, ◌&&◌, ◌||◌, not}
 use Rattle.word_layout.specs.Names.{word_at}
 use Rattle.word_layout.specs.declared.announced.Wish.{Wish}
-use Rattle.transfer_machine.specs.Phases.{is_rest}
-use Rattle.transfer_machine.specs.declared.call.Call.{Call}
-use Rattle.transfer_machine.specs.declared.call.CallStage.{CallStage}
-use Rattle.transfer_machine.specs.declared.call.CallStage.TheVariants.{Moving, Own}
-use Rattle.transfer_machine.specs.declared.call.Way.{Way}
-use Rattle.transfer_machine.specs.declared.call.Way.TheVariants.{Fresh, Alone, Calls}
-use Rattle.transfer_machine.specs.declared.view.ProcessView.{ProcessView}
+use Rattle.word_layout.specs.Packing.{most_age}
+use Rattle.transfer_machine.specs.Stages.{is_rest}
+use Rattle.pool_machine.specs.declared.call.Call.{Call}
+use Rattle.pool_machine.specs.declared.call.CallStage.{CallStage}
+use Rattle.pool_machine.specs.declared.call.CallStage.TheVariants.{Moving, Own}
+use Rattle.pool_machine.specs.declared.call.Way.{Way}
+use Rattle.pool_machine.specs.declared.call.Way.TheVariants.{Fresh, Alone, Calls}
+use Rattle.pool_machine.specs.declared.view.ProcessView.{ProcessView}
 use Rattle.pool_machine.specs.Beginning.{alone_begun}
 use Rattle.pool_machine.specs.Conditions.{may_use_transfers}
 use Rattle.interleaving_core.specs.Moves.{view_at, may_wish, moving_view, calling_view}
@@ -60,7 +61,7 @@ runs_make_steps sizes past history s by run li =
     let alone = alone_between s.sizes words (view_at s) history by li fits.meets in
     record {
       moves = λ wish made. both (is_made (Moves by wish) s) (moves_transfer (moving_view wish v)) made
-          (moving_moves wish v v.calls.way (is_rest v.transfer.next) refl fresh refl (first_may (nat_lt by s.sizes.processes) (may_use_transfers v.calls.way) (not (is_rest v.transfer.next) || (nat_lt v.transfer.age (2 ^ 32) && may_wish wish v.pool)) made));
+          (moving_moves wish v v.calls.way (is_rest v.transfer.next) refl fresh refl (first_may (nat_lt by s.sizes.processes) (may_use_transfers v.calls.way) (not (is_rest v.transfer.next) || (nat_lt v.transfer.age most_age && may_wish wish v.pool)) made));
       events = λ moving call.
           let (calls, busy) = calls_busy v v.calls.way Moving refl alone moving refl in
           both (is_made (Events by call) s) (moves_transfer (calling_view call v)) ((busy_go_on s by li busy).1 calls call) (calling_at call v v.calls.way Moving refl alone moving refl);

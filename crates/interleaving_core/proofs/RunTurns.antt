@@ -1,16 +1,17 @@
 -- turns of a run, one after the other, and what they leave
-use Rattle.std.proofs.Common.{◌≡◌, ◌≢◌, ℕ, ◌<◌, ◌^◌, Bool, true, false, List, [], ◌∷◌, ◌++◌, length, refl, sym, ◌∙◌, ap, append_assoc, get_or-set_other, get_or-set_same, subst, arith}
+use Rattle.std.proofs.Common.{◌≡◌, ◌≢◌, ℕ, ◌<◌, Bool, true, false, List, [], ◌∷◌, ◌++◌, length, refl, sym, ◌∙◌, ap, append_assoc, get_or-set_other, get_or-set_same, subst, arith}
 use Rattle.std.specs.Prelude.{if◌then◌else◌, nat_lt, ◌&&◌, ◌||◌, not}
 use Rattle.std.proofs.lemmas.Bool.Decides.{nat_tests}
 use Rattle.std.proofs.lemmas.List.{append-nil}
 use Rattle.word_layout.specs.Sizes.{Sizes}
+use Rattle.word_layout.specs.Packing.{most_age}
 use Rattle.pool_model.specs.declared.entry.Entry.{Entry}
-use Rattle.transfer_machine.specs.Phases.{is_rest}
-use Rattle.transfer_machine.specs.Pools.{opening_view}
+use Rattle.pool_machine.specs.Pools.{opening_view}
 use Rattle.transfer_machine.specs.Words.{met_word}
-use Rattle.transfer_machine.specs.declared.call.Way.{Way}
-use Rattle.transfer_machine.specs.declared.call.Way.TheVariants.{Fresh, Alone, Calls}
-use Rattle.transfer_machine.specs.declared.view.ProcessView.{ProcessView}
+use Rattle.transfer_machine.specs.Stages.{is_rest}
+use Rattle.pool_machine.specs.declared.call.Way.{Way}
+use Rattle.pool_machine.specs.declared.call.Way.TheVariants.{Fresh, Alone, Calls}
+use Rattle.pool_machine.specs.declared.view.ProcessView.{ProcessView}
 use Rattle.pool_machine.specs.Conditions.{may_use_transfers, may_call}
 use Rattle.interleaving_core.specs.Steps.{is_alone, is_in_call, next_action, next_met}
 use Rattle.interleaving_core.specs.Moves.{CoreState, view_at, with_step, may_wish, holds_for}
@@ -98,8 +99,8 @@ goes_on inside t e = rw e refl
 pub busy_go_on : BusyProcessesGoOn
 busy_go_on s process low busy =
     let v = view_at s process in (
-      λ alone wish. is_low process s.sizes.processes (may_use_transfers v.calls.way && (not (is_rest v.transfer.next) || (nat_lt v.transfer.age (2 ^ 32) && may_wish wish v.pool))) low
-          (moves_on v.calls.way (is_rest v.transfer.next) (nat_lt v.transfer.age (2 ^ 32) && may_wish wish v.pool) alone (rw alone at busy)),
+      λ alone wish. is_low process s.sizes.processes (may_use_transfers v.calls.way && (not (is_rest v.transfer.next) || (nat_lt v.transfer.age most_age && may_wish wish v.pool))) low
+          (moves_on v.calls.way (is_rest v.transfer.next) (nat_lt v.transfer.age most_age && may_wish wish v.pool) alone (rw alone at busy)),
       λ calls call. is_low process s.sizes.processes (is_in_call v.calls.stage || may_call s.sizes (holds_for s.holders process call) call v) low
           (goes_on (is_in_call v.calls.stage) (may_call s.sizes (holds_for s.holders process call) call v) (rw calls at busy)),
     )

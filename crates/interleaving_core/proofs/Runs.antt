@@ -11,16 +11,16 @@ use Rattle.word_layout.specs.declared.announced.Wish.{Wish}
 use Rattle.pool_model.specs.declared.entry.Entry.{Entry}
 use Rattle.transfer_schedule.specs.Numbers.{is_idle}
 use Rattle.transfer_machine.specs.Opening.{AreOpening}
-use Rattle.transfer_machine.specs.Phases.{is_rest}
-use Rattle.transfer_machine.specs.Pools.{opening_view}
+use Rattle.pool_machine.specs.Pools.{opening_view}
 use Rattle.transfer_machine.specs.Words.{acted, met_word, name_of, left_by}
 use Rattle.transfer_machine.specs.declared.action.Action.{Action}
-use Rattle.transfer_machine.specs.declared.call.Call.{Call}
-use Rattle.transfer_machine.specs.declared.call.Call.TheVariants.{Allocate, Free, Read, Write}
-use Rattle.transfer_machine.specs.declared.call.CallStage.TheVariants.{Moving, Own}
-use Rattle.transfer_machine.specs.declared.call.Way.{Way}
-use Rattle.transfer_machine.specs.declared.call.Way.TheVariants.{Fresh, Alone, Calls}
-use Rattle.transfer_machine.specs.declared.view.ProcessView.{ProcessView}
+use Rattle.transfer_machine.specs.Stages.{is_rest}
+use Rattle.pool_machine.specs.declared.call.Call.{Call}
+use Rattle.pool_machine.specs.declared.call.Call.TheVariants.{Allocate, Free, Read, Write}
+use Rattle.pool_machine.specs.declared.call.CallStage.TheVariants.{Moving, Own}
+use Rattle.pool_machine.specs.declared.call.Way.{Way}
+use Rattle.pool_machine.specs.declared.call.Way.TheVariants.{Fresh, Alone, Calls}
+use Rattle.pool_machine.specs.declared.view.ProcessView.{ProcessView}
 use Rattle.batch_invariant.specs.Batches.{ProcessViews, MovedProcess}
 use Rattle.pool_machine.specs.Beginning.{alone_begun, call_begun, before_call}
 use Rattle.pool_machine.specs.Conditions.{may_use_transfers, may_call}
@@ -29,7 +29,7 @@ use Rattle.pool_machine.specs.declared.event.Happened.TheVariants.{Ignored}
 use Rattle.interleaving_core.specs.Turned.{Turned}
 use Rattle.interleaving_core.specs.Invariant.{MeetsInvariant, IsAmong, IsAmongHolding, with_view}
 use Rattle.interleaving_core.specs.Steps.{is_busy, is_in_call, next_action, next_met}
-use Rattle.interleaving_core.specs.Moves.{CoreState, view_at, may_move, moving_view, holds_for, may_go, calling_view, step_answer, with_step, holders_after}
+use Rattle.interleaving_core.specs.Moves.{CoreState, view_at, may_go_alone, moving_view, holds_for, may_go, calling_view, step_answer, with_step, holders_after}
 use Rattle.interleaving_core.specs.Runs.{Turn, Moves, Events, IsRun, opens, turns, opening_views, opened, by_of, is_made, turning_view, after_turn, turn_answer, entries_of}
 use Rattle.interleaving_core.proofs.Holders.{HoldersFit, opened_holders, step_holders, truly_held}
 use Rattle.interleaving_core.proofs.Begins.{alone_begins, call_begins}
@@ -111,7 +111,7 @@ first_may true b h = refl
 first_may false b h = grind arith
 
 -- a process that turns first begins its transfer or its call where it is in none
-moving_meets : (s : CoreState) (history : List Entry) (i : ℕ) (wish : Wish) (t : Bool) → RunFits s history → i < s.sizes.processes → may_move wish (view_at s i) ≡ true → is_rest (view_at s i).transfer.next ≡ t
+moving_meets : (s : CoreState) (history : List Entry) (i : ℕ) (wish : Wish) (t : Bool) → RunFits s history → i < s.sizes.processes → may_go_alone wish (view_at s i) ≡ true → is_rest (view_at s i).transfer.next ≡ t
     → MeetsInvariant s.sizes s.words (λ o. get_or (set s.views i (if t then alone_begun wish (view_at s i) else view_at s i)) o (opening_view s.sizes o)) history
 moving_meets s history i wish true fits li may rest =
     alone_begins s.sizes (word_at s.sizes s.words) (view_at s) _ history i wish fits.shape li fits.meets (rests (view_at s i).transfer.next rest) may (moved_seats s.sizes s.views i (alone_begun wish (view_at s i)) (rw fits.seats li))
@@ -151,20 +151,20 @@ calling_busy call v way false e alone inside = begun_inside call v
 
 pub turn_meets : (s : CoreState) (history : List Entry) (turn : Turn) → RunFits s history → is_made turn s ≡ true → by_of turn < s.sizes.processes
     → MeetsInvariant s.sizes s.words (λ o. get_or (set s.views (by_of turn) (turning_view turn s)) o (opening_view s.sizes o)) history
-turn_meets s history (Moves by wish) fits made li = moving_meets s history by wish (is_rest (view_at s by).transfer.next) fits li (both_may (nat_lt by s.sizes.processes) (may_move wish (view_at s by)) made) refl
+turn_meets s history (Moves by wish) fits made li = moving_meets s history by wish (is_rest (view_at s by).transfer.next) fits li (both_may (nat_lt by s.sizes.processes) (may_go_alone wish (view_at s by)) made) refl
 turn_meets s history (Events by call) fits made li = calling_meets s history by call (is_in_call (view_at s by).calls.stage) fits li (both_may (nat_lt by s.sizes.processes) _ made) refl
 
 pub turn_busy : (s : CoreState) (history : List Entry) (turn : Turn) → RunFits s history → is_made turn s ≡ true → by_of turn < s.sizes.processes → is_busy (turning_view turn s) ≡ true
 turn_busy s history (Moves by wish) fits made li =
     let v = view_at s by in
-    let may = both_may (nat_lt by s.sizes.processes) (may_move wish v) made in
+    let may = both_may (nat_lt by s.sizes.processes) (may_go_alone wish v) made in
     moving_busy wish v v.calls.way (is_rest v.transfer.next) refl (fresh_rests s.sizes (word_at s.sizes s.words) (view_at s) history by li fits.meets) refl (first_may (may_use_transfers v.calls.way) _ may)
 turn_busy s history (Events by call) fits made li =
     let v = view_at s by in
     calling_busy call v v.calls.way (is_in_call v.calls.stage) refl (alone_between s.sizes (word_at s.sizes s.words) (view_at s) history by li fits.meets) refl
 
 pub turn_low : (s : CoreState) (turn : Turn) → is_made turn s ≡ true → by_of turn < s.sizes.processes
-turn_low s (Moves by wish) made = both_low by s.sizes.processes (may_move wish (view_at s by)) made
+turn_low s (Moves by wish) made = both_low by s.sizes.processes (may_go_alone wish (view_at s by)) made
 turn_low s (Events by call) made = both_low by s.sizes.processes (may_go s.sizes (holds_for s.holders by call) call (view_at s by)) made
 
 -- a turn that is made keeps the invariant
@@ -272,7 +272,7 @@ turned_answer s now turn b words seats happened same can holds turned =
     rw (sym same) (rw made turned.answers)
 
 -- a process among the others that turns has a next step
-pub moving_next : (sizes : Sizes) (table : List ℕ) (v : ProcessView) (wish : Wish) → may_move wish v ≡ true → IsAmong sizes table v → is_busy (moving_view wish v) ≡ true
+pub moving_next : (sizes : Sizes) (table : List ℕ) (v : ProcessView) (wish : Wish) → may_go_alone wish v ≡ true → IsAmong sizes table v → is_busy (moving_view wish v) ≡ true
 moving_next sizes table v wish may among =
     let here = with_view_here v among.others in
     let fresh = fresh_rests sizes (word_at sizes table) (with_view v among.others) among.past v.transfer.number among.low among.meets in
@@ -291,10 +291,10 @@ is_low a b lt = grind (arith, nat_tests)
 seat_here : (s : CoreState) (history : List Entry) (by : ℕ) (v : ProcessView) → RunFits s history → by < s.sizes.processes → v ≡ get_or s.views by v → v ≡ view_at s by
 seat_here s history by v fits low here = here ∙ get_or_default s.views by v (opening_view s.sizes by) (rw fits.seats low)
 
-pub may_move_here : (s t : CoreState) (history : List Entry) (by : ℕ) (wish : Wish) (v : ProcessView) (b : Bool) → s ≡ t → RunFits s history → by < s.sizes.processes → v ≡ get_or s.views by v → b ≡ may_move wish v → b ≡ is_made (Moves by wish) t
-may_move_here s t history by wish v b e fits low here may =
+pub may_go_alone_here : (s t : CoreState) (history : List Entry) (by : ℕ) (wish : Wish) (v : ProcessView) (b : Bool) → s ≡ t → RunFits s history → by < s.sizes.processes → v ≡ get_or s.views by v → b ≡ may_go_alone wish v → b ≡ is_made (Moves by wish) t
+may_go_alone_here s t history by wish v b e fits low here may =
     let among = is_low by s.sizes.processes low in
-    rw (sym e) (rw among (may ∙ ap (may_move wish) (seat_here s history by v fits low here)))
+    rw (sym e) (rw among (may ∙ ap (may_go_alone wish) (seat_here s history by v fits low here)))
 
 pub may_go_here : (s t : CoreState) (history : List Entry) (by : ℕ) (call : Call) (v : ProcessView) (b holds : Bool) → s ≡ t → RunFits s history → by < s.sizes.processes → v ≡ get_or s.views by v → holds ≡ holds_for s.holders by call → b ≡ may_go s.sizes holds call v → b ≡ is_made (Events by call) t
 may_go_here s t history by call v b holds e fits low here held may =

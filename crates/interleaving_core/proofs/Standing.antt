@@ -1,21 +1,22 @@
 -- what holds of a process that may begin something
-use Rattle.std.proofs.Common.{◌≡◌, ◌≢◌, ℕ, ◌-◌, ◌<◌, ◌≤◌, ◌^◌, ◌==◌, Bool, true, false, List, length, refl, sym, ap, arith}
+use Rattle.std.proofs.Common.{◌≡◌, ◌≢◌, ℕ, ◌-◌, ◌<◌, ◌≤◌, ◌==◌, Bool, true, false, List, length, refl, sym, ap, arith}
 use Rattle.std.specs.Prelude.{slice_index, nat_lt, nat_le, ◌&&◌}
 use Rattle.std.proofs.lemmas.Bool.Decides.{nat_tests}
 use Rattle.word_layout.specs.Sizes.{Sizes, IsShape, blocks}
-use Rattle.word_layout.specs.Packing.{FitsWish}
+use Rattle.word_layout.specs.Packing.{FitsWish, most_age}
 use Rattle.word_layout.specs.declared.announced.Wish.{Wish}
 use Rattle.word_layout.specs.declared.announced.Wish.TheVariants.{Take, Give}
 use Rattle.pool_model.specs.declared.entry.Entry.{Entry}
+use Rattle.transfer_schedule.specs.Beginning.{few_spares}
 use Rattle.transfer_schedule.specs.declared.pending.Pending.TheVariants.{Idle}
-use Rattle.transfer_machine.specs.Phases.{is_rest}
-use Rattle.transfer_machine.specs.Pools.{MayBegin}
-use Rattle.transfer_machine.specs.declared.call.Call.{Call}
-use Rattle.transfer_machine.specs.declared.call.CallStage.TheVariants.{Between}
-use Rattle.transfer_machine.specs.declared.call.Way.{Way}
-use Rattle.transfer_machine.specs.declared.call.Way.TheVariants.{Fresh, Alone, Calls}
-use Rattle.transfer_machine.specs.declared.view.ProcessView.{ProcessView}
+use Rattle.pool_machine.specs.Pools.{MayBegin}
+use Rattle.pool_machine.specs.declared.call.Call.{Call}
+use Rattle.pool_machine.specs.declared.call.CallStage.TheVariants.{Between}
+use Rattle.pool_machine.specs.declared.call.Way.{Way}
+use Rattle.pool_machine.specs.declared.call.Way.TheVariants.{Fresh, Alone, Calls}
+use Rattle.pool_machine.specs.declared.view.ProcessView.{ProcessView}
 use Rattle.transfer_machine.specs.declared.stage.NextStep.TheVariants.{Rest}
+use Rattle.transfer_machine.specs.Stages.{is_rest}
 use Rattle.transfer_invariant.specs.Memory.{Words, state_tag}
 use Rattle.stack_invariant.proofs.Follows.{each_process}
 use Rattle.batch_invariant.specs.Batches.{ProcessViews}
@@ -89,16 +90,18 @@ spare_is_block sizes words views history ghosts i place shape li h lt =
 pub wish_fits_at : (sizes : Sizes) (words : Words) (views : ProcessViews) (history : List Entry) (ghosts : Ghosts) (i : ℕ) (wish : Wish) → IsShape sizes → i < sizes.processes
     → Holds sizes words views history ghosts → may_wish wish (views i).pool ≡ true
     → FitsWish wish × MayBegin wish (views i).pool
-wish_fits_at sizes words views history ghosts i Take shape li h may = (tt, few (views i).pool.plan.spares 1 may)
+wish_fits_at sizes words views history ghosts i Take shape li h may = (tt, few (views i).pool.plan.spares few_spares may)
 wish_fits_at sizes words views history ghosts i (Give head) shape li h may =
     let heads = (views i).pool.heads in
     let last = length heads - 1 in
-    let any : 0 < length heads = less 0 (length heads) (both_first (nat_lt 0 (length heads)) (slice_index heads last == head) may) in
-    let is : slice_index heads last ≡ head = same (slice_index heads last) head (both_second (nat_lt 0 (length heads)) (slice_index heads last == head) may) in
+    let spares = (views i).pool.plan.spares in
+    let any : 0 < length heads = less 0 (length heads) (both_first (nat_lt 0 (length heads)) (nat_le 1 spares && (slice_index heads last == head)) may) in
+    let both = both_second (nat_lt 0 (length heads)) (nat_le 1 spares && (slice_index heads last == head)) may in
+    let some : 1 ≤ spares = few 1 spares (both_first (nat_le 1 spares) (slice_index heads last == head) both) in
+    let is : slice_index heads last ≡ head = same (slice_index heads last) head (both_second (nat_le 1 spares) (slice_index heads last == head) both) in
     let block = spare_is_block sizes words views history ghosts i last shape li h (omega arith) in
     let limit = shape.few_blocks in
-    let kept = keeps sizes words views history ghosts i shape li h in
-    (rw (sym is) (omega arith), (omega arith, omega (arith, kept.heads), is))
+    (rw (sym is) (omega arith), (omega arith, some, is))
 
 pub wish_fits : (sizes : Sizes) (words : Words) (views : ProcessViews) (history : List Entry) (i : ℕ) (wish : Wish) → IsShape sizes → i < sizes.processes → Meets sizes words views history
     → (views i).transfer.next ≡ Rest → may_wish wish (views i).pool ≡ true → FitsWish wish × MayBegin wish (views i).pool
@@ -106,25 +109,25 @@ wish_fits sizes words views history i wish shape li (ghosts, h) rest may = wish_
 
 -- what the test of a call says
 pub call_way : (sizes : Sizes) (holds : Bool) (call : Call) (v : ProcessView) → may_call sizes holds call v ≡ true → v.calls.way ≢ Alone
-call_way sizes holds call v may = by_way v.calls.way (both_first (may_use_calls v.calls.way) (nat_lt v.transfer.age (2 ^ 32) && names_fit sizes holds call) may)
+call_way sizes holds call v may = by_way v.calls.way (both_first (may_use_calls v.calls.way) (nat_lt v.transfer.age most_age && names_fit sizes holds call) may)
   where
     by_way : (way : Way) → may_use_calls way ≡ true → way ≢ Alone
     by_way Fresh e = λ is. grind arith
     by_way Alone e = λ is. grind arith
     by_way Calls e = λ is. grind arith
 
-call_rest : (sizes : Sizes) (holds : Bool) (call : Call) (v : ProcessView) → may_call sizes holds call v ≡ true → (nat_lt v.transfer.age (2 ^ 32) && names_fit sizes holds call) ≡ true
-call_rest sizes holds call v may = both_second (may_use_calls v.calls.way) (nat_lt v.transfer.age (2 ^ 32) && names_fit sizes holds call) may
+call_rest : (sizes : Sizes) (holds : Bool) (call : Call) (v : ProcessView) → may_call sizes holds call v ≡ true → (nat_lt v.transfer.age most_age && names_fit sizes holds call) ≡ true
+call_rest sizes holds call v may = both_second (may_use_calls v.calls.way) (nat_lt v.transfer.age most_age && names_fit sizes holds call) may
 
-pub call_young : (sizes : Sizes) (holds : Bool) (call : Call) (v : ProcessView) → may_call sizes holds call v ≡ true → v.transfer.age < 2 ^ 32
-call_young sizes holds call v may = less v.transfer.age (2 ^ 32) (both_first (nat_lt v.transfer.age (2 ^ 32)) (names_fit sizes holds call) (call_rest sizes holds call v may))
+pub call_young : (sizes : Sizes) (holds : Bool) (call : Call) (v : ProcessView) → may_call sizes holds call v ≡ true → v.transfer.age < most_age
+call_young sizes holds call v may = less v.transfer.age most_age (both_first (nat_lt v.transfer.age most_age) (names_fit sizes holds call) (call_rest sizes holds call v may))
 
 pub call_names : (sizes : Sizes) (holds : Bool) (call : Call) (v : ProcessView) → may_call sizes holds call v ≡ true → names_fit sizes holds call ≡ true
-call_names sizes holds call v may = both_second (nat_lt v.transfer.age (2 ^ 32)) (names_fit sizes holds call) (call_rest sizes holds call v may)
+call_names sizes holds call v may = both_second (nat_lt v.transfer.age most_age) (names_fit sizes holds call) (call_rest sizes holds call v may)
 
 -- a process between two calls can begin one
 pub call_can : (sizes : Sizes) (words : Words) (views : ProcessViews) (history : List Entry) (ghosts : Ghosts) (i : ℕ) → IsShape sizes → i < sizes.processes → Holds sizes words views history ghosts
-    → (views i).transfer.age < 2 ^ 32 → CanBegin (views i)
+    → (views i).transfer.age < most_age → CanBegin (views i)
 call_can sizes words views history ghosts i shape li h young =
     let kept = keeps sizes words views history ghosts i shape li h in
     calls_can_begin sizes (views i) kept young (λ three.

@@ -11,21 +11,23 @@ use Rattle.pool_model.specs.declared.entry.Entry.{Entry}
 use Rattle.transfer_schedule.specs.Numbers.{source_of}
 use Rattle.transfer_schedule.specs.declared.own_step.Source.{Source}
 use Rattle.transfer_schedule.specs.declared.own_step.Source.TheVariants as source
-use Rattle.transfer_machine.specs.Machine.{action_at, action_of, met_at, CanActAt}
+use Rattle.transfer_machine.specs.Machine.{try_action, action_at, action_of, met_in_try, met_at, CanActInTry, CanActAt}
 use Rattle.transfer_schedule.specs.declared.pending.Pending.TheVariants.{Idle}
-use Rattle.transfer_machine.specs.Phases.{is_rest}
-use Rattle.transfer_machine.specs.Pools.{MayBegin, view_met}
+use Rattle.pool_machine.specs.Pools.{MayBegin, view_met}
 use Rattle.transfer_machine.specs.Words.{name_of, left_by, acted, met_word}
 use Rattle.transfer_machine.specs.declared.action.Action.{Action}
-use Rattle.transfer_machine.specs.declared.view.PoolView.{PoolView}
-use Rattle.transfer_machine.specs.declared.call.Call.{Call}
-use Rattle.transfer_machine.specs.declared.call.Call.TheVariants.{Allocate, Free, Read, Write}
-use Rattle.transfer_machine.specs.declared.call.CallStage.{CallStage}
-use Rattle.transfer_machine.specs.declared.call.CallStage.TheVariants.{Between, Moving, Own}
+use Rattle.pool_machine.specs.declared.view.PoolView.{PoolView}
+use Rattle.pool_machine.specs.declared.call.Call.{Call}
+use Rattle.pool_machine.specs.declared.call.Call.TheVariants.{Allocate, Free, Read, Write}
+use Rattle.pool_machine.specs.declared.call.CallStage.{CallStage}
+use Rattle.pool_machine.specs.declared.call.CallStage.TheVariants.{Between, Moving, Own}
 use Rattle.transfer_machine.specs.declared.transfer.TransferView.{TransferView}
-use Rattle.transfer_machine.specs.declared.view.ProcessView.{ProcessView}
+use Rattle.pool_machine.specs.declared.view.ProcessView.{ProcessView}
 use Rattle.transfer_machine.specs.declared.stage.NextStep.{NextStep}
-use Rattle.transfer_machine.specs.declared.stage.NextStep.TheVariants.{Rest, Announce, LoadState, LoadRecordWord, LoadCoveredSlot, ExchangeSlot, LoadAnnouncement, LoadPoppedSlot, StoreRecordWord, ExchangeState, LoadFinalState, LoadReply}
+use Rattle.transfer_machine.specs.declared.stage.NextStep.TheVariants.{Rest, Announce, LoadFinalState, LoadReply, Try}
+use Rattle.transfer_machine.specs.Stages.{is_rest}
+use Rattle.transfer_machine.specs.declared.stage.TryStep.{TryStep}
+use Rattle.transfer_machine.specs.declared.stage.TryStep.TheVariants.{LoadState, LoadRecordWord, LoadCoveredSlot, ExchangeSlot, LoadAnnouncement, LoadPoppedSlot, StoreRecordWord, ExchangeState}
 use Rattle.transfer_invariant.specs.Memory.{Words, Acted}
 use Rattle.batch_invariant.specs.Batches.{ProcessViews, MovedProcess}
 use Rattle.pool_machine.specs.Beginning.{alone_begun, call_begun, begun_if_due, due}
@@ -34,7 +36,7 @@ use Rattle.pool_machine.specs.OwnSteps.{own_action_for, allocate_action, block_f
 use Rattle.pool_machine.specs.Ready.{CanBegin, CanActCallAt, CanAllocate, CanOwnFor}
 use Rattle.pool_machine.specs.Steps.{call_action_at, call_met_at, call_action, call_met, call_answer}
 use Rattle.interleaving_core.specs.Invariant.{MeetsInvariant, IsAmong, IsAmongHolding, with_view}
-use Rattle.interleaving_core.specs.Moves.{may_wish, may_move, moving_view, may_go, calling_view}
+use Rattle.interleaving_core.specs.Moves.{may_wish, may_go_alone, moving_view, may_go, calling_view}
 use Rattle.interleaving_core.specs.Runs.{entries_of}
 use Rattle.interleaving_core.specs.Steps.{is_alone, is_busy, is_in_call, next_action, next_met, next_answer}
 use Rattle.interleaving_core.proofs.Begins.{alone_begins, call_begins}
@@ -51,17 +53,20 @@ table_acted sizes table action whole range =
     }
 
 -- the name that a view acts on in a transfer is in range
+try_in_range : (sizes : Sizes) (v : TransferView) (s : TryStep) → CanActInTry sizes v s → InRange sizes (name_of (try_action sizes v s))
+try_in_range sizes v LoadState can = tt
+try_in_range sizes v (LoadRecordWord index) (row, low) = (row, low)
+try_in_range sizes v (LoadCoveredSlot offset) (few, low) = low
+try_in_range sizes v (ExchangeSlot offset) (few, low) = low
+try_in_range sizes v (LoadAnnouncement process) low = low
+try_in_range sizes v (LoadPoppedSlot process) (low, some, most) = omega arith
+try_in_range sizes v (StoreRecordWord index) (row, low, few, tag, value) = (row, low)
+try_in_range sizes v ExchangeState can = tt
+
 acts_in_range : (sizes : Sizes) (v : TransferView) (s : NextStep) → CanActAt sizes v s → InRange sizes (name_of (action_at sizes v s))
 acts_in_range sizes v Rest can = tt
 acts_in_range sizes v Announce (low, age, fits) = low
-acts_in_range sizes v LoadState can = tt
-acts_in_range sizes v (LoadRecordWord index) (row, low) = (row, low)
-acts_in_range sizes v (LoadCoveredSlot offset) (few, low) = low
-acts_in_range sizes v (ExchangeSlot offset) (few, low) = low
-acts_in_range sizes v (LoadAnnouncement process) low = low
-acts_in_range sizes v (LoadPoppedSlot process) (low, some, most) = omega arith
-acts_in_range sizes v (StoreRecordWord index) (row, low, few, tag, value) = (row, low)
-acts_in_range sizes v ExchangeState can = tt
+acts_in_range sizes v (Try second step) can = try_in_range sizes v step can
 acts_in_range sizes v LoadFinalState can = tt
 acts_in_range sizes v LoadReply (row, low) = (row, omega arith)
 
@@ -88,17 +93,20 @@ next_in_range sizes words v true alone allowed = rw alone (acts_in_range sizes v
 next_in_range sizes words v false alone allowed = rw alone (call_in_range sizes v v.calls.stage (allowed.call_act alone))
 
 -- a step keeps the number of its process
+try_number : (sizes : Sizes) (v : TransferView) (word : ℕ) (second : Bool) (s : TryStep) → (met_in_try sizes v word second s).number ≡ v.number
+try_number sizes v word second LoadState = refl
+try_number sizes v word second (LoadRecordWord index) = grind (arith, nat_tests)
+try_number sizes v word second (LoadCoveredSlot offset) = refl
+try_number sizes v word second (ExchangeSlot offset) = refl
+try_number sizes v word second (LoadAnnouncement process) = grind (arith, nat_tests)
+try_number sizes v word second (LoadPoppedSlot process) = refl
+try_number sizes v word second (StoreRecordWord index) = refl
+try_number sizes v word second ExchangeState = grind (arith, nat_tests)
+
 met_number : (sizes : Sizes) (v : TransferView) (word : ℕ) (s : NextStep) → (met_at sizes v word s).number ≡ v.number
 met_number sizes v word Rest = refl
 met_number sizes v word Announce = refl
-met_number sizes v word LoadState = refl
-met_number sizes v word (LoadRecordWord index) = grind (arith, nat_tests)
-met_number sizes v word (LoadCoveredSlot offset) = refl
-met_number sizes v word (ExchangeSlot offset) = refl
-met_number sizes v word (LoadAnnouncement process) = grind (arith, nat_tests)
-met_number sizes v word (LoadPoppedSlot process) = refl
-met_number sizes v word (StoreRecordWord index) = refl
-met_number sizes v word ExchangeState = grind (arith, nat_tests)
+met_number sizes v word (Try second step) = try_number sizes v word second step
 met_number sizes v word LoadFinalState = refl
 met_number sizes v word LoadReply = refl
 
@@ -179,7 +187,7 @@ pub between_calls : (stage : CallStage) → is_in_call stage ≡ false → stage
 between_calls stage h = grind arith
 
 -- the view that moves alone
-moving_among : (sizes : Sizes) (table : List ℕ) (v : ProcessView) (wish : Wish) (t : Bool) → IsShape sizes → is_rest v.transfer.next ≡ t → may_move wish v ≡ true → IsAmong sizes table v → IsAmong sizes table (if t then alone_begun wish v else v)
+moving_among : (sizes : Sizes) (table : List ℕ) (v : ProcessView) (wish : Wish) (t : Bool) → IsShape sizes → is_rest v.transfer.next ≡ t → may_go_alone wish v ≡ true → IsAmong sizes table v → IsAmong sizes table (if t then alone_begun wish v else v)
 moving_among sizes table v wish true shape rest may among =
     let here = with_view_here v among.others in
     let x = alone_begun wish v in
@@ -187,7 +195,7 @@ moving_among sizes table v wish true shape rest may among =
     record { low = among.low; others = among.others; past = among.past; meets = (rw here at begins) (rests v.transfer.next rest) may (with_view_moved v x among.others refl) }
 moving_among sizes table v wish false shape rest may among = among
 
-pub among_moving : (sizes : Sizes) (table : List ℕ) (v : ProcessView) (wish : Wish) → IsShape sizes → may_move wish v ≡ true → IsAmong sizes table v → IsAmong sizes table (moving_view wish v)
+pub among_moving : (sizes : Sizes) (table : List ℕ) (v : ProcessView) (wish : Wish) → IsShape sizes → may_go_alone wish v ≡ true → IsAmong sizes table v → IsAmong sizes table (moving_view wish v)
 among_moving sizes table v wish shape may among = moving_among sizes table v wish (is_rest v.transfer.next) shape refl may among
 
 -- a call leaves the number of its process

@@ -3,17 +3,18 @@ use Rattle.std.proofs.Common.{◌≡◌, ◌≢◌, ℕ, ◌<◌, ◌≤◌, Boo
 use Rattle.std.specs.Prelude.{◌⊎◌}
 use Rattle.std.proofs.Math.Path.{fun_ext}
 use Rattle.std.proofs.lemmas.Bool.{cases_eq}
-use Rattle.word_layout.specs.Sizes.{Sizes, IsShape, transfer_bound}
+use Rattle.word_layout.specs.Sizes.{Sizes, IsShape, transfer_bound, limits_of}
 use Rattle.pool_model.specs.declared.entry.Entry.{Entry}
 use Rattle.pool_model.specs.History.{unheld, grip}
 use Rattle.pool_model.specs.Limits.{slack}
 use Rattle.transfer_machine.specs.Machine.{action_of}
-use Rattle.transfer_machine.specs.Pools.{view_met}
+use Rattle.pool_machine.specs.Pools.{view_met}
 use Rattle.transfer_machine.specs.Words.{name_of}
-use Rattle.transfer_machine.specs.declared.view.ProcessView.{ProcessView}
+use Rattle.pool_machine.specs.declared.view.ProcessView.{ProcessView}
 use Rattle.transfer_invariant.specs.Memory.{Words, Acted, state_tag}
 use Rattle.transfer_invariant.specs.Installing.{states_after}
-use Rattle.stack_invariant.proofs.Changes.{HitsNot, present_stays}
+use Rattle.stack_invariant.specs.Laws.{HitsNot}
+use Rattle.stack_invariant.proofs.Changes.{present_stays}
 use Rattle.stack_invariant.proofs.Keeps.{steps_keep_stack}
 use Rattle.batch_invariant.specs.Batches.{ProcessViews, MovedProcess}
 use Rattle.batch_invariant.proofs.Steps.{transfers_move}
@@ -29,7 +30,7 @@ use Rattle.history_invariant.specs.Steps.{with_ledger}
 use Rattle.history_invariant.proofs.Holding.{exchange_holds}
 use Rattle.call_invariant.specs.Uses.{UsesPool}
 use Rattle.call_invariant.proofs.Uses.{uses_stay}
-use Rattle.interleaving_core.specs.Invariant.{Ghosts, Holds, Meets, DataHolds, KnowsOfNothing, held_in, limits_of}
+use Rattle.interleaving_core.specs.Invariant.{Ghosts, Holds, Meets, DataHolds, KnowsOfNothing, held_in}
 use Rattle.interleaving_core.proofs.Joins.{transfers, in_step, installs_next, supplied}
 use Rattle.interleaving_core.proofs.TransferSteps.{data_stays, known_of, known_entries, known_account, emptied, own_knows, each_ledger}
 
@@ -65,7 +66,7 @@ step_made sizes words new views after history ghosts i x g found shape li h acte
     let met = view_met sizes v (words (name_of (action_of sizes v.transfer))) in
     let same = held_same i g found ghosts.ledgers made.same in
     let chains = transfer_keeps sizes words new views after ghosts.states h.chains.batch_blocks h.chains.current_blocks (held_in ghosts.ledgers) i x shape li h.chains.hold (in_step sizes words views history ghosts i li h)
-    (installs_next sizes words views history ghosts i shape li h) acted made.parts moved in
+    (λ second. installs_next sizes words views history ghosts i second shape li h) acted made.parts moved in
     let moves = transfers_move i x views after moved in
     record {
       stack = steps_keep_stack sizes words new (transfers views) (transfers after) ghosts.states i shape li h.stack (supplied sizes words views history ghosts i shape li h) acted (rw made.parts.transfer at moves);

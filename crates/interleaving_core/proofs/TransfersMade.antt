@@ -1,16 +1,16 @@
 -- the steps of transfers, alone and in calls
 use Rattle.std.proofs.Common.{◌≡◌, ◌≢◌, ℕ, ◌<◌, Bool, true, false, List, refl, sym, ap, ◌∙◌, arith}
 use Rattle.std.specs.Prelude.{if◌then◌else◌}
-use Rattle.word_layout.specs.Sizes.{Sizes, IsShape, transfer_bound}
+use Rattle.word_layout.specs.Sizes.{Sizes, IsShape, transfer_bound, limits_of}
 use Rattle.word_layout.specs.Packing.{value_of, reply_of}
 use Rattle.word_layout.specs.declared.reply.Reply.TheVariants.{Nothing}
 use Rattle.pool_model.specs.declared.entry.Entry.{Entry}
 use Rattle.transfer_machine.specs.Machine.{action_of}
-use Rattle.transfer_machine.specs.Pools.{view_met}
+use Rattle.pool_machine.specs.Pools.{view_met}
 use Rattle.transfer_machine.specs.Tries.{is_take}
 use Rattle.transfer_machine.specs.Words.{name_of}
-use Rattle.transfer_machine.specs.declared.call.CallStage.TheVariants.{Moving}
-use Rattle.transfer_machine.specs.declared.call.Way.TheVariants.{Alone}
+use Rattle.pool_machine.specs.declared.call.CallStage.TheVariants.{Moving}
+use Rattle.pool_machine.specs.declared.call.Way.TheVariants.{Alone}
 use Rattle.transfer_machine.specs.declared.stage.NextStep.TheVariants.{LoadReply}
 use Rattle.transfer_invariant.specs.Memory.{Words, Acted}
 use Rattle.batch_invariant.specs.Batches.{ProcessViews, MovedProcess}
@@ -25,7 +25,7 @@ use Rattle.call_invariant.proofs.Alone.{transfers_step}
 use Rattle.call_invariant.proofs.Carried.{transfer_steps_carry, enters_nothing}
 use Rattle.call_invariant.proofs.Standing.{shape_fits}
 use Rattle.call_invariant.proofs.Uses.{transfers_used, uses_transfers, calls_used, uses_calls}
-use Rattle.interleaving_core.specs.Invariant.{Ghosts, Holds, Meets, limits_of}
+use Rattle.interleaving_core.specs.Invariant.{Ghosts, Holds, Meets}
 use Rattle.interleaving_core.proofs.Joins.{in_step, given, scheduled, same_ledgers}
 use Rattle.interleaving_core.proofs.InstallsHold.{transfer_step_holds}
 

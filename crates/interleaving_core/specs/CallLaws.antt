@@ -1,31 +1,31 @@
 -- laws of calls over every run
 use Rattle.std.specs.Prelude.{◌≡◌, ◌≢◌, ℕ, ◌+◌, ◌*◌, ◌-◌, ◌<◌, ◌≤◌, ◌↔◌, true, false, Some, List, length, slice_get, take, Contains}
-use Rattle.word_layout.specs.Sizes.{Sizes, blocks, slack, transfer_bound}
+use Rattle.word_layout.specs.Sizes.{Sizes, blocks, transfer_bound, limits_of}
 use Rattle.word_layout.specs.Names.{word_at}
 use Rattle.word_layout.specs.declared.announced.Wish.{Wish}
 use Rattle.word_layout.specs.declared.name.WordName.TheVariants.{Data}
+use Rattle.process_sums.specs.Sums.{total}
 use Rattle.pool_model.specs.declared.entry.Entry.{Entry}
 use Rattle.pool_model.specs.declared.entry.Entry.TheVariants.{Dry}
 use Rattle.pool_model.specs.History.{own, held, grip}
 use Rattle.pool_model.specs.Legal.{IsLegal, HadFew}
+use Rattle.pool_model.specs.Limits.{slack}
 use Rattle.history_invariant.specs.Fits.{CountsEntries}
 use Rattle.history_invariant.specs.Grips.{times}
 use Rattle.transfer_schedule.specs.declared.pending.Pending.TheVariants.{Idle}
 use Rattle.transfer_schedule.specs.Account.{Account, Reached}
 use Rattle.transfer_schedule.specs.Table.{InTable}
 use Rattle.transfer_machine.specs.Words.{stack}
-use Rattle.transfer_invariant.specs.Tags.{total}
-use Rattle.transfer_machine.specs.declared.call.Call.{Call}
-use Rattle.transfer_machine.specs.declared.call.Call.TheVariants.{Read, Write}
-use Rattle.transfer_machine.specs.declared.call.CallStage.{CallStage}
-use Rattle.transfer_machine.specs.declared.call.CallStage.TheVariants.{Between, Moving, Own}
-use Rattle.transfer_machine.specs.declared.call.CallView.{CallView}
-use Rattle.transfer_machine.specs.declared.call.Way.TheVariants.{Alone}
-use Rattle.transfer_machine.specs.declared.view.ProcessView.{ProcessView}
+use Rattle.pool_machine.specs.declared.call.Call.{Call}
+use Rattle.pool_machine.specs.declared.call.Call.TheVariants.{Read, Write}
+use Rattle.pool_machine.specs.declared.call.CallStage.{CallStage}
+use Rattle.pool_machine.specs.declared.call.CallStage.TheVariants.{Between, Moving, Own}
+use Rattle.pool_machine.specs.declared.call.CallView.{CallView}
+use Rattle.pool_machine.specs.declared.call.Way.TheVariants.{Alone}
+use Rattle.pool_machine.specs.declared.view.ProcessView.{ProcessView}
 use Rattle.pool_machine.specs.Laws.{most_moves}
 use Rattle.pool_machine.specs.declared.event.Happened.TheVariants.{Loaded, Stored}
 use Rattle.call_invariant.specs.Phases.{call_phase}
-use Rattle.interleaving_core.specs.Invariant.{limits_of}
 use Rattle.interleaving_core.specs.Kept.{kept}
 use Rattle.interleaving_core.specs.Moves.{CoreState, view_at, holder_of, is_holder}
 use Rattle.interleaving_core.specs.Runs.{Turn, Moves, Events, by_of, is_made, turning_view, after_turn, turn_answer, entries_of, IsRun}
@@ -57,7 +57,7 @@ HoldersHold = EveryRun (λ sizes history s. (i block : ℕ) → (is_holder i (ho
 
 -- all blocks but the slack are held or in the shared stack
 abbrev pub FewAreWithheld : Type 0
-FewAreWithheld = EveryRun (λ sizes history s. blocks sizes ≤ length (held history) + sizes.length * length (stack sizes s.words) + slack sizes)
+FewAreWithheld = EveryRun (λ sizes history s. blocks sizes ≤ length (held history) + sizes.length * length (stack sizes s.words) + slack (limits_of sizes))
 
 -- wherever a process stands, it keeps at most five batches of blocks
 abbrev pub EachKeepsFive : Type 0
@@ -93,17 +93,18 @@ CallsAreShort = EveryRun (λ sizes history s. (i n : ℕ) (call : Call) (t : Cor
 abbrev pub QuantaAreKept : Type 0
 QuantaAreKept = EveryRun (λ sizes history s. (i : ℕ) → i < sizes.processes → (view_at s i).calls.stage ≡ Moving → (view_at s i).calls.steps < sizes.quantum)
 
--- nothing of process i is pending, or a transfer is
-abbrev pub Rests : ℕ → CoreState → Type 0
-Rests i s = (view_at s i).pool.plan.pending ≡ Idle
+-- nothing of process i is pending
+abbrev pub IsIdle : ℕ → CoreState → Type 0
+IsIdle i s = (view_at s i).pool.plan.pending ≡ Idle
 
-abbrev pub Pends : ℕ → CoreState → Type 0
-Pends i s = (view_at s i).pool.plan.pending ≢ Idle
+-- a transfer of process i is pending
+abbrev pub HasPending : ℕ → CoreState → Type 0
+HasPending i s = (view_at s i).pool.plan.pending ≢ Idle
 
 -- a transfer that a call of process i begins at a state is pending from then on up to another state, in any turns of all processes, in which process i makes so many entries
 pub data PendsSince (i : ℕ) (s : CoreState) : ℕ → CoreState → Type 0 where
-  pends_first : (call : Call) → Rests i s → Pends i (after_turn (Events i call) s) → PendsSince i s (length (entries_of (turn_answer (Events i call) s))) (after_turn (Events i call) s)
-  pends_on : (n : ℕ) (t : CoreState) (call : Call) → PendsSince i s n t → Pends i (after_turn (Events i call) t) → PendsSince i s (n + length (entries_of (turn_answer (Events i call) t))) (after_turn (Events i call) t)
+  pends_first : (call : Call) → IsIdle i s → HasPending i (after_turn (Events i call) s) → PendsSince i s (length (entries_of (turn_answer (Events i call) s))) (after_turn (Events i call) s)
+  pends_on : (n : ℕ) (t : CoreState) (call : Call) → PendsSince i s n t → HasPending i (after_turn (Events i call) t) → PendsSince i s (n + length (entries_of (turn_answer (Events i call) t))) (after_turn (Events i call) t)
   pends_still : (n : ℕ) (t : CoreState) (wish : Wish) → PendsSince i s n t → PendsSince i s n (after_turn (Moves i wish) t)
   pends_too : (n : ℕ) (t : CoreState) (turn : Turn) → PendsSince i s n t → by_of turn ≢ i → PendsSince i s n (after_turn turn t)
 

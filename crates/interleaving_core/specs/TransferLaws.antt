@@ -7,16 +7,17 @@ use Rattle.word_layout.specs.declared.announced.Wish.{Wish}
 use Rattle.word_layout.specs.declared.name.WordName.TheVariants.{Announcement}
 use Rattle.pool_model.specs.declared.entry.Entry.{Entry}
 use Rattle.transfer_machine.specs.Opening.{AreOpening}
-use Rattle.transfer_machine.specs.Phases.{is_rest}
 use Rattle.transfer_machine.specs.States.{StackState, next_of}
 use Rattle.transfer_machine.specs.Tries.{is_pending}
 use Rattle.transfer_machine.specs.Words.{stack}
-use Rattle.transfer_machine.specs.declared.call.Call.{Call}
-use Rattle.transfer_machine.specs.declared.call.CallStage.{CallStage}
-use Rattle.transfer_machine.specs.declared.call.CallStage.TheVariants.{Between, Moving, Own}
-use Rattle.transfer_machine.specs.declared.view.ProcessView.{ProcessView}
+use Rattle.pool_machine.specs.declared.call.Call.{Call}
+use Rattle.pool_machine.specs.declared.call.CallStage.{CallStage}
+use Rattle.pool_machine.specs.declared.call.CallStage.TheVariants.{Between, Moving, Own}
+use Rattle.pool_machine.specs.declared.view.ProcessView.{ProcessView}
 use Rattle.transfer_machine.specs.declared.stage.NextStep.{NextStep}
-use Rattle.transfer_machine.specs.declared.stage.NextStep.TheVariants.{ExchangeState}
+use Rattle.transfer_machine.specs.Stages.{is_rest}
+use Rattle.transfer_machine.specs.declared.stage.NextStep.TheVariants.{Try}
+use Rattle.transfer_machine.specs.declared.stage.TryStep.TheVariants.{ExchangeState}
 use Rattle.transfer_invariant.specs.Progress.{has_announced}
 use Rattle.helping_invariant.specs.Parts.{has_tried}
 use Rattle.stack_invariant.specs.Shown.{TableShows}
@@ -195,11 +196,15 @@ pub record AppliesPending (s after : CoreState) (announcements : ℕ → ℕ) (t
   pub new : ShowsState after (next_of s.sizes.processes announcements t)
   pub once : (process : ℕ) → process < s.sizes.processes → is_pending (announcements process) (reply_to after process) ≡ false
 
+-- a step is the exchange of the state, in the first or the second try
+abbrev pub IsExchange : NextStep → Type 0
+IsExchange next = (second : Bool) × (next ≡ Try second ExchangeState)
+
 -- the content changes only by an exchange of the state, which applies pending transfers
 abbrev pub ContentMoves : Type 0
 ContentMoves = (sizes : Sizes) (past : List Turn) (history : List Entry) (s : CoreState) (turn : Turn) → IsRun sizes past history s
     → LeavesContent s (after_turn turn s)
-    ⊎ ((next_step s (by_of turn) ≡ ExchangeState) × ((announcements : ℕ → ℕ) × ((t : StackState) × AppliesPending s (after_turn turn s) announcements t)))
+    ⊎ (IsExchange (next_step s (by_of turn)) × ((announcements : ℕ → ℕ) × ((t : StackState) × AppliesPending s (after_turn turn s) announcements t)))
 
 -- the heads of all batches, in the content, among the spares of the processes and on their way, are blocks of the pool, and none is at two of these places
 pub record HeadsApart (s : CoreState) (t : StackState) : Type 0 where

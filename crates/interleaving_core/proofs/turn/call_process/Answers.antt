@@ -1,6 +1,6 @@
 use Rattle.std.proofs.Common.{◌∙◌}
 use Rattle.std.proofs.lemmas.List.{get_or_default}
-use Rattle.transfer_machine.specs.Pools.{opening_view}
+use Rattle.pool_machine.specs.Pools.{opening_view}
 use Rattle.interleaving_core.proofs.turn.call_process.Goals as goal
 
 pub call_view-requires-clause-invariant : goal.call_view-requires-clause-invariant
