@@ -1,16 +1,16 @@
 -- A seat is among words and views that meet the rule: at opening, and after each kind of move.
 use Rattle.std.proofs.Common.{ℕ, List, [], ◌∷◌, ◌++◌, length, refl}
 use Rattle.std.specs.Prelude.{slice_set}
-use Rattle.word_rule.specs.Moves.{Splits, IsAmong, Turned}
+use Rattle.word_rule.specs.Moves.{Splits, IsAmong, Learned}
 use Rattle.word_rule.proofs.Seating.{seat_set_same, seat_before_new, seat_new}
 
 module _ {V : Type 0} (holds : List ℕ → List V → Type 0) where
   pub first_is_among : (words : List ℕ) (view : V) → holds words (view ∷ []) → IsAmong holds view
   first_is_among words view held = record { words = words; views = view ∷ []; number = 0; held = held; seated = refl }
 
-  pub before_is_among : (turn : List ℕ → List V → V → V) (number place : ℕ) (write : ℕ → ℕ) (before : V) (met : ℕ) (after : V)
-      → Turned holds turn number place write before met after → IsAmong holds before
-  before_is_among turn number place write before met after step = record {
+  pub before_is_among : (learn : List ℕ → List V → V → V) (number place : ℕ) (write : ℕ → ℕ) (before : V) (met : ℕ) (after : V)
+      → Learned holds learn number place write before met after → IsAmong holds before
+  before_is_among learn number place write before met after step = record {
     words = step.words;
     views = step.views;
     number = number;
@@ -18,9 +18,9 @@ module _ {V : Type 0} (holds : List ℕ → List V → Type 0) where
     seated = step.seated;
   }
 
-  pub after_is_among : (turn : List ℕ → List V → V → V) (number place : ℕ) (write : ℕ → ℕ) (before : V) (met : ℕ) (after : V)
-      → Turned holds turn number place write before met after → IsAmong holds after
-  after_is_among turn number place write before met after step = record {
+  pub after_is_among : (learn : List ℕ → List V → V → V) (number place : ℕ) (write : ℕ → ℕ) (before : V) (met : ℕ) (after : V)
+      → Learned holds learn number place write before met after → IsAmong holds after
+  after_is_among learn number place write before met after step = record {
     words = slice_set step.words place (write met);
     views = slice_set step.views number after;
     number = number;

@@ -21,16 +21,19 @@ abbrev pub written : List ℕ → ℕ → (ℕ → ℕ) → List ℕ
 written words place write = slice_set words place (write (slice_index words place))
 
 module _ {V : Type 0} (holds : List ℕ → List V → Type 0) where
-  -- Whatever the words and the views of the others are, the rule still holds once this word is written and this seat's view has turned.
+  -- Whatever the words and the views of the others are, the rule still holds once this word is written and this seat's view has learned
+  -- of it.
   abbrev pub Keeps : ℕ → V → ℕ → (ℕ → ℕ) → (List ℕ → List V → V → V) → Type 0
-  Keeps number view place write turn = (words : List ℕ) (views : List V) → holds words views → get_elem? views number ≡ some view → slice_index words place < 2 ^ 64
-      → holds (written words place write) (slice_set views number (turn words views view))
+  Keeps number view place write learn = (words : List ℕ) (views : List V) → holds words views → get_elem? views number ≡ some view → slice_index words place < 2 ^ 64
+      → holds (written words place write) (slice_set views number (learn words views view))
 
-  -- Whatever the words and the views of the others are, the rule still holds once this seat keeps the left view and a new seat has the right one.
+  -- Whatever the words and the views of the others are, the rule still holds once this seat keeps the left view and a new seat has the
+  -- right one.
   abbrev pub Splits : ℕ → V → V → V → Type 0
   Splits number view left right = (words : List ℕ) (views : List V) → holds words views → get_elem? views number ≡ some view → holds words (slice_set views number left ++ right ∷ [])
 
-  -- Whatever the words and the views of the others are, the rule still holds once this seat has both views and the other seat has a spent one.
+  -- Whatever the words and the views of the others are, the rule still holds once this seat has both views and the other seat has a
+  -- spent one.
   abbrev pub Joins : ℕ → V → ℕ → V → V → V → Type 0
   Joins number view other taken both spent = (words : List ℕ) (views : List V) → holds words views → get_elem? views number ≡ some view → other ≢ number
       → get_elem? (slice_set views number both) other ≡ some taken → holds words (slice_set (slice_set views number both) other spent)
@@ -43,12 +46,13 @@ module _ {V : Type 0} (holds : List ℕ → List V → Type 0) where
     pub held : holds words views
     pub seated : get_elem? views number ≡ some view
 
-  -- One step as it happened: there were words and views that met the rule, this seat's view among them. The step met this word, which became `write` of it, the view turned, and the rule held again.
-  pub record Turned (turn : List ℕ → List V → V → V) (number place : ℕ) (write : ℕ → ℕ) (before : V) (met : ℕ) (after : V) : Type 0 where
+  -- One step as it happened: there were words and views that met the rule, this seat's view among them. The step met this word, which
+  -- became `write` of it, the view learned, and the rule held again.
+  pub record Learned (learn : List ℕ → List V → V → V) (number place : ℕ) (write : ℕ → ℕ) (before : V) (met : ℕ) (after : V) : Type 0 where
     pub words : List ℕ
     pub views : List V
     pub held : holds words views
     pub seated : get_elem? views number ≡ some before
     pub found : slice_index words place ≡ met
-    pub turned : after ≡ turn words views before
+    pub learned : after ≡ learn words views before
     pub kept : holds (slice_set words place (write met)) (slice_set views number after)

@@ -7,4 +7,4 @@
 
 mod rule;
 
-pub use rule::{SeatRule, TurnAbout, WordRule};
+pub use rule::{LearnAbout, SeatRule, WordRule};

@@ -15,14 +15,14 @@ pub trait WordRule {
 
     // What becomes of a seat's view by a step of that seat: of all words and views before the step, and of
     // its own view.
-    ghost turn: { List ℕ → List Self.View → Self.View → Self.View };
+    ghost learn: { List ℕ → List Self.View → Self.View → Self.View };
 }
 
 /// A rule under which a step may also be about a value that no word names, such as the call that the step
 /// belongs to.
-pub trait TurnAbout<V, T> {
+pub trait LearnAbout<V, T> {
     // What becomes of a seat's view `V` by a step about a `T`.
-    ghost turn_about: { T → List ℕ → List V → V → V };
+    ghost learn_about: { T → List ℕ → List V → V → V };
 }
 
 /// A rule under which seats are made and joined.

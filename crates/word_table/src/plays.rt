@@ -1,23 +1,23 @@
 // What `atomic_table` asks of a caller: the rule, and what each kind of step tells.
 ghost use Rattle.std.specs.Prelude.{◌≡◌, ℕ, List};
-ghost use Rattle.word_rule.specs.Moves.{Turned, unchanged, replaced_by, exchanged};
+ghost use Rattle.word_rule.specs.Moves.{Learned, unchanged, replaced_by, exchanged};
 
 use atomic_table::{Join, Play, Split, TableRule};
 use std::marker::{Brand, PhantomData};
 use std::snapshot::Snapshot;
 use word_rule::{SeatRule, WordRule};
 
-/// The move that goes with a step: which seat makes it, and how its view turns. Each call picks it.
-pub(crate) trait Turn<V> {
+/// The move that goes with a step: which seat makes it, and how its view learns. Each call picks it.
+pub(crate) trait Learning<V> {
     ghost number: { ℕ };
 
-    ghost turn: { List ℕ → List V → V → V };
+    ghost learn: { List ℕ → List V → V → V };
 }
 
-impl<V> Turn<V> for Brand {
+impl<V> Learning<V> for Brand {
     ghost number = { 0 };
 
-    ghost turn = { λ _ _ view. view };
+    ghost learn = { λ _ _ view. view };
 }
 
 /// The rule `R` over words alone. The opening words are kept as its key, since the first view is theirs.
@@ -36,8 +36,8 @@ pub(crate) struct Loads<R, M> {
     of: PhantomData<(R, M)>,
 }
 
-impl<R: WordRule, M: Turn<R::View>> Play<u8, R::View> for Loads<R, M> {
-    ghost then = { λ step before met after. (after.1 ≡ before.1) × Turned R.holds M.turn M.number step.word unchanged before.0 met after.0 };
+impl<R: WordRule, M: Learning<R::View>> Play<u8, R::View> for Loads<R, M> {
+    ghost then = { λ step before met after. (after.1 ≡ before.1) × Learned R.holds M.learn M.number step.word unchanged before.0 met after.0 };
 }
 
 /// What a store tells: the step, with some word, since a store doesn't answer what it replaced.
@@ -45,8 +45,8 @@ pub(crate) struct Stores<R, M> {
     of: PhantomData<(R, M)>,
 }
 
-impl<R: WordRule, M: Turn<R::View>> Play<u8, R::View> for Stores<R, M> {
-    ghost then = { λ step before stored after. (after.1 ≡ before.1) × ((met : ℕ) × Turned R.holds M.turn M.number step.word (replaced_by step.first) before.0 met after.0) };
+impl<R: WordRule, M: Learning<R::View>> Play<u8, R::View> for Stores<R, M> {
+    ghost then = { λ step before stored after. (after.1 ≡ before.1) × ((met : ℕ) × Learned R.holds M.learn M.number step.word (replaced_by step.first) before.0 met after.0) };
 }
 
 /// What a compare and exchange tells: the step, with the word that it answers.
@@ -54,8 +54,8 @@ pub(crate) struct Exchanges<R, M> {
     of: PhantomData<(R, M)>,
 }
 
-impl<R: WordRule, M: Turn<R::View>> Play<u8, R::View> for Exchanges<R, M> {
-    ghost then = { λ step before met after. (after.1 ≡ before.1) × Turned R.holds M.turn M.number step.word (exchanged step.first step.second) before.0 met after.0 };
+impl<R: WordRule, M: Learning<R::View>> Play<u8, R::View> for Exchanges<R, M> {
+    ghost then = { λ step before met after. (after.1 ≡ before.1) × Learned R.holds M.learn M.number step.word (exchanged step.first step.second) before.0 met after.0 };
 }
 
 /// How the rule `R` splits and joins views.

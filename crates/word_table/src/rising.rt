@@ -5,7 +5,7 @@
 ghost use Rattle.std.specs.Prelude.{◌≡◌, ◌≢◌, ◌+◌, ◌<◌, ◌≤◌, ◌^◌, IfOk, IfErr, OnOk, MatchResult};
 ghost use Rattle.word_table.specs.Seats.{SameSeat, met_by};
 
-use crate::{TurnAbout, WordRule, WordSeat, WordTable};
+use crate::{LearnAbout, WordRule, WordSeat, WordTable};
 use pool_model::NoMemory;
 use std::alloc::Global;
 use step_counter::{Ledger, Steps};
@@ -23,7 +23,7 @@ impl WordRule for Rising {
 
     ghost first = { λ words. slice_index words 0 };
 
-    ghost turn = { λ words _ _. slice_index words 0 };
+    ghost learn = { λ words _ _. slice_index words 0 };
 }
 
 /// What a step that raises the word is about: `to` comes where the word is `from`.
@@ -33,11 +33,11 @@ struct Rise {
     to: u64,
 }
 
-impl TurnAbout<u64, Rise> for Rising {
+impl LearnAbout<u64, Rise> for Rising {
     ghost use Rattle.std.specs.Prelude.{slice_index};
     ghost use Rattle.word_rule.specs.Moves.{exchanged};
 
-    ghost turn_about = { λ rise words _ _. exchanged rise.from rise.to (slice_index words 0) };
+    ghost learn_about = { λ rise words _ _. exchanged rise.from rise.to (slice_index words 0) };
 }
 
 /// A table of one word, and its first seat, which has met that word.

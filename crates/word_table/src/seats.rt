@@ -1,6 +1,6 @@
 // Making a seat of a seat, and joining two.
 ghost use Rattle.std.specs.Prelude.{◌≡◌, ℕ, ◌+◌, ◌<◌, ◌^◌};
-ghost use Rattle.word_rule.specs.Moves.{Keeps, Splits, Joins, Turned, unchanged};
+ghost use Rattle.word_rule.specs.Moves.{Keeps, Splits, Joins, Learned, unchanged};
 ghost use Rattle.word_table.specs.Seats.{SameSeat};
 
 use crate::plays::Seating;
@@ -39,10 +39,10 @@ impl<R: SeatRule> WordTable<R> {
         requires word { 0 < self.now.words }
         requires steps { steps.old + 2 < 2 ^ 64 }
         requires join { Joins R.holds kept.old.number kept.old.view spent.number spent.view (R.both kept.old.view spent.view) R.spent }
-        requires rule { Keeps R.holds kept.old.number (R.both kept.old.view spent.view) 0 unchanged R.turn }
+        requires rule { Keeps R.holds kept.old.number (R.both kept.old.view spent.view) 0 unchanged R.learn }
         ensures seat { SameSeat kept.old kept.new }
         ensures steps { steps.new ≡ steps.old + 2 }
-        ensures step { (met : ℕ) × Turned R.holds R.turn kept.old.number 0 unchanged (R.both kept.old.view spent.view) met kept.new.view }
+        ensures step { (met : ℕ) × Learned R.holds R.learn kept.old.number 0 unchanged (R.both kept.old.view spent.view) met kept.new.view }
     {
         let WordSeat { seat: other } = spent;
         steps.tick();

@@ -1,9 +1,9 @@
 // The table, and the steps on one word.
 ghost use Rattle.std.specs.Prelude.{◌≡◌, ◌≢◌, ℕ, ◌+◌, ◌<◌, ◌^◌, [], ◌∷◌, length, IfOk, MatchResult};
-ghost use Rattle.word_rule.specs.Moves.{Keeps, Turned, unchanged, replaced_by, exchanged};
+ghost use Rattle.word_rule.specs.Moves.{Keeps, Learned, unchanged, replaced_by, exchanged};
 ghost use Rattle.word_table.specs.Seats.{SameSeat, met_by};
 
-use crate::plays::{Exchanges, Loads, Ruled, Stores, Turn};
+use crate::plays::{Exchanges, Learning, Loads, Ruled, Stores};
 use crate::seat::WordSeat;
 use atomic_table::Table;
 use pool_model::NoMemory;
@@ -11,7 +11,7 @@ use std::alloc::Global;
 use std::marker::{Brand, Model};
 use std::snapshot::Snapshot;
 use step_counter::{Ledger, Steps};
-use word_rule::{TurnAbout, WordRule};
+use word_rule::{LearnAbout, WordRule};
 
 /// Words under the rule `R`, which threads share by reference.
 ///
@@ -52,15 +52,15 @@ impl<R: WordRule> WordTable<R> {
         requires seat { seat.old.table ≡ self.now }
         requires place { place < self.now.words }
         requires steps { steps.old + 1 < 2 ^ 64 }
-        requires rule { Keeps R.holds seat.old.number seat.old.view place unchanged R.turn }
+        requires rule { Keeps R.holds seat.old.number seat.old.view place unchanged R.learn }
         ensures seat { SameSeat seat.old seat.new }
         ensures steps { steps.new ≡ steps.old + 1 }
-        ensures step { Turned R.holds R.turn seat.old.number place unchanged seat.old.view result seat.new.view }
+        ensures step { Learned R.holds R.learn seat.old.number place unchanged seat.old.view result seat.new.view }
     {
         self.load_as::<(), Brand, L>(seat, place, &(), steps)
     }
 
-    /// A [`load`](WordTable::load) about a value, which turns the view as the rule says of that value.
+    /// A [`load`](WordTable::load) about a value: the view learns what the rule says of that value.
     #[inline]
     pub fn load_with<T, L: Ledger>(
         &self,
@@ -70,20 +70,20 @@ impl<R: WordRule> WordTable<R> {
         steps: &mut Steps<L>,
     ) -> u64
     where
-        R: TurnAbout<R::View, T>,
+        R: LearnAbout<R::View, T>,
         requires seat { seat.old.table ≡ self.now }
         requires place { place < self.now.words }
         requires steps { steps.old + 1 < 2 ^ 64 }
-        requires rule { Keeps R.holds seat.old.number seat.old.view place unchanged (R.turn_about about.now) }
+        requires rule { Keeps R.holds seat.old.number seat.old.view place unchanged (R.learn_about about.now) }
         ensures seat { SameSeat seat.old seat.new }
         ensures steps { steps.new ≡ steps.old + 1 }
-        ensures step { Turned R.holds (R.turn_about about.now) seat.old.number place unchanged seat.old.view result seat.new.view }
+        ensures step { Learned R.holds (R.learn_about about.now) seat.old.number place unchanged seat.old.view result seat.new.view }
     {
         self.load_as::<T, Brand, L>(seat, place, about, steps)
     }
 
     #[inline]
-    fn load_as<T, M: Turn<R::View>, L: Ledger>(
+    fn load_as<T, M: Learning<R::View>, L: Ledger>(
         &self,
         seat: &mut WordSeat<R>,
         place: u32,
@@ -94,12 +94,12 @@ impl<R: WordRule> WordTable<R> {
         requires seat { seat.old.table ≡ self.now }
         requires place { place < self.now.words }
         requires steps { steps.old + 1 < 2 ^ 64 }
-        requires rule { Keeps R.holds M.number seat.old.view place unchanged M.turn }
+        requires rule { Keeps R.holds M.number seat.old.view place unchanged M.learn }
         ensures seat { SameSeat seat.old seat.new }
         ensures steps { steps.new ≡ steps.old + 1 }
-        ensures step { Turned R.holds M.turn M.number place unchanged seat.old.view result seat.new.view }
+        ensures step { Learned R.holds M.learn M.number place unchanged seat.old.view result seat.new.view }
     {
-        // The turn reads it, in proofs alone.
+        // What is learned reads it, in proofs alone.
         let _ = about;
         steps.tick();
         self.table
@@ -119,15 +119,15 @@ impl<R: WordRule> WordTable<R> {
         requires seat { seat.old.table ≡ self.now }
         requires place { place < self.now.words }
         requires steps { steps.old + 1 < 2 ^ 64 }
-        requires rule { Keeps R.holds seat.old.number seat.old.view place (replaced_by value) R.turn }
+        requires rule { Keeps R.holds seat.old.number seat.old.view place (replaced_by value) R.learn }
         ensures seat { SameSeat seat.old seat.new }
         ensures steps { steps.new ≡ steps.old + 1 }
-        ensures step { (met : ℕ) × Turned R.holds R.turn seat.old.number place (replaced_by value) seat.old.view met seat.new.view }
+        ensures step { (met : ℕ) × Learned R.holds R.learn seat.old.number place (replaced_by value) seat.old.view met seat.new.view }
     {
         self.store_as::<(), Brand, L>(seat, place, value, &(), steps)
     }
 
-    /// A [`store`](WordTable::store) about a value, which turns the view as the rule says of that value.
+    /// A [`store`](WordTable::store) about a value: the view learns what the rule says of that value.
     #[inline]
     pub fn store_with<T, L: Ledger>(
         &self,
@@ -138,20 +138,20 @@ impl<R: WordRule> WordTable<R> {
         steps: &mut Steps<L>,
     )
     where
-        R: TurnAbout<R::View, T>,
+        R: LearnAbout<R::View, T>,
         requires seat { seat.old.table ≡ self.now }
         requires place { place < self.now.words }
         requires steps { steps.old + 1 < 2 ^ 64 }
-        requires rule { Keeps R.holds seat.old.number seat.old.view place (replaced_by value) (R.turn_about about.now) }
+        requires rule { Keeps R.holds seat.old.number seat.old.view place (replaced_by value) (R.learn_about about.now) }
         ensures seat { SameSeat seat.old seat.new }
         ensures steps { steps.new ≡ steps.old + 1 }
-        ensures step { (met : ℕ) × Turned R.holds (R.turn_about about.now) seat.old.number place (replaced_by value) seat.old.view met seat.new.view }
+        ensures step { (met : ℕ) × Learned R.holds (R.learn_about about.now) seat.old.number place (replaced_by value) seat.old.view met seat.new.view }
     {
         self.store_as::<T, Brand, L>(seat, place, value, about, steps)
     }
 
     #[inline]
-    fn store_as<T, M: Turn<R::View>, L: Ledger>(
+    fn store_as<T, M: Learning<R::View>, L: Ledger>(
         &self,
         seat: &mut WordSeat<R>,
         place: u32,
@@ -163,12 +163,12 @@ impl<R: WordRule> WordTable<R> {
         requires seat { seat.old.table ≡ self.now }
         requires place { place < self.now.words }
         requires steps { steps.old + 1 < 2 ^ 64 }
-        requires rule { Keeps R.holds M.number seat.old.view place (replaced_by value) M.turn }
+        requires rule { Keeps R.holds M.number seat.old.view place (replaced_by value) M.learn }
         ensures seat { SameSeat seat.old seat.new }
         ensures steps { steps.new ≡ steps.old + 1 }
-        ensures step { (met : ℕ) × Turned R.holds M.turn M.number place (replaced_by value) seat.old.view met seat.new.view }
+        ensures step { (met : ℕ) × Learned R.holds M.learn M.number place (replaced_by value) seat.old.view met seat.new.view }
     {
-        // The turn reads it, in proofs alone.
+        // What is learned reads it, in proofs alone.
         let _ = about;
         steps.tick();
         self.table
@@ -192,16 +192,16 @@ impl<R: WordRule> WordTable<R> {
         requires seat { seat.old.table ≡ self.now }
         requires place { place < self.now.words }
         requires steps { steps.old + 1 < 2 ^ 64 }
-        requires rule { Keeps R.holds seat.old.number seat.old.view place (exchanged old new) R.turn }
+        requires rule { Keeps R.holds seat.old.number seat.old.view place (exchanged old new) R.learn }
         ensures seat { SameSeat seat.old seat.new }
         ensures steps { steps.new ≡ steps.old + 1 }
         ensures answer { MatchResult result (λ word. word ≡ old) (λ word. word ≢ old) }
-        ensures step { Turned R.holds R.turn seat.old.number place (exchanged old new) seat.old.view (met_by result) seat.new.view }
+        ensures step { Learned R.holds R.learn seat.old.number place (exchanged old new) seat.old.view (met_by result) seat.new.view }
     {
         self.compare_exchange_as::<(), Brand, L>(seat, place, old, new, &(), steps)
     }
 
-    /// A [`compare_exchange`](WordTable::compare_exchange) about a value, which turns the view as the rule
+    /// A [`compare_exchange`](WordTable::compare_exchange) about a value: the view learns what the rule
     /// says of that value.
     #[inline]
     pub fn compare_exchange_with<T, L: Ledger>(
@@ -214,21 +214,21 @@ impl<R: WordRule> WordTable<R> {
         steps: &mut Steps<L>,
     ) -> Result<u64, u64>
     where
-        R: TurnAbout<R::View, T>,
+        R: LearnAbout<R::View, T>,
         requires seat { seat.old.table ≡ self.now }
         requires place { place < self.now.words }
         requires steps { steps.old + 1 < 2 ^ 64 }
-        requires rule { Keeps R.holds seat.old.number seat.old.view place (exchanged old new) (R.turn_about about.now) }
+        requires rule { Keeps R.holds seat.old.number seat.old.view place (exchanged old new) (R.learn_about about.now) }
         ensures seat { SameSeat seat.old seat.new }
         ensures steps { steps.new ≡ steps.old + 1 }
         ensures answer { MatchResult result (λ word. word ≡ old) (λ word. word ≢ old) }
-        ensures step { Turned R.holds (R.turn_about about.now) seat.old.number place (exchanged old new) seat.old.view (met_by result) seat.new.view }
+        ensures step { Learned R.holds (R.learn_about about.now) seat.old.number place (exchanged old new) seat.old.view (met_by result) seat.new.view }
     {
         self.compare_exchange_as::<T, Brand, L>(seat, place, old, new, about, steps)
     }
 
     #[inline]
-    fn compare_exchange_as<T, M: Turn<R::View>, L: Ledger>(
+    fn compare_exchange_as<T, M: Learning<R::View>, L: Ledger>(
         &self,
         seat: &mut WordSeat<R>,
         place: u32,
@@ -241,13 +241,13 @@ impl<R: WordRule> WordTable<R> {
         requires seat { seat.old.table ≡ self.now }
         requires place { place < self.now.words }
         requires steps { steps.old + 1 < 2 ^ 64 }
-        requires rule { Keeps R.holds M.number seat.old.view place (exchanged old new) M.turn }
+        requires rule { Keeps R.holds M.number seat.old.view place (exchanged old new) M.learn }
         ensures seat { SameSeat seat.old seat.new }
         ensures steps { steps.new ≡ steps.old + 1 }
         ensures answer { MatchResult result (λ word. word ≡ old) (λ word. word ≢ old) }
-        ensures step { Turned R.holds M.turn M.number place (exchanged old new) seat.old.view (met_by result) seat.new.view }
+        ensures step { Learned R.holds M.learn M.number place (exchanged old new) seat.old.view (met_by result) seat.new.view }
     {
-        // The turn reads it, in proofs alone.
+        // What is learned reads it, in proofs alone.
         let _ = about;
         steps.tick();
         let met = self

@@ -1,7 +1,7 @@
 // A rule that holds always, under which a seat knows nothing.
 ghost use Rattle.std.specs.Prelude.{ℕ, ◌+◌, ◌<◌, ◌^◌};
 
-use crate::{SeatRule, TurnAbout, WordRule, WordSeat, WordTable};
+use crate::{LearnAbout, SeatRule, WordRule, WordSeat, WordTable};
 use std::test::Fail;
 use std::{mem, thread};
 use step_counter::{Kept, Ledger, Quiet, Steps};
@@ -15,7 +15,7 @@ impl WordRule for Always {
 
     ghost first = { λ _. tt };
 
-    ghost turn = { λ _ _ view. view };
+    ghost learn = { λ _ _ view. view };
 }
 
 impl SeatRule for Always {
@@ -28,8 +28,8 @@ impl SeatRule for Always {
     ghost spent = { tt };
 }
 
-impl TurnAbout<(), u8> for Always {
-    ghost turn_about = { λ _ _ _ view. view };
+impl LearnAbout<(), u8> for Always {
+    ghost learn_about = { λ _ _ _ view. view };
 }
 
 // On the words 5 and 7: a load, an exchange that hits, and the same again, which misses.

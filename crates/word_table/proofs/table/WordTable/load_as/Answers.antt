@@ -6,5 +6,5 @@ pub load-requires : goal.load-requires
 load-requires g c = (
   search rules,
   search rules,
-  loads g.R.WordRule.holds g.M.Turn.turn _ _ c.seat.inside.seat.id c.seat.inside.seat.me c.args.place (search rules) (search rules),
+  loads g.R.WordRule.holds g.M.Learning.learn _ _ c.seat.inside.seat.id c.seat.inside.seat.me c.args.place (search rules) (search rules),
 )
