@@ -76,8 +76,8 @@ one_list size content first (one ∷ ones) (other ∷ others) long p q =
     let head : one ≡ other = one_script size (content (first + 0)) one other (p 0 one refl) (q 0 other refl) in
     let next : (j : ℕ) → first + suc j ≡ first + 1 + j = λ j. omega arith in
     let tail : ones ≡ others = one_list size content (first + 1) ones others (omega (arith, long))
-        (λ j script at. subst (λ (n : ℕ). IsScriptOf size (content n) script) (next j) (p (suc j) script at))
-        (λ j script at. subst (λ (n : ℕ). IsScriptOf size (content n) script) (next j) (q (suc j) script at)) in
+    (λ j script at. subst (λ (n : ℕ). IsScriptOf size (content n) script) (next j) (p (suc j) script at))
+    (λ j script at. subst (λ (n : ℕ). IsScriptOf size (content n) script) (next j) (q (suc j) script at)) in
     cc
 
 -- all files were read and played
@@ -98,8 +98,8 @@ played_all told play sizes scripts tallies asked reads played free = record {
   unrefused = λ content hold others ample.
       let none_first : (j : ℕ) → j ≡ 0 + j = λ j. omega arith in
       let same : scripts ≡ others = one_list play.size content 0 scripts others (reads.1.one_each ∙ sym ample.are_scripts.one_each)
-          (λ j script at. subst (λ (n : ℕ). IsScriptOf play.size (content n) script) (none_first j) (reads.1.read content hold j script at))
-          (λ j script at. subst (λ (n : ℕ). IsScriptOf play.size (content n) script) (none_first j) (ample.are_scripts.each j script at)) in
+      (λ j script at. subst (λ (n : ℕ). IsScriptOf play.size (content n) script) (none_first j) (reads.1.read content hold j script at))
+      (λ j script at. subst (λ (n : ℕ). IsScriptOf play.size (content n) script) (none_first j) (ample.are_scripts.each j script at)) in
       let Free : List Script → Type 0 = λ some. peaks_without_refusals some ≤ blocks sizes → tallies ≡ tallies_without_refusals some in
       subst Free same free ample.enough;
 }
