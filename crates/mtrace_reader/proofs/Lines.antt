@@ -1,9 +1,8 @@
 -- Bytes that are cut into lines, and what more bytes change.
-use Rattle.std.proofs.Common.{◌≡◌, ℕ, ◌+◌, ◌<◌, ◌≤◌, Bool, true, false, cond, ltb, not, List, [], ◌∷◌, ◌++◌, length, get_or, take, drop, suc, add-one, map, position, None, Some, inl, inr, refl, ap, sym, ◌∙◌, subst, arith}
-use Rattle.std.specs.Prelude.{Option, All}
+use Rattle.std.proofs.Common.{◌≡◌, ℕ, ◌+◌, ◌<◌, ◌≤◌, true, false, cond, List, [], ◌∷◌, ◌++◌, length, get_or, take, drop, suc, add-one, map, position, None, Some, inl, inr, refl, ap, sym, ◌∙◌, arith}
 use Rattle.std.specs.Option.{option_or}
 use Rattle.std.specs.Bool.{then_some}
-use Rattle.std.specs.List.{position_or_len, slice_split, onto_first}
+use Rattle.std.specs.List.{position_or_len, onto_first}
 use Rattle.std.proofs.lemmas.Bool.{cases_lt, lt-ltb}
 use Rattle.std.proofs.lemmas.List.{get_or-take, length-take-le, append_assoc, append-nil, length-append, length-map, map-append}
 use Rattle.std.proofs.lemmas.List.Elements.{All-from_get_or, All-nil, All-cons, All-append}
@@ -14,9 +13,8 @@ use Rattle.std.proofs.lemmas.Bool.Decides.{nat_tests}
 use Rattle.std.proofs.Math.Seq.{split_at}
 use Rattle.mtrace_reader.specs.declared.line.Meaning.{Meaning}
 use Rattle.mtrace_reader.specs.declared.line.Meaning.TheVariants.{Skipped, Says, Bad}
-use Rattle.mtrace_reader.specs.declared.trace.Operation.{Operation}
 use Rattle.mtrace_reader.specs.Line.{meaning_of}
-use Rattle.mtrace_reader.specs.Reading.{is_end, pieces, lines, last_piece, front, last, said, first_bad, is_bad, bad_line, operations_of}
+use Rattle.mtrace_reader.specs.Reading.{is_end, pieces, lines, last_piece, front, last, said, first_bad, is_bad, operations_of}
 use Rattle.mtrace_reader.specs.LineReader.{HasNoEnd}
 use Rattle.mtrace_reader.proofs.Cuts.{HasFirst, slice_split_has_first}
 

@@ -1,17 +1,17 @@
 -- Bytes that are taken piece by piece.
-use Rattle.std.proofs.Common.{◌≡◌, ◌≢◌, ℕ, ◌+◌, ◌<◌, ◌≤◌, List, [], ◌∷◌, ◌++◌, length, map, Some, None, inl, inr, refl, ap, sym, ◌∙◌, append_assoc, append-nil, arith}
-use Rattle.std.specs.Prelude.{All, Option, option_map, Result, Ok, Err, IfOk, sum}
+use Rattle.std.proofs.Common.{◌≡◌, ℕ, ◌+◌, ◌<◌, ◌≤◌, List, [], ◌∷◌, ◌++◌, length, map, Some, None, inl, refl, ap, sym, ◌∙◌, append_assoc, append-nil, arith}
+use Rattle.std.specs.Prelude.{Option, option_map, Result, Ok, Err, IfOk, sum}
 use Rattle.std.proofs.lemmas.List.{length-append, map-append}
 use Rattle.std.proofs.lemmas.List.Sums.{fold-append}
 use Rattle.std.proofs.lemmas.List.Elements.{All-nil, All-cons, All-append}
 use Rattle.pool_io.specs.Told.{HandsOut}
 use Rattle.mtrace_reader.specs.declared.trace.Trace.{Trace}
 use Rattle.mtrace_reader.specs.declared.trace.TraceFault.{TraceFault}
-use Rattle.mtrace_reader.specs.declared.trace.TraceFault.TheVariants.{ReadFault, TooLong, BadLine, NoMemory}
+use Rattle.mtrace_reader.specs.declared.trace.TraceFault.TheVariants.{NoMemory}
 use Rattle.mtrace_reader.specs.declared.reading.LineReader.{LineReader}
-use Rattle.mtrace_reader.specs.Reading.{IsReading, AnswersFor}
-use Rattle.mtrace_reader.specs.LineReader.{HasRead, IsTaken, Reads}
-use Rattle.mtrace_reader.specs.Taken.{Took, TookWithin, ReadsFor}
+use Rattle.mtrace_reader.specs.Reading.{AnswersFor}
+use Rattle.mtrace_reader.specs.LineReader.{IsTaken, Reads}
+use Rattle.mtrace_reader.specs.Taken.{Took, ReadsFor}
 use Rattle.mtrace_reader.proofs.Lines.{few_lines, few_operations}
 
 -- one piece after the other is one piece
