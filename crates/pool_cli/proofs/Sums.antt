@@ -1,28 +1,34 @@
 -- Columns of a line: where they stand, and the sums one file on.
-use Rattle.std.proofs.Common.{◌≡◌, ℕ, ◌+◌, ◌<◌, ◌≤◌, zero, suc, List, [], ◌∷◌, ◌++◌, append_assoc, append-nil, length, take, map, get_or, sym, ap, ◌∙◌, arith, Some}
+use Rattle.std.proofs.Common.{◌≡◌, ℕ, ◌+◌, ◌<◌, ◌≤◌, Bool, true, false, nat_le, inl, inr, zero, suc, List, [], ◌∷◌, ◌++◌, append_assoc, append-nil, length, take, map, get_or, refl, sym, ap, ◌∙◌, arith, Some}
 use Rattle.std.specs.Prelude.{codes, flat_map, option_map, slice_get, sum_by}
+use Rattle.std.proofs.lemmas.Bool.{cases_Bool}
+use Rattle.std.proofs.lemmas.Bool.Decides.{nat_tests}
 use Rattle.std.proofs.lemmas.Grind.{flat_map-append}
+use Rattle.std.proofs.lemmas.List.Folds.{list_all_at}
 use Rattle.std.proofs.lemmas.List.{length-map, take_all, take_more}
 use Rattle.std.proofs.lemmas.List.Sums.{sum_by-cons}
 use Rattle.std.proofs.lemmas.Option.{slice_get-map, slice_get-get_or, slice_get_within}
-use Rattle.std.specs.List.{AllByRecursion}
+use Rattle.std.specs.List.{list_all}
 use Rattle.std.specs.Borrow.{Bor}
 use Rattle.trace_player.specs.declared.tally.Tally.{Tally}
 use Rattle.trace_player.specs.Report.{column_text, columns_of, line_text, plus, sums_of}
 use Rattle.trace_player.proofs.Reporting.{sums_more}
 
--- an item of a list has what all its items have
-all_at : {X : Type 0} (P : X → Type 0) (xs : List X) (i : ℕ) (x : X) → AllByRecursion P xs → slice_get xs i ≡ Some x → P x
-all_at P [] zero x all at = cc
-all_at P [] (suc i) x all at = cc
-all_at P (y ∷ xs) zero x all at = let same : y ≡ x = cc in rw (← same) all.0
-all_at P (y ∷ xs) (suc i) x all at = all_at P xs i x all.1 at
+-- an item of a list passes what all its items pass
+passes_at : {X : Type 0} (passes : X → Bool) (xs : List X) (i : ℕ) (x : X) → list_all passes xs ≡ true → slice_get xs i ≡ Some x → passes x ≡ true
+passes_at passes xs i x all at =
+    let lt : i < length xs = slice_get_within xs i x at in
+    let here : get_or xs i x ≡ x = cc (slice_get-get_or xs i x lt) in
+    elim (cases_Bool (passes (get_or xs i x))) [
+      | inl good ↦ ap passes (sym here) ∙ good
+      | inr bad ↦ let none : list_all passes xs ≡ false = list_all_at passes xs i x lt bad in cc
+    ]
 
 -- a name has at most 7 bytes
 pub name_length-le : (tally : Tally) (i : ℕ) (column : List ℕ × ℕ) → slice_get (columns_of tally) i ≡ Some column → length column.0 ≤ 7
 name_length-le tally i column at =
-    all_at (λ (some : List ℕ × ℕ). length some.0 ≤ 7) (columns_of tally) i column
-    (omega arith, (omega arith, (omega arith, (omega arith, (omega arith, (omega arith, (omega arith, (omega arith, (omega arith, (omega arith, tt)))))))))) at
+    let short : nat_le (length column.0) 7 ≡ true = passes_at (λ (some : List ℕ × ℕ). nat_le (length some.0) 7) (columns_of tally) i column refl at in
+    grind (arith, nat_tests)
 
 -- the column at a place, of columns that are kept as texts and numbers
 pub column_at : (kept : List (Bor (List ℕ) × ℕ)) (tally : Tally) (i : ℕ) (d : Bor (List ℕ) × ℕ) → map (λ column. (column.0.now, column.1)) kept ≡ columns_of tally → i < length (columns_of tally)

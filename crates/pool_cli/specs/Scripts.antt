@@ -21,12 +21,14 @@ FileAnswers Reliable room size bytes (Err ReadFault) = ¬ Reliable
 FileAnswers Reliable room size bytes (Err NoMemory) = Unit {0}
 
 -- the first so many files were read, `total` bytes in all: they are fine, and these are their scripts
-pub record ReadsFirst (size : ℕ) (told : List ℕ → Option (List ℕ)) (names : List (List ℕ)) (count total : ℕ) (scripts : List Script) : Type 0 where
+pub record ReadsFirst (size : ℕ) (told : List ℕ → Option (List ℕ)) (names : List (List ℕ)) (count total : ℕ)
+    (scripts : List Script) : Type 0 where
   pub one_each : length scripts ≡ count
   pub few : total ≤ 2 ^ 26
   pub all_bytes : (content : ℕ → List ℕ) → Hold told names content count → total ≡ taken content count
   pub fine : (content : ℕ → List ℕ) → Hold told names content count → AreFine content count
-  pub read : (content : ℕ → List ℕ) → Hold told names content count → (j : ℕ) (script : Script) → slice_get scripts j ≡ Some script → IsScriptOf size (content j) script
+  pub read : (content : ℕ → List ℕ) → Hold told names content count
+      → (j : ℕ) (script : Script) → slice_get scripts j ≡ Some script → IsScriptOf size (content j) script
 
 -- all files were read
 abbrev pub ReadsAll : ℕ → (List ℕ → Option (List ℕ)) → List (List ℕ) → List Script → Type 0

@@ -6,7 +6,7 @@ use arrayvec::ArrayString;
 use itoa::Buffer;
 
 /// How many bytes a line holds at most.
-pub(crate) const LONGEST_LINE: usize = 512;
+pub(crate) const LONGEST_LINE: usize = 1024;
 
 /// A line that is put together. It takes no memory.
 pub(crate) type Line = ArrayString<LONGEST_LINE>;
