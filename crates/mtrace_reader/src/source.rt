@@ -248,6 +248,7 @@ mod tests {
         check(&rt, b"= End\n", 5, Err(TraceFault::TooLong))?;
         check(&rt, b"+\n+\n+\n", 5, Err(TraceFault::TooLong))
     }
+
     #[test]
     fn a_failing_read_goes_before_what_the_lines_say(rt: HostRuntime) -> Result<(), Fail> {
         check_piecewise(&rt, b"+ 0x10 0x8\n", 100, 1, Err(TraceFault::ReadFault))?;

@@ -268,7 +268,11 @@ mod tests {
         let made = script(alloc, &trace, 64)?;
         let count = addresses.len();
         let same = made.news as usize == count && made.twice == 0 && made.stray == 0;
-        assert!(rt; same && count > 1000, "{count} addresses, {} slots", made.news);
+        assert!(rt;
+            same && count > 1000,
+            "{count} addresses, {} slots",
+            made.news
+        );
         Ok(())
     }
 }
