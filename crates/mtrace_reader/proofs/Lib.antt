@@ -6,3 +6,4 @@ pub mod Lines
 pub mod Readers
 pub mod Taking
 pub mod Meanings
+pub mod Making

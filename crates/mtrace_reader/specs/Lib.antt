@@ -1,4 +1,5 @@
 pub mod Fault
+pub mod Made
 pub mod Script
 pub mod ScriptWriter
 pub mod Line

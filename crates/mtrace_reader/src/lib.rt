@@ -1,5 +1,5 @@
 //! Trace files: from the bytes of a file to the operations of its lines, and from these to the steps that
-//! a player makes.
+//! a player makes. Traces are also made of a seed.
 //!
 //! The form of a trace is taken after glibc's mtrace. `specs/` says what a line means, by cases on its
 //! words, and what a list of bytes reads as; the code meets these definitions.
@@ -7,6 +7,7 @@
 
 pub mod laws;
 mod line;
+mod made;
 mod reading;
 mod source;
 mod steps;
@@ -16,6 +17,7 @@ mod walk;
 mod words;
 
 pub use line::Meaning;
+pub use made::{MOST_CALLS, make_trace};
 pub use source::{MOST_BYTES, read_trace};
 pub use steps::{Script, Step, StepList};
 pub use trace::{Operation, OperationList, Trace, TraceFault};
