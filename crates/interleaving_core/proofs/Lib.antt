@@ -32,3 +32,5 @@ pub mod CallLawsData
 pub mod CallLawsPending
 pub mod CallLawsTurns
 pub mod CallLawsAges
+pub mod MovingBegins
+pub mod MovingAnswers

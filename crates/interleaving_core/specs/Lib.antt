@@ -8,3 +8,4 @@ pub mod TransferLaws
 pub mod Kept
 pub mod CallLaws
 pub mod InvariantLaws
+pub mod MovingLaws
