@@ -34,3 +34,4 @@ pub mod CallLawsTurns
 pub mod CallLawsAges
 pub mod MovingBegins
 pub mod MovingAnswers
+pub mod Labels

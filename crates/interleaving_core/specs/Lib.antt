@@ -9,3 +9,4 @@ pub mod Kept
 pub mod CallLaws
 pub mod InvariantLaws
 pub mod MovingLaws
+pub mod LabelLaws
