@@ -95,7 +95,7 @@ goes_on true true c e f = refl
 goes_on true false c e f = grind arith
 goes_on false b c e f = grind arith
 
-in_call_made : (s : CoreState) (i : ℕ) (call : Call) → i < s.sizes.processes → is_in_call (view_at s i).calls.stage ≡ true → is_made (Events i call) s ≡ true
+pub in_call_made : (s : CoreState) (i : ℕ) (call : Call) → i < s.sizes.processes → is_in_call (view_at s i).calls.stage ≡ true → is_made (Events i call) s ≡ true
 in_call_made s i call li inside = goes_on (nat_lt i s.sizes.processes) (is_in_call (view_at s i).calls.stage) _ (low_test i s.sizes.processes li) inside
 
 pub not_alone : (way : Way) (stage : CallStage) → (way ≡ Alone → is_in_call stage ≡ false) → is_in_call stage ≡ true → is_alone way ≡ false
@@ -106,7 +106,7 @@ not_alone Alone stage alone inside = absurd (both_ways (alone refl) inside)
     both_ways e f = grind arith
 not_alone Calls stage alone inside = refl
 
-inside_view : (call : Call) (v : ProcessView) (t : Bool) → is_in_call v.calls.stage ≡ t → t ≡ true → calling_view call v ≡ v
+pub inside_view : (call : Call) (v : ProcessView) (t : Bool) → is_in_call v.calls.stage ≡ t → t ≡ true → calling_view call v ≡ v
 inside_view call v true inside e = rw inside refl
 inside_view call v false inside e = absurd (grind arith)
 
@@ -120,7 +120,7 @@ made_left s history turn bound fits made le = rw (made_view s turn made (rw fits
 abbrev pub FirstStepsLeave : Sizes → List Entry → CoreState → Type 0
 FirstStepsLeave sizes history s = (i : ℕ) (call : Call) → (view_at s i).calls.stage ≡ Between → is_made (Events i call) s ≡ true → steps_left sizes.quantum (view_at (after_turn (Events i call) s) i).calls + 1 ≤ most_moves sizes call + 1
 
-first_left : (history : List Entry) (s : CoreState) → RunFits s history → FirstStepsLeave s.sizes history s
+pub first_left : (history : List Entry) (s : CoreState) → RunFits s history → FirstStepsLeave s.sizes history s
 first_left history s fits i call between made =
     let some = some_quantum s.sizes (shape_fits s.sizes fits.shape) in
     let v = call_begun call (view_at s i) in
@@ -136,7 +136,7 @@ first_left history s fits i call between made =
 abbrev pub LaterStepsLeave : Sizes → List Entry → CoreState → Type 0
 LaterStepsLeave sizes history s = (i : ℕ) (call : Call) → i < sizes.processes → is_in_call (view_at s i).calls.stage ≡ true → steps_left sizes.quantum (view_at (after_turn (Events i call) s) i).calls + 1 ≤ steps_left sizes.quantum (view_at s i).calls
 
-later_left : (history : List Entry) (s : CoreState) → RunFits s history → LaterStepsLeave s.sizes history s
+pub later_left : (history : List Entry) (s : CoreState) → RunFits s history → LaterStepsLeave s.sizes history s
 later_left history s fits i call li inside =
     let v = view_at s i in
     let word = met_word s.sizes s.words (next_action s.sizes v) in

@@ -92,7 +92,7 @@ after_is s history i call fits made calls =
     met_calls : (sizes : Sizes) (v : ProcessView) (word : ℕ) → is_alone v.calls.way ≡ false → next_met sizes v word ≡ call_met_at sizes v word v.calls.stage
     met_calls sizes v word calls = rw calls refl
 
-answer_is : (s : CoreState) (i : ℕ) (call : Call) → is_made (Events i call) s ≡ true → is_alone (turning_view (Events i call) s).calls.way ≡ false
+pub answer_is : (s : CoreState) (i : ℕ) (call : Call) → is_made (Events i call) s ≡ true → is_alone (turning_view (Events i call) s).calls.way ≡ false
     → turn_answer (Events i call) s ≡ call_answer_at (turning_view (Events i call) s) (met_word s.sizes s.words (next_action s.sizes (turning_view (Events i call) s))) (turning_view (Events i call) s).calls.stage
 answer_is s i call made calls = rw made (answer_calls (turning_view (Events i call) s) _ calls)
   where

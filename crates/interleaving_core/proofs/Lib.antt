@@ -33,3 +33,6 @@ pub mod CallLawsData
 pub mod CallLawsPending
 pub mod CallLawsTurns
 pub mod CallLawsAges
+pub mod MovingBegins
+pub mod MovingAnswers
+pub mod Labels

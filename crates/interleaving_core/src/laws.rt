@@ -2,4 +2,6 @@
 
 pub mod calls;
 pub mod invariant;
+pub mod labels;
+pub mod moving;
 pub mod transfers;

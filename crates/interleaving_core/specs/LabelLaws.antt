@@ -1,0 +1,90 @@
+-- laws of labels: the kind and the index of a next step fit what it does to which word, and a phase fits the next step
+use Rattle.std.specs.Prelude.{◌≡◌, ℕ, ◌+◌, ◌<◌, ◌⊎◌, Bool, true, false, Option, None, Some}
+use Rattle.word_layout.specs.Sizes.{Sizes}
+use Rattle.word_layout.specs.declared.name.WordName.{WordName}
+use Rattle.word_layout.specs.declared.name.WordName.TheVariants.{State, Announcement, RecordWord, Slot, Next, Data}
+use Rattle.transfer_machine.specs.Loads.{loaded_record, loaded_base}
+use Rattle.transfer_machine.specs.Machine.{action_of}
+use Rattle.transfer_machine.specs.Phases.{is_rest, phase_of, waiting_of}
+use Rattle.transfer_machine.specs.Stages.{kind_of, index_of, stage_of}
+use Rattle.transfer_machine.specs.declared.action.Action.{Action}
+use Rattle.transfer_machine.specs.declared.action.Action.TheVariants.{Load, Store, Exchange}
+use Rattle.transfer_machine.specs.declared.call.CallStage.TheVariants as call
+use Rattle.transfer_machine.specs.declared.kind.Kind.{Kind}
+use Rattle.transfer_machine.specs.declared.kind.Kind.TheVariants.{K1, K2, K3, K4, K5, K6, K7, K8, K9, K10}
+use Rattle.transfer_machine.specs.declared.kind.Kind.TheVariants.{K11, K12, K13, K14, K15, K16, K17, K18, K19}
+use Rattle.transfer_machine.specs.declared.stage.Phase.{Phase}
+use Rattle.transfer_machine.specs.declared.stage.Phase.TheVariants as phase
+use Rattle.transfer_machine.specs.declared.stage.Stage.{Stage}
+use Rattle.transfer_machine.specs.declared.transfer.TransferView.{TransferView}
+use Rattle.transfer_machine.specs.declared.view.ProcessView.{ProcessView}
+use Rattle.pool_machine.specs.OwnSteps.{own_action}
+use Rattle.interleaving_core.specs.CallLaws.{EveryRun}
+use Rattle.interleaving_core.specs.Moves.{view_at}
+use Rattle.interleaving_core.specs.Steps.{is_busy, next_action, next_kind}
+
+-- an action loads, stores or exchanges the word of this name
+abbrev pub Loads : WordName → Action → Type 0
+Loads name action = action ≡ Load name
+
+abbrev pub Stores : WordName → Action → Type 0
+Stores name action = (word : ℕ) × (action ≡ Store name word)
+
+abbrev pub Exchanges : WordName → Action → Type 0
+Exchanges name action = (old : ℕ) × ((new : ℕ) × (action ≡ Exchange name old new))
+
+-- a step of this kind and index does this, and to this word, of a process with this part in the transfers
+abbrev pub KindFits : Sizes → TransferView → Kind → ℕ → Action → Type 0
+KindFits sizes v K1 index action = Stores (Announcement v.number) action
+KindFits sizes v K2 index action = Loads State action
+KindFits sizes v K3 index action = Loads (RecordWord (loaded_record v.loaded) index) action
+KindFits sizes v K4 index action = Loads (Slot (loaded_base v.loaded + index)) action
+KindFits sizes v K5 index action = Exchanges (Slot (loaded_base v.loaded + index)) action
+KindFits sizes v K6 index action = Loads (Announcement index) action
+KindFits sizes v K7 index action = (slot : ℕ) × Loads (Slot slot) action
+KindFits sizes v K8 index action = Stores (RecordWord v.next_record index) action
+KindFits sizes v K9 index action = Exchanges State action
+KindFits sizes v K10 index action = Loads State action
+KindFits sizes v K11 index action = Loads (RecordWord (loaded_record v.loaded) (sizes.processes + 2 + v.number)) action
+KindFits sizes v K12 index action = (block : ℕ) × Loads (Next block) action
+KindFits sizes v K13 index action = (block : ℕ) × Stores (Next block) action
+KindFits sizes v K14 index action = Loads State action
+KindFits sizes v K15 index action = (block : ℕ) × ((place : ℕ) × Loads (Data block place) action)
+KindFits sizes v K16 index action = (block : ℕ) × ((place : ℕ) × Stores (Data block place) action)
+KindFits sizes v K17 index action = ⊥
+KindFits sizes v K18 index action = ⊥
+KindFits sizes v K19 index action = Loads State action
+
+-- so does the next step of every transfer, with its kind and its index
+abbrev pub TransferKindsFit : Type 0
+TransferKindsFit = (sizes : Sizes) (v : TransferView) → KindFits sizes v (kind_of v.next) (index_of v.next) (action_of sizes v)
+
+-- and the next step of every process that has one; at the own step of a call the index isn't looked at
+abbrev pub NextKindsFit : Type 0
+NextKindsFit = (sizes : Sizes) (v : ProcessView) → is_busy v ≡ true
+    → KindFits sizes v.transfer (next_kind v) (index_of v.transfer.next) (next_action sizes v)
+
+-- a phase says what the next step of a process is: none, that of its transfer at its stage, or the own step of its call
+abbrev pub PhaseFits : Sizes → ProcessView → Phase → Type 0
+PhaseFits sizes v phase.Between = is_busy v ≡ false
+PhaseFits sizes v (phase.Moving stage) = (stage ≡ stage_of v.transfer) × (is_busy v ≡ true)
+    × (next_action sizes v ≡ action_of sizes v.transfer)
+PhaseFits sizes v phase.Own = (v.calls.stage ≡ call.Own) × (is_busy v ≡ true) × (next_action sizes v ≡ own_action v)
+
+-- so does that of every process of a run
+abbrev pub PhasesFit : Type 0
+PhasesFit = EveryRun (λ sizes history s. (i : ℕ) → i < sizes.processes → PhaseFits sizes (view_at s i) (phase_of (view_at s i)))
+
+-- whether a transfer moves in a phase
+abbrev pub is_moving : Phase → Bool
+is_moving phase.Between = false
+is_moving (phase.Moving stage) = true
+is_moving phase.Own = false
+
+-- a transfer waits at its stage where one is begun and doesn't move
+abbrev pub WaitingFits : ProcessView → Option Stage → Type 0
+WaitingFits v None = (is_rest v.transfer.next ≡ true) ⊎ (is_moving (phase_of v) ≡ true)
+WaitingFits v (Some stage) = (stage ≡ stage_of v.transfer) × (is_rest v.transfer.next ≡ false) × (is_moving (phase_of v) ≡ false)
+
+abbrev pub WaitingsFit : Type 0
+WaitingsFit = (v : ProcessView) → WaitingFits v (waiting_of v)
