@@ -4,69 +4,69 @@ use Rattle.std.specs.Prelude.{if◌then◌else◌, nat_lt, slice_set}
 use Rattle.word_layout.specs.Sizes.{Sizes}
 use Rattle.word_layout.specs.Names.{record_words}
 use Rattle.word_layout.specs.Packing.{tag_of}
-use Rattle.transfer_machine.specs.Loads.{loaded_tag, overlay_length}
+use Rattle.transfer_machine.specs.Loads.{loaded_tag}
 use Rattle.transfer_machine.specs.Tries.{begun_plan, pops_slot, after_announcement}
-use Rattle.transfer_machine.specs.Machine.{met_at, try_ended, installed, after_slot, after_record, after_heard, after_stored, record_word_loaded, announcement_loaded}
+use Rattle.transfer_machine.specs.Machine.{met_at, met_in_try, after_try, try_ended, installed, after_record, after_heard, record_word_loaded, announcement_loaded}
 use Rattle.transfer_machine.specs.declared.loaded.Loaded.{Loaded}
 use Rattle.transfer_machine.specs.declared.transfer.TransferView.{TransferView}
 use Rattle.transfer_machine.specs.declared.stage.NextStep.{NextStep}
-use Rattle.transfer_machine.specs.declared.stage.NextStep.TheVariants.{Rest, Announce, LoadState, LoadRecordWord, LoadCoveredSlot, ExchangeSlot, LoadAnnouncement, LoadPoppedSlot, StoreRecordWord, ExchangeState, LoadFinalState, LoadReply}
+use Rattle.transfer_machine.specs.declared.stage.NextStep.TheVariants.{Rest, Announce, Try, LoadFinalState, LoadReply}
+use Rattle.transfer_machine.specs.declared.stage.TryStep.{TryStep}
+use Rattle.transfer_machine.specs.declared.stage.TryStep.TheVariants.{LoadState, LoadRecordWord, LoadCoveredSlot, ExchangeSlot, LoadAnnouncement, LoadPoppedSlot, StoreRecordWord, ExchangeState}
 use Rattle.transfer_invariant.specs.Progress.{has_announced}
-use Rattle.batch_invariant.proofs.Moving.{GoesOn}
+use Rattle.batch_invariant.proofs.Moving.{SameAnnouncement}
 
--- one of two stages, one of two views
-either_stage : (t : Bool) (a b : NextStep) → has_announced a ≡ true → has_announced b ≡ true → has_announced (if t then a else b) ≡ true
-either_stage true a b ha hb = ha
-either_stage false a b ha hb = hb
-
-either_view : (t : Bool) (v x y : TransferView) → GoesOn v x → GoesOn v y → GoesOn v (if t then x else y)
+-- one of two views
+either_view : (t : Bool) (v x y : TransferView) → SameAnnouncement v x → SameAnnouncement v y → SameAnnouncement v (if t then x else y)
 either_view true v x y gx gy = gx
 either_view false v x y gx gy = gy
 
--- the stages that follow
-slot_follows : (loaded : Loaded) (offset : ℕ) → has_announced (after_slot loaded offset) ≡ true
-slot_follows loaded offset = either_stage (offset + 1 == overlay_length loaded) (LoadAnnouncement 0) (LoadCoveredSlot (offset + 1)) refl refl
-
-record_follows : (loaded : Loaded) → has_announced (after_record loaded) ≡ true
-record_follows loaded = either_stage (overlay_length loaded == 0) (LoadAnnouncement 0) (LoadCoveredSlot 0) refl refl
-
-heard_follows : (sizes : Sizes) (process : ℕ) → has_announced (after_heard sizes process) ≡ true
-heard_follows sizes process = either_stage (process + 1 == sizes.processes) (StoreRecordWord 0) (LoadAnnouncement (process + 1)) refl refl
-
-stored_follows : (sizes : Sizes) (index : ℕ) → has_announced (after_stored sizes index) ≡ true
-stored_follows sizes index = either_stage (index + 1 == record_words sizes) ExchangeState (StoreRecordWord (index + 1)) refl refl
-
 -- the views that follow
-ended_goes_on : (v : TransferView) → has_announced v.next ≡ true → GoesOn v (try_ended v)
-ended_goes_on v h = record { was = h; announced = either_stage (v.turn == 1) LoadState LoadFinalState refl refl; wish = refl; age = refl }
+after_try_announced : (second : Bool) → has_announced (after_try second) ≡ true
+after_try_announced true = refl
+after_try_announced false = refl
 
-pub installed_goes_on : (v : TransferView) → has_announced v.next ≡ true → GoesOn v (installed v)
-installed_goes_on v h = record { was = h; announced = refl; wish = refl; age = refl }
+ended_same : (second : Bool) (v : TransferView) → has_announced v.next ≡ true → SameAnnouncement v (try_ended second v)
+ended_same second v h = record { was = h; announced = after_try_announced second; wish = refl; age = refl }
 
-record_word_goes_on : (sizes : Sizes) (index : ℕ) (loaded : Loaded) (v : TransferView) → has_announced v.next ≡ true → GoesOn v (record_word_loaded sizes index loaded v)
-record_word_goes_on sizes index loaded v h =
-    either_view (index + 1 == record_words sizes) v (record v { loaded = loaded; next = after_record loaded; plan = begun_plan loaded v.plan }) (record v { loaded = loaded; next = LoadRecordWord (index + 1) })
-    (record { was = h; announced = record_follows loaded; wish = refl; age = refl }) (record { was = h; announced = refl; wish = refl; age = refl })
+record_word_same : (sizes : Sizes) (second : Bool) (index : ℕ) (loaded : Loaded) (v : TransferView) → has_announced v.next ≡ true
+    → SameAnnouncement v (record_word_loaded sizes second index loaded v)
+record_word_same sizes second index loaded v h = either_view (index + 1 == record_words sizes) v
+    (record v { loaded = loaded; next = Try second (after_record loaded); plan = begun_plan loaded v.plan })
+    (record v { loaded = loaded; next = Try second (LoadRecordWord (index + 1)) })
+    (record { was = h; announced = refl; wish = refl; age = refl }) (record { was = h; announced = refl; wish = refl; age = refl })
 
-announcement_goes_on : (sizes : Sizes) (process word : ℕ) (v : TransferView) → has_announced v.next ≡ true → GoesOn v (announcement_loaded sizes process word v)
-announcement_goes_on sizes process word v h =
+announcement_same : (sizes : Sizes) (second : Bool) (process word : ℕ) (v : TransferView) → has_announced v.next ≡ true
+    → SameAnnouncement v (announcement_loaded sizes second process word v)
+announcement_same sizes second process word v h =
+    let loaded = record v.loaded { announcements = slice_set v.loaded.announcements process word } in
+    let plan = after_announcement sizes.processes v.loaded process word 0 v.plan in
     either_view (pops_slot sizes.processes v.loaded process word v.plan) v
-    (record v { loaded = record v.loaded { announcements = slice_set v.loaded.announcements process word }; next = LoadPoppedSlot process })
-    (record v { loaded = record v.loaded { announcements = slice_set v.loaded.announcements process word }; next = after_heard sizes process; plan = after_announcement sizes.processes v.loaded process word 0 v.plan })
-    (record { was = h; announced = refl; wish = refl; age = refl }) (record { was = h; announced = heard_follows sizes process; wish = refl; age = refl })
+    (record v { loaded = loaded; next = Try second (LoadPoppedSlot process) })
+    (record v { loaded = loaded; next = Try second (after_heard sizes process); plan = plan })
+    (record { was = h; announced = refl; wish = refl; age = refl }) (record { was = h; announced = refl; wish = refl; age = refl })
+
+-- a step of a try goes on
+try_same : (sizes : Sizes) (v : TransferView) (word : ℕ) (second : Bool) (step : TryStep) → has_announced v.next ≡ true
+    → SameAnnouncement v (met_in_try sizes v word second step)
+try_same sizes v word second LoadState h = record { was = h; announced = refl; wish = refl; age = refl }
+try_same sizes v word second (LoadRecordWord index) h =
+    let loaded = record v.loaded { record_words = slice_set v.loaded.record_words index word } in
+    either_view (nat_lt (loaded_tag v.loaded) (tag_of word)) v (try_ended second v) (record_word_loaded sizes second index loaded v)
+    (ended_same second v h) (record_word_same sizes second index loaded v h)
+try_same sizes v word second (LoadCoveredSlot offset) h = record { was = h; announced = refl; wish = refl; age = refl }
+try_same sizes v word second (ExchangeSlot offset) h = record { was = h; announced = refl; wish = refl; age = refl }
+try_same sizes v word second (LoadAnnouncement process) h = announcement_same sizes second process word v h
+try_same sizes v word second (LoadPoppedSlot process) h = record { was = h; announced = refl; wish = refl; age = refl }
+try_same sizes v word second (StoreRecordWord index) h = record { was = h; announced = refl; wish = refl; age = refl }
+try_same sizes v word second ExchangeState h = either_view (word == v.loaded.state) v (installed v) (try_ended second v)
+    (record { was = h; announced = refl; wish = refl; age = refl }) (ended_same second v h)
 
 -- an announced transfer's steps before the last
 abbrev pub goes_on : NextStep → Bool
 goes_on Rest = false
 goes_on Announce = false
-goes_on LoadState = true
-goes_on (LoadRecordWord index) = true
-goes_on (LoadCoveredSlot offset) = true
-goes_on (ExchangeSlot offset) = true
-goes_on (LoadAnnouncement process) = true
-goes_on (LoadPoppedSlot process) = true
-goes_on (StoreRecordWord index) = true
-goes_on ExchangeState = true
+goes_on (Try second step) = true
 goes_on LoadFinalState = true
 goes_on LoadReply = false
 
@@ -76,19 +76,10 @@ goes_on_announced s h = grind arith
 never : false ≡ true → ⊥
 never h = grind arith
 
-pub met_goes_on : (sizes : Sizes) (v : TransferView) (word : ℕ) (s : NextStep) → goes_on s ≡ true → has_announced v.next ≡ true → GoesOn v (met_at sizes v word s)
-met_goes_on sizes v word Rest g h = absurd (never g)
-met_goes_on sizes v word Announce g h = absurd (never g)
-met_goes_on sizes v word LoadState g h = record { was = h; announced = refl; wish = refl; age = refl }
-met_goes_on sizes v word (LoadRecordWord index) g h =
-    either_view (nat_lt (loaded_tag v.loaded) (tag_of word)) v (try_ended v) (record_word_loaded sizes index (record v.loaded { record_words = slice_set v.loaded.record_words index word }) v)
-    (ended_goes_on v h) (record_word_goes_on sizes index (record v.loaded { record_words = slice_set v.loaded.record_words index word }) v h)
-met_goes_on sizes v word (LoadCoveredSlot offset) g h =
-    record { was = h; announced = either_stage (nat_lt (tag_of word) (loaded_tag v.loaded)) (ExchangeSlot offset) (after_slot v.loaded offset) refl (slot_follows v.loaded offset); wish = refl; age = refl }
-met_goes_on sizes v word (ExchangeSlot offset) g h = record { was = h; announced = slot_follows v.loaded offset; wish = refl; age = refl }
-met_goes_on sizes v word (LoadAnnouncement process) g h = announcement_goes_on sizes process word v h
-met_goes_on sizes v word (LoadPoppedSlot process) g h = record { was = h; announced = heard_follows sizes process; wish = refl; age = refl }
-met_goes_on sizes v word (StoreRecordWord index) g h = record { was = h; announced = stored_follows sizes index; wish = refl; age = refl }
-met_goes_on sizes v word ExchangeState g h = either_view (word == v.loaded.state) v (installed v) (try_ended v) (installed_goes_on v h) (ended_goes_on v h)
-met_goes_on sizes v word LoadFinalState g h = record { was = h; announced = refl; wish = refl; age = refl }
-met_goes_on sizes v word LoadReply g h = absurd (never g)
+pub met_same_announcement : (sizes : Sizes) (v : TransferView) (word : ℕ) (s : NextStep) → goes_on s ≡ true → has_announced v.next ≡ true
+    → SameAnnouncement v (met_at sizes v word s)
+met_same_announcement sizes v word Rest g h = absurd (never g)
+met_same_announcement sizes v word Announce g h = absurd (never g)
+met_same_announcement sizes v word (Try second step) g h = try_same sizes v word second step h
+met_same_announcement sizes v word LoadFinalState g h = record { was = h; announced = refl; wish = refl; age = refl }
+met_same_announcement sizes v word LoadReply g h = absurd (never g)

@@ -1,12 +1,6 @@
-pub mod Sums
 pub mod Moving
 pub mod Going
 pub mod Steps
-pub mod Heads
 pub mod Transit
-pub mod Apart
 pub mod Applied
 pub mod Installing
-pub mod Opened
-pub mod Plans
-pub mod Machine

@@ -1,7 +1,6 @@
--- a beginning and a step that leaves the state keep the batches of the process and of the others
-use Rattle.std.proofs.Common.{◌≡◌, ◌≢◌, ℕ, ◌+◌, ◌-◌, ◌<◌, ◌≤◌, Bool, true, false, not, refl, sym, ap, ◌∙◌, inl, inr, List, [], length, take, take_all, arith}
-use Rattle.std.specs.Prelude.{if◌then◌else◌, slice_index}
-use Rattle.std.proofs.lemmas.Bool.{cases_eq}
+-- beginnings and steps of a transfer keep the batches of their process
+use Rattle.std.proofs.Common.{◌≡◌, ◌≢◌, ℕ, ◌+◌, ◌-◌, ◌≤◌, Bool, true, false, refl, sym, ap, ◌∙◌, List, [], length, take, take_all, arith}
+use Rattle.std.specs.Prelude.{slice_index}
 use Rattle.std.proofs.lemmas.List.Sums.{sum_by_push, sum_by-cons, sum_by_more}
 use Rattle.word_layout.specs.Sizes.{Sizes}
 use Rattle.word_layout.specs.Packing.{value_of, reply_of}
@@ -9,45 +8,29 @@ use Rattle.word_layout.specs.declared.announced.Wish.{Wish}
 use Rattle.word_layout.specs.declared.announced.Wish.TheVariants.{Take, Give}
 use Rattle.word_layout.specs.declared.reply.Reply.{Reply}
 use Rattle.word_layout.specs.declared.reply.Reply.TheVariants.{Nothing, Took, Gave}
-use Rattle.transfer_schedule.specs.Numbers as schedule
-use Rattle.transfer_schedule.specs.declared.pending.Pending.TheVariants.{Idle}
 use Rattle.transfer_machine.specs.Machine.{met_at, begun}
-use Rattle.transfer_machine.specs.Pools.{MayBegin, view_begun, view_met, pool_met_at, pool_ended, step_counted}
 use Rattle.transfer_machine.specs.States.{StackState}
 use Rattle.transfer_machine.specs.Tries.{is_take}
 use Rattle.transfer_machine.specs.declared.transfer.TransferView.{TransferView}
-use Rattle.transfer_machine.specs.declared.view.PoolView.{PoolView}
-use Rattle.transfer_machine.specs.declared.view.ProcessView.{ProcessView}
 use Rattle.transfer_machine.specs.declared.stage.NextStep.{NextStep}
-use Rattle.transfer_machine.specs.declared.stage.NextStep.TheVariants.{Rest, Announce, LoadState, LoadRecordWord, LoadCoveredSlot, ExchangeSlot, LoadAnnouncement, LoadPoppedSlot, StoreRecordWord, ExchangeState, LoadFinalState, LoadReply}
+use Rattle.transfer_machine.specs.declared.stage.NextStep.TheVariants.{Rest, Announce, Try, LoadFinalState, LoadReply}
+use Rattle.transfer_machine.specs.declared.stage.TryStep.TheVariants.{ExchangeState}
+use Rattle.pool_machine.specs.Pools.{MayBegin, view_begun, pool_met_at, pool_ended, step_counted}
+use Rattle.pool_machine.specs.declared.view.PoolView.{PoolView}
+use Rattle.pool_machine.specs.declared.view.ProcessView.{ProcessView}
 use Rattle.transfer_invariant.specs.Memory.{Moved}
 use Rattle.transfer_invariant.specs.Progress.{has_announced}
-use Rattle.batch_invariant.specs.Places.{taken, brought, current_batch, process_batches}
-use Rattle.batch_invariant.specs.Batches.{ProcessViews, MovedProcess, BatchesHold, ReplyMatches, placed_weight, weight}
+use Rattle.batch_invariant.specs.Places.{taken, brought}
+use Rattle.batch_invariant.specs.Batches.{ProcessViews, MovedProcess, ReplyMatches, KeepsBatches, weight}
 use Rattle.batch_invariant.specs.Premises.{InStep}
-use Rattle.batch_invariant.proofs.Sums.{total_kept}
-use Rattle.batch_invariant.proofs.Moving.{GoesOn, moving_at_rest, moving_begun, moving_pending, moving_applied, moving_same_view, parts_weight}
-use Rattle.batch_invariant.proofs.Going.{goes_on, goes_on_announced, met_goes_on}
-
--- a view that keeps the weight of its batches, and that replies match it
-pub record KeepsBatches (s : StackState) (i : ℕ) (v x : ProcessView) : Type 0 where
-  pub same_weight : (f : ℕ → ℕ) → weight f (process_batches s i x) ≡ weight f (process_batches s i v)
-  pub matches : ReplyMatches s i v.transfer → ReplyMatches s i x.transfer
-
--- where one view becomes such a view, batches stay placed
-pub batches_move : (sizes : Sizes) (s : StackState) (views after : ProcessViews) (i : ℕ) (x : ProcessView) → i < sizes.processes → BatchesHold sizes s views → MovedProcess i x views after
-    → KeepsBatches s i (views i) x → BatchesHold sizes s after
-unfolding placed_weight
-batches_move sizes s views after i x li h moved keeps = record {
-  placed = λ f. let same = total_kept sizes.processes i (λ o. weight f (process_batches s o (views o))) (λ o. weight f (process_batches s o (after o)))
-      (λ o lo ne. ap (λ v. weight f (process_batches s o v)) (moved.elsewhere o ne)) (ap (λ v. weight f (process_batches s i v)) moved.here ∙ keeps.same_weight f) in
-      rw same (h.placed f);
-  replies = λ o lo. elim (cases_eq o i) [ inl e ↦ rw e (rw moved.here (keeps.matches (h.replies i li))) | inr ne ↦ rw (moved.elsewhere o ne) (h.replies o lo) ];
-}
+use Rattle.batch_invariant.proofs.Moving.{SameAnnouncement, moving_at_rest, moving_begun, moving_pending, moving_applied, moving_same_view}
+use Rattle.batch_invariant.proofs.Going.{goes_on, goes_on_announced, met_same_announcement}
 
 -- of a process's view, its transfer's moves too
-pub transfers_move : (i : ℕ) (x : ProcessView) (views after : ProcessViews) → MovedProcess i x views after → Moved i x.transfer (λ o. (views o).transfer) (λ o. (after o).transfer)
-transfers_move i x views after moved = record { here = ap (λ v. v.transfer) moved.here; elsewhere = λ o ne. ap (λ v. v.transfer) (moved.elsewhere o ne) }
+pub transfers_move : (i : ℕ) (x : ProcessView) (views after : ProcessViews) → MovedProcess i x views after
+    → Moved i x.transfer (λ o. (views o).transfer) (λ o. (after o).transfer)
+transfers_move i x views after moved =
+    record { here = ap (λ v. v.transfer) moved.here; elsewhere = λ o ne. ap (λ v. v.transfer) (moved.elsewhere o ne) }
 
 -- replies match a view that isn't in an announced transfer, and one whose transfer isn't applied
 pub unannounced_matches : (s : StackState) (i : ℕ) (x : TransferView) → has_announced x.next ≡ false → ReplyMatches s i x
@@ -56,66 +39,56 @@ unannounced_matches s i x h = grind arith
 unapplied_matches : (s : StackState) (i : ℕ) (x : TransferView) → s.applied i ≢ x.age → ReplyMatches s i x
 unapplied_matches s i x h = grind arith
 
--- a view that goes on in its transfer, with the same lists
-pub going_on_matches : (s : StackState) (i : ℕ) (v x : TransferView) → GoesOn v x → ReplyMatches s i v → ReplyMatches s i x
+-- a view that goes on in its transfer, with the same spares
+going_on_matches : (s : StackState) (i : ℕ) (v x : TransferView) → SameAnnouncement v x → ReplyMatches s i v → ReplyMatches s i x
 going_on_matches s i v x g h = record {
   gave = λ a e t. h.gave g.was (rw (← g.age) e) (rw (← g.wish) t);
   took = λ a e t. h.took g.was (rw (← g.age) e) (rw (← g.wish) t);
 }
 
-pub goes_on_keeps : (s : StackState) (i : ℕ) (v x : ProcessView) → GoesOn v.transfer x.transfer → current_batch x.pool ≡ current_batch v.pool → x.pool.heads ≡ v.pool.heads → KeepsBatches s i v x
-goes_on_keeps s i v x g current heads = record {
-  same_weight = λ f. rw (parts_weight f s i x, parts_weight f s i v, current, heads, moving_same_view s i v.transfer x.transfer g) refl;
+goes_on_keeps : (s : StackState) (i : ℕ) (v x : ProcessView) → SameAnnouncement v.transfer x.transfer → x.pool.heads ≡ v.pool.heads
+    → KeepsBatches s i v x
+goes_on_keeps s i v x g heads = record {
+  same_weight = λ f. rw (heads, moving_same_view s i v.transfer x.transfer g) refl;
   matches = going_on_matches s i v.transfer x.transfer g;
 }
 
 -- the announcement: the given batch stays in transit
-announced_keeps : (s : StackState) (i : ℕ) (v x : ProcessView) → v.transfer.next ≡ Announce → s.applied i ≡ v.transfer.age → has_announced x.transfer.next ≡ true
-    → x.transfer.wish ≡ v.transfer.wish → x.transfer.age ≡ v.transfer.age + 1
-    → current_batch x.pool ≡ current_batch v.pool → x.pool.heads ≡ v.pool.heads → KeepsBatches s i v x
-announced_keeps s i v x begun calm announced wish age current heads =
+announced_keeps : (s : StackState) (i : ℕ) (v x : ProcessView) → v.transfer.next ≡ Announce → s.applied i ≡ v.transfer.age
+    → has_announced x.transfer.next ≡ true → x.transfer.wish ≡ v.transfer.wish → x.transfer.age ≡ v.transfer.age + 1
+    → x.pool.heads ≡ v.pool.heads
+    → KeepsBatches s i v x
+announced_keeps s i v x begun calm announced wish age heads =
     let unapplied : s.applied i ≢ x.transfer.age = omega arith in
     record {
-      same_weight = λ f. rw (parts_weight f s i x, parts_weight f s i v, current, heads, moving_pending s i x.transfer announced unapplied, wish, moving_begun s i v.transfer begun) refl;
+      same_weight = λ f. rw (heads, moving_pending s i x.transfer announced unapplied, wish, moving_begun s i v.transfer begun) refl;
       matches = λ h. unapplied_matches s i x.transfer unapplied;
     }
 
 -- the end: the taken batch becomes a spare
-ended_heads : (f : ℕ → ℕ) (reply : Reply) (pool : PoolView) → weight f (pool_ended reply pool).heads ≡ weight f pool.heads + weight f (brought reply)
+ended_heads : (f : ℕ → ℕ) (reply : Reply) (pool : PoolView)
+    → weight f (pool_ended reply pool).heads ≡ weight f pool.heads + weight f (brought reply)
 ended_heads f Nothing pool = omega arith
 ended_heads f (Took head) pool = omega (arith, sum_by_push f pool.heads head)
 ended_heads f Gave pool = omega arith
 
-either_current : (t : Bool) (x y : schedule.Numbers) (current : ℕ) → x.current ≡ current → y.current ≡ current → (if t then x else y).current ≡ current
-either_current true x y current ex ey = ex
-either_current false x y current ex ey = ey
-
-pub ended_current : (found : Bool) (x : schedule.Numbers) → (schedule.after_end found x).current ≡ x.current
-ended_current found x = either_current (schedule.is_taking x.pending) (record x { pending = Idle; done = 0; spares = if found then schedule.one_more x.spares else x.spares; dry = not found }) (record x { pending = Idle; done = 0 }) x.current refl refl
-
-ended_current_batch : (reply : Reply) (pool : PoolView) → current_batch (pool_ended reply pool) ≡ current_batch pool
-ended_current_batch Nothing pool = rw (ended_current false pool.plan) refl
-ended_current_batch (Took head) pool = rw (ended_current true pool.plan) refl
-ended_current_batch Gave pool = rw (ended_current true pool.plan) refl
-
-brought_is_taken : (f : ℕ → ℕ) (wish : Wish) (reply : Reply) → (is_take wish ≡ false → reply ≡ Gave) → weight f (brought reply) ≡ weight f (taken wish reply)
+brought_is_taken : (f : ℕ → ℕ) (wish : Wish) (reply : Reply) → (is_take wish ≡ false → reply ≡ Gave)
+    → weight f (brought reply) ≡ weight f (taken wish reply)
 brought_is_taken f Take reply h = refl
 brought_is_taken f (Give head) reply h = rw (h refl) refl
 
 reply_announced : (next : NextStep) → next ≡ LoadReply → has_announced next ≡ true
 reply_announced next e = rw e refl
 
-ended_keeps : (s : StackState) (i : ℕ) (v x : ProcessView) (reply : Reply) → v.transfer.next ≡ LoadReply → s.applied i ≡ v.transfer.age → reply_of (s.reply i) ≡ reply → ReplyMatches s i v.transfer
-    → x.transfer.next ≡ Rest → x.pool ≡ pool_ended reply (step_counted v.pool) → KeepsBatches s i v x
+ended_keeps : (s : StackState) (i : ℕ) (v x : ProcessView) (reply : Reply) → v.transfer.next ≡ LoadReply → s.applied i ≡ v.transfer.age
+    → reply_of (s.reply i) ≡ reply → ReplyMatches s i v.transfer → x.transfer.next ≡ Rest → x.pool ≡ pool_ended reply (step_counted v.pool)
+    → KeepsBatches s i v x
 ended_keeps s i v x reply last applied answer matches rest pool = let announced = reply_announced v.transfer.next last in record {
   same_weight = λ f. rw (
-    parts_weight f s i x,
-    parts_weight f s i v,
     pool,
     moving_at_rest s i x.transfer rest,
     moving_applied s i v.transfer announced applied,
     answer,
-    ended_current_batch reply (step_counted v.pool),
     ended_heads f reply (step_counted v.pool),
     brought_is_taken f v.transfer.wish reply (λ t. rw answer at (matches.gave announced applied t)),
   ) (omega arith);
@@ -130,55 +103,48 @@ ends_answer s i v word matches step last = let announced = reply_announced v.nex
 )
 
 -- the step at each stage
-trying_keeps : (sizes : Sizes) (s : StackState) (i : ℕ) (v : ProcessView) (word : ℕ) (stage : NextStep) → goes_on stage ≡ true → v.transfer.next ≡ stage
+trying_keeps : (sizes : Sizes) (s : StackState) (i : ℕ) (v : ProcessView) (word : ℕ) (stage : NextStep) → goes_on stage ≡ true
+    → v.transfer.next ≡ stage
     → KeepsBatches s i v (record v { transfer = met_at sizes v.transfer word stage; pool = step_counted v.pool })
 trying_keeps sizes s i v word stage g e =
-    goes_on_keeps s i v (record v { transfer = met_at sizes v.transfer word stage; pool = step_counted v.pool }) (met_goes_on sizes v.transfer word stage g (rw e (goes_on_announced stage g))) refl refl
+    goes_on_keeps s i v (record v { transfer = met_at sizes v.transfer word stage; pool = step_counted v.pool })
+    (met_same_announcement sizes v.transfer word stage g (rw e (goes_on_announced stage g))) refl
 
-pub stage_keeps : (sizes : Sizes) (s : StackState) (i : ℕ) (v : ProcessView) (word : ℕ) (stage : NextStep) → v.transfer.next ≡ stage → InStep s i v.transfer word → ReplyMatches s i v.transfer
+pub stage_keeps : (sizes : Sizes) (s : StackState) (i : ℕ) (v : ProcessView) (word : ℕ) (stage : NextStep) → v.transfer.next ≡ stage
+    → InStep s i v.transfer word → ReplyMatches s i v.transfer
     → KeepsBatches s i v (record v { transfer = met_at sizes v.transfer word stage; pool = pool_met_at word v.pool stage })
 stage_keeps sizes s i v word Rest e h matches = record { same_weight = λ f. refl; matches = λ m. m }
 stage_keeps sizes s i v word Announce e h matches =
-    announced_keeps s i v (record v { transfer = met_at sizes v.transfer word Announce; pool = pool_met_at word v.pool Announce }) e (h.calm (rw e refl)) refl refl refl refl refl
-stage_keeps sizes s i v word LoadState e h matches = trying_keeps sizes s i v word LoadState refl e
-stage_keeps sizes s i v word (LoadRecordWord index) e h matches = trying_keeps sizes s i v word (LoadRecordWord index) refl e
-stage_keeps sizes s i v word (LoadCoveredSlot offset) e h matches = trying_keeps sizes s i v word (LoadCoveredSlot offset) refl e
-stage_keeps sizes s i v word (ExchangeSlot offset) e h matches = trying_keeps sizes s i v word (ExchangeSlot offset) refl e
-stage_keeps sizes s i v word (LoadAnnouncement process) e h matches = trying_keeps sizes s i v word (LoadAnnouncement process) refl e
-stage_keeps sizes s i v word (LoadPoppedSlot process) e h matches = trying_keeps sizes s i v word (LoadPoppedSlot process) refl e
-stage_keeps sizes s i v word (StoreRecordWord index) e h matches = trying_keeps sizes s i v word (StoreRecordWord index) refl e
-stage_keeps sizes s i v word ExchangeState e h matches = trying_keeps sizes s i v word ExchangeState refl e
+    announced_keeps s i v (record v { transfer = met_at sizes v.transfer word Announce; pool = pool_met_at word v.pool Announce }) e
+    (h.calm (rw e refl)) refl refl refl refl
+stage_keeps sizes s i v word (Try second step) e h matches = trying_keeps sizes s i v word (Try second step) refl e
 stage_keeps sizes s i v word LoadFinalState e h matches = trying_keeps sizes s i v word LoadFinalState refl e
 stage_keeps sizes s i v word LoadReply e h matches =
-    ended_keeps s i v (record v { transfer = met_at sizes v.transfer word LoadReply; pool = pool_met_at word v.pool LoadReply }) (reply_of (value_of word)) e (h.applied e) (ap reply_of (sym (h.reply e))) matches refl refl
+    ended_keeps s i v (record v { transfer = met_at sizes v.transfer word LoadReply; pool = pool_met_at word v.pool LoadReply })
+    (reply_of (value_of word)) e (h.applied e) (ap reply_of (sym (h.reply e))) matches refl refl
 
--- the exchange of the state keeps them whatever state is there
-pub exchange_keeps_at : (sizes : Sizes) (s : StackState) (i : ℕ) (v : ProcessView) (word : ℕ) (stage : NextStep) → v.transfer.next ≡ stage → stage ≡ ExchangeState
-    → KeepsBatches s i v (record v { transfer = met_at sizes v.transfer word stage; pool = pool_met_at word v.pool stage })
-exchange_keeps_at sizes s i v word stage e is = rw is (trying_keeps sizes s i v word ExchangeState refl (e ∙ is))
-
-pub steps_keep : (sizes : Sizes) (s : StackState) (views after : ProcessViews) (i word : ℕ) → i < sizes.processes → BatchesHold sizes s views → InStep s i (views i).transfer word
-    → MovedProcess i (view_met sizes (views i) word) views after → BatchesHold sizes s after
-steps_keep sizes s views after i word li h step moved = batches_move sizes s views after i (view_met sizes (views i) word) li h moved (stage_keeps sizes s i (views i) word (views i).transfer.next refl step (h.replies i li))
+-- a view that exchanges the state is in step with whatever state is there
+pub exchange_in_step : (s : StackState) (i : ℕ) (v : TransferView) (word : ℕ) (second : Bool) → v.next ≡ Try second ExchangeState
+    → InStep s i v word
+exchange_in_step s i v word second e = record { calm = λ h. absurd (grind arith); reply = λ last. absurd cc; applied = λ last. absurd cc }
 
 -- a beginning: the given batch leaves the spares and is in transit
-pub spares_parted : (f : ℕ → ℕ) (heads : List ℕ) (head : ℕ) → 1 ≤ length heads → slice_index heads (length heads - 1) ≡ head → weight f (take (length heads - 1) heads) + f head ≡ weight f heads
+pub spares_parted : (f : ℕ → ℕ) (heads : List ℕ) (head : ℕ) → 1 ≤ length heads → slice_index heads (length heads - 1) ≡ head
+    → weight f (take (length heads - 1) heads) + f head ≡ weight f heads
 spares_parted f heads head some e =
     let last : (length heads - 1) + 1 ≡ length heads = omega arith in
     let more = sum_by_more f heads (length heads - 1) 0 (omega arith) in
     let all : take ((length heads - 1) + 1) heads ≡ heads = rw last (take_all (length heads) heads (omega arith)) in
     let whole = rw (all, e) at more in omega (arith, whole)
 
-pub begun_keeps : (s : StackState) (i : ℕ) (wish : Wish) (v : ProcessView) → v.transfer.next ≡ Rest → MayBegin wish v.pool → KeepsBatches s i v (view_begun wish v)
+pub begun_keeps : (s : StackState) (i : ℕ) (wish : Wish) (v : ProcessView) → v.transfer.next ≡ Rest → MayBegin wish v.pool
+    → KeepsBatches s i v (view_begun wish v)
 begun_keeps s i Take v rest may = record {
-  same_weight = λ f. rw (parts_weight f s i (view_begun Take v), parts_weight f s i v, moving_begun s i (begun Take v.transfer) refl, moving_at_rest s i v.transfer rest) refl;
+  same_weight = λ f. rw (moving_begun s i (begun Take v.transfer) refl, moving_at_rest s i v.transfer rest) refl;
   matches = λ h. unannounced_matches s i (begun Take v.transfer) refl;
 }
 begun_keeps s i (Give head) v rest may = record {
-  same_weight = λ f. rw (parts_weight f s i (view_begun (Give head) v), parts_weight f s i v, moving_begun s i (begun (Give head) v.transfer) refl, moving_at_rest s i v.transfer rest) (omega (arith, spares_parted f v.pool.heads head may.0 may.2, sum_by-cons f head []));
+  same_weight = λ f. rw (moving_begun s i (begun (Give head) v.transfer) refl, moving_at_rest s i v.transfer rest)
+      (omega (arith, spares_parted f v.pool.heads head may.0 may.2, sum_by-cons f head []));
   matches = λ h. unannounced_matches s i (begun (Give head) v.transfer) refl;
 }
-
-pub beginnings_keep : (sizes : Sizes) (s : StackState) (views after : ProcessViews) (i : ℕ) (wish : Wish) → i < sizes.processes → BatchesHold sizes s views → (views i).transfer.next ≡ Rest
-    → MayBegin wish (views i).pool → MovedProcess i (view_begun wish (views i)) views after → BatchesHold sizes s after
-beginnings_keep sizes s views after i wish li h rest may moved = batches_move sizes s views after i (view_begun wish (views i)) li h moved (begun_keeps s i wish (views i) rest may)

@@ -1,4 +1,5 @@
 pub mod Places
 pub mod Batches
+pub mod Transit
 pub mod Premises
 pub mod Laws

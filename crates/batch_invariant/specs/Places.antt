@@ -1,5 +1,5 @@
--- the batches of one process by their heads: its current list, its spares, and the one that its transfer moves
-use Rattle.std.specs.Prelude.{ℕ, ◌-◌, ◌==◌, Bool, true, false, if◌then◌else◌, List, [], ◌∷◌, ◌++◌}
+-- the batch that a process's transfer has in transit, by its head
+use Rattle.std.specs.Prelude.{ℕ, ◌==◌, Bool, true, false, if◌then◌else◌, List, [], ◌∷◌}
 use Rattle.word_layout.specs.Packing.{reply_of}
 use Rattle.word_layout.specs.declared.announced.Wish.{Wish}
 use Rattle.word_layout.specs.declared.announced.Wish.TheVariants.{Take, Give}
@@ -7,24 +7,15 @@ use Rattle.word_layout.specs.declared.reply.Reply.{Reply}
 use Rattle.word_layout.specs.declared.reply.Reply.TheVariants.{Nothing, Took, Gave}
 use Rattle.transfer_machine.specs.States.{StackState}
 use Rattle.transfer_machine.specs.declared.transfer.TransferView.{TransferView}
-use Rattle.transfer_machine.specs.declared.view.PoolView.{PoolView}
-use Rattle.transfer_machine.specs.declared.view.ProcessView.{ProcessView}
 use Rattle.transfer_machine.specs.declared.stage.NextStep.{NextStep}
-use Rattle.transfer_machine.specs.declared.stage.NextStep.TheVariants.{Rest, Announce, LoadState, LoadRecordWord, LoadCoveredSlot, ExchangeSlot, LoadAnnouncement, LoadPoppedSlot, StoreRecordWord, ExchangeState, LoadFinalState, LoadReply}
+use Rattle.transfer_machine.specs.declared.stage.NextStep.TheVariants.{Rest, Announce, Try, LoadFinalState, LoadReply}
 use Rattle.transfer_invariant.specs.Progress.{has_announced}
 
 -- in a transfer that is begun and not announced yet
 abbrev pub has_only_begun : NextStep → Bool
 has_only_begun Rest = false
 has_only_begun Announce = true
-has_only_begun LoadState = false
-has_only_begun (LoadRecordWord index) = false
-has_only_begun (LoadCoveredSlot offset) = false
-has_only_begun (ExchangeSlot offset) = false
-has_only_begun (LoadAnnouncement process) = false
-has_only_begun (LoadPoppedSlot process) = false
-has_only_begun (StoreRecordWord index) = false
-has_only_begun ExchangeState = false
+has_only_begun (Try second step) = false
 has_only_begun LoadFinalState = false
 has_only_begun LoadReply = false
 
@@ -51,11 +42,3 @@ announced_batch s process v = if s.applied process == v.age then taken v.wish (r
 -- the batch in transit of a process, if there is one
 unfoldable pub moving : StackState → ℕ → TransferView → List ℕ
 moving s process v = if has_only_begun v.next then given v.wish else (if has_announced v.next then announced_batch s process v else [])
-
--- the batch that a process takes blocks from, unless that list is empty
-abbrev pub current_batch : PoolView → List ℕ
-current_batch pool = if pool.plan.current == 0 then [] else ((pool.head - 1) ∷ [])
-
--- all batches of a process: the current list, the spares, the one in transit
-unfoldable pub process_batches : StackState → ℕ → ProcessView → List ℕ
-process_batches s process v = current_batch v.pool ++ (v.pool.heads ++ moving s process v.transfer)

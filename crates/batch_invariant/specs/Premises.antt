@@ -1,7 +1,7 @@
 -- what other parts of the invariant say of a step, as far as batches need it
-use Rattle.std.specs.Prelude.{◌≡◌, ℕ, ◌+◌, ◌<◌, ◌^◌, true, false, slice_index}
+use Rattle.std.specs.Prelude.{◌≡◌, ℕ, ◌+◌, ◌<◌, true, false, slice_index}
 use Rattle.word_layout.specs.Sizes.{Sizes}
-use Rattle.word_layout.specs.Packing.{value_of, announced_word}
+use Rattle.word_layout.specs.Packing.{value_limit, value_of, announced_word}
 use Rattle.transfer_machine.specs.States.{StackState, next_of}
 use Rattle.transfer_machine.specs.Tries.{is_pending}
 use Rattle.transfer_machine.specs.declared.transfer.TransferView.{TransferView}
@@ -10,7 +10,8 @@ use Rattle.transfer_invariant.specs.Progress.{has_announced}
 use Rattle.transfer_invariant.specs.Installing.{planned_state}
 use Rattle.batch_invariant.specs.Batches.{ProcessViews}
 
--- a process's transfer is in step with the present state, where its next step meets this word: none is left to apply unless one is announced, and the reply that ends it is the state's
+-- a transfer whose next step meets this word is in step with the present state: none is left to apply unless one is announced,
+-- and the reply that ends it is the state's
 pub record InStep (s : StackState) (process : ℕ) (v : TransferView) (word : ℕ) : Type 0 where
   pub calm : has_announced v.next ≡ false → s.applied process ≡ v.age
   pub reply : v.next ≡ LoadReply → value_of word ≡ s.reply process
@@ -29,8 +30,8 @@ pub record SameStack (processes : ℕ) (s t : StackState) : Type 0 where
   pub reply : (i : ℕ) → i < processes → t.reply i ≡ s.reply i
   pub applied : (i : ℕ) → i < processes → t.applied i ≡ s.applied i
 
--- a view that installs the state after this one: its pending announcements are present, and the state that it planned is what they make of this one
+-- a view that installs the state after this one: its pending announcements are present, and it planned what they make of this state
 pub record InstallsNext (sizes : Sizes) (s : StackState) (views : ProcessViews) (v : TransferView) : Type 0 where
-  pub row : v.next_record < 2 ^ 24
+  pub row : v.next_record < value_limit
   pub present : (o : ℕ) → o < sizes.processes → PendingIsPresent s (slice_index v.loaded.announcements o) o (views o).transfer
   pub planned : SameStack sizes.processes (next_of sizes.processes (λ o. slice_index v.loaded.announcements o) s) (planned_state s v)

@@ -1,9 +1,10 @@
-//! Where each batch of the pool is, between any two steps of transfers.
+//! The batches that transfers move, between any two steps.
 //!
-//! A batch is named by its head. Each is at exactly one place: it is a process's current list, one of its
-//! spares, in transit by its transfer, or on the shared stack. `specs/Batches.antt` says so by one equation
-//! for every number that may count for a head. The module [`laws`] has that the opening meets it, that
-//! beginnings and steps of transfers keep it, and what follows of the heads.
+//! A batch is named by its head. The transfer of a process has at most one batch in transit: until it is
+//! applied the one that it gives, then the one that its reply brings (`specs/Places.antt`). The module
+//! [`laws`] has that beginnings and steps of transfers keep the batches of their process, and that a change of
+//! the state moves batches between what is in transit and the content alone. Where each block is, and so each
+//! batch, `chain_invariant` says.
 #![tactic(auto)]
 
 pub mod laws;

@@ -1,6 +1,7 @@
 -- a process that makes transfers alone
-use Rattle.std.proofs.Common.{◌≡◌, ℕ, ◌+◌, ◌*◌, ◌<◌, ◌≤◌, ◌^◌, Bool, true, false, refl, ◌∙◌, ap, arith, rules}
+use Rattle.std.proofs.Common.{◌≡◌, ℕ, ◌+◌, ◌*◌, ◌<◌, ◌≤◌, Bool, true, false, refl, ◌∙◌, ap, arith, rules}
 use Rattle.std.specs.Prelude.{None}
+use Rattle.word_layout.specs.Packing.{most_age}
 use Rattle.word_layout.specs.Sizes.{Sizes, transfer_bound}
 use Rattle.word_layout.specs.declared.announced.Wish.{Wish}
 use Rattle.transfer_schedule.specs.Numbers.{is_idle, withheld}
@@ -8,13 +9,13 @@ use Rattle.transfer_schedule.specs.Table.{InTable}
 use Rattle.transfer_schedule.specs.declared.pending.Pending.{Pending}
 use Rattle.transfer_schedule.specs.declared.pending.Pending.TheVariants.{Taking, Giving}
 use Rattle.transfer_schedule.proofs.Products.{times_le, times_two}
-use Rattle.transfer_machine.specs.Pools.{opening_view, view_begun, view_met, MayBegin}
-use Rattle.transfer_machine.specs.declared.call.CallStage.TheVariants.{Between}
-use Rattle.transfer_machine.specs.declared.call.Way.{Way}
-use Rattle.transfer_machine.specs.declared.call.Way.TheVariants.{Fresh, Alone, Calls}
+use Rattle.pool_machine.specs.Pools.{opening_view, view_begun, view_met, MayBegin}
+use Rattle.pool_machine.specs.declared.call.CallStage.TheVariants.{Between}
+use Rattle.pool_machine.specs.declared.call.Way.{Way}
+use Rattle.pool_machine.specs.declared.call.Way.TheVariants.{Fresh, Alone, Calls}
 use Rattle.transfer_machine.specs.declared.stage.NextStep.TheVariants.{Rest}
-use Rattle.transfer_machine.specs.declared.view.PoolView.{PoolView}
-use Rattle.transfer_machine.specs.declared.view.ProcessView.{ProcessView}
+use Rattle.pool_machine.specs.declared.view.PoolView.{PoolView}
+use Rattle.pool_machine.specs.declared.view.ProcessView.{ProcessView}
 use Rattle.pool_machine.specs.Beginning.{alone_begun}
 use Rattle.pool_machine.specs.Conditions.{MayMove}
 use Rattle.pool_invariant.specs.Kept.{KeptAlone, GivenToPool}
@@ -50,7 +51,7 @@ alone_pool : (sizes : Sizes) (i : ℕ) (v : ProcessView) (wish : Wish) → PoolA
 alone_pool sizes i v wish h idle may = search rules
 
 alone_begins : (sizes : Sizes) (i : ℕ) (v : ProcessView) (wish : Wish) (g : Ledger) → PoolHolds sizes i v → NothingEntered sizes g → v.calls.stage ≡ Between → v.calls.call ≡ None
-    → v.transfer.next ≡ Rest → MayBegin wish v.pool → v.transfer.age < 2 ^ 32
+    → v.transfer.next ≡ Rest → MayBegin wish v.pool → v.transfer.age < most_age
     → InTransfers sizes i (alone_begun wish v) g
 alone_begins sizes i v wish g pool nothing stage none rest may young = record {
   way = refl;
@@ -63,13 +64,13 @@ alone_begins sizes i v wish g pool nothing stage none rest may young = record {
   nothing = nothing;
 }
 
-fresh_begins : (sizes : Sizes) (i : ℕ) (v : ProcessView) (wish : Wish) (g : Ledger) → IsFresh sizes i v g → v.transfer.next ≡ Rest → MayBegin wish v.pool → v.transfer.age < 2 ^ 32
+fresh_begins : (sizes : Sizes) (i : ℕ) (v : ProcessView) (wish : Wish) (g : Ledger) → IsFresh sizes i v g → v.transfer.next ≡ Rest → MayBegin wish v.pool → v.transfer.age < most_age
     → InTransfers sizes i (alone_begun wish v) g
 fresh_begins sizes i v wish g f rest may young =
     alone_begins sizes i v wish g (rw f.view (opened_pool sizes i)) f.nothing (ap (λ x. x.calls.stage) f.view) (ap (λ x. x.calls.call) f.view) rest may young
 
 pub moves_alone : (sizes : Sizes) (i : ℕ) (v : ProcessView) (wish : Wish) (g : Ledger) (way : Way) → v.calls.way ≡ way → UsesPoolBy way sizes i v g → MayMove v → v.transfer.next ≡ Rest
-    → MayBegin wish v.pool → v.transfer.age < 2 ^ 32
+    → MayBegin wish v.pool → v.transfer.age < most_age
     → InTransfers sizes i (alone_begun wish v) g
 moves_alone sizes i v wish g Fresh e h moves rest may young = fresh_begins sizes i v wish g (h.fresh e) rest may young
 moves_alone sizes i v wish g Alone e h moves rest may young = alone_begins sizes i v wish g h.pool h.nothing h.stage h.none rest may young

@@ -1,8 +1,9 @@
 -- a process begins a call
-use Rattle.std.proofs.Common.{◌≡◌, ◌≢◌, ℕ, ◌-◌, ◌<◌, ◌≤◌, ◌^◌, Bool, true, false, List, length, refl, sym, ◌∙◌, ap, arith, rules}
+use Rattle.std.proofs.Common.{◌≡◌, ◌≢◌, ℕ, ◌-◌, ◌<◌, ◌≤◌, Bool, true, false, List, length, refl, sym, ◌∙◌, ap, arith, rules}
 use Rattle.std.specs.Prelude.{if◌then◌else◌, Option, None, Some, take}
 use Rattle.std.proofs.lemmas.Bool.Decides.{nat_tests}
 use Rattle.std.proofs.lemmas.List.{length-take-le}
+use Rattle.word_layout.specs.Packing.{most_age}
 use Rattle.word_layout.specs.Sizes.{Sizes}
 use Rattle.word_layout.specs.declared.announced.Wish.{Wish}
 use Rattle.word_layout.specs.declared.announced.Wish.TheVariants.{Take, Give}
@@ -10,15 +11,15 @@ use Rattle.transfer_schedule.specs.Numbers.{is_idle, after_choice}
 use Rattle.transfer_schedule.specs.Account.{Account}
 use Rattle.transfer_schedule.specs.Account as schedule
 use Rattle.transfer_schedule.proofs.Operations.{idle_is}
-use Rattle.transfer_machine.specs.Pools.{view_begun, MayBegin}
-use Rattle.transfer_machine.specs.declared.call.Call.{Call}
-use Rattle.transfer_machine.specs.declared.call.Call.TheVariants.{Allocate, Free, Read, Write}
-use Rattle.transfer_machine.specs.declared.call.CallStage.TheVariants.{Between, Moving, Own}
-use Rattle.transfer_machine.specs.declared.call.Way.TheVariants.{Calls}
+use Rattle.pool_machine.specs.Pools.{view_begun, MayBegin}
+use Rattle.pool_machine.specs.declared.call.Call.{Call}
+use Rattle.pool_machine.specs.declared.call.Call.TheVariants.{Allocate, Free, Read, Write}
+use Rattle.pool_machine.specs.declared.call.CallStage.TheVariants.{Between, Moving, Own}
+use Rattle.pool_machine.specs.declared.call.Way.TheVariants.{Calls}
 use Rattle.transfer_machine.specs.declared.stage.NextStep.{NextStep}
 use Rattle.transfer_machine.specs.declared.stage.NextStep.TheVariants.{Rest}
-use Rattle.transfer_machine.specs.declared.view.PoolView.{PoolView}
-use Rattle.transfer_machine.specs.declared.view.ProcessView.{ProcessView}
+use Rattle.pool_machine.specs.declared.view.PoolView.{PoolView}
+use Rattle.pool_machine.specs.declared.view.ProcessView.{ProcessView}
 use Rattle.transfer_invariant.specs.Progress.{has_announced}
 use Rattle.pool_machine.specs.Beginning.{newest, due, begun_if_due, before_call, first_stage, entered, call_begun}
 use Rattle.pool_machine.proofs.Plans.{choice_is_the_plans}
@@ -51,7 +52,7 @@ pub due_rests : (sizes : Sizes) (v : ProcessView) (wish : Wish) → PoolKept siz
 due_rests sizes v wish h e = idle_rests sizes v h (idle_is v.pool.plan.pending (due_idle v.pool wish e))
 
 -- the facts of the pool once a transfer is begun
-pub runs_begun : (sizes : Sizes) (v : ProcessView) (wish : Wish) → PoolRuns sizes v → v.transfer.next ≡ Rest → MayBegin wish v.pool → v.transfer.age < 2 ^ 32 → PoolRuns sizes (view_begun wish v)
+pub runs_begun : (sizes : Sizes) (v : ProcessView) (wish : Wish) → PoolRuns sizes v → v.transfer.next ≡ Rest → MayBegin wish v.pool → v.transfer.age < most_age → PoolRuns sizes (view_begun wish v)
 runs_begun sizes v wish h rest may young = search rules
 
 heads_begun : (v : ProcessView) (wish : Wish) → length v.pool.heads ≡ v.pool.plan.spares → MayBegin wish v.pool → length (view_begun wish v).pool.heads ≡ (view_begun wish v).pool.plan.spares
@@ -67,7 +68,7 @@ record Enters (sizes : Sizes) (x : ProcessView) : Type 0 where
   heads : length x.pool.heads ≡ x.pool.plan.spares
   announced : has_announced x.transfer.next ≡ true → 0 < x.pool.plan.done
 
-enters_if_due : (sizes : Sizes) (v : ProcessView) (wish : Option Wish) → due v.pool ≡ wish → v.transfer.age < 2 ^ 32 → Enters sizes v → Enters sizes (begun_if_due wish v)
+enters_if_due : (sizes : Sizes) (v : ProcessView) (wish : Option Wish) → due v.pool ≡ wish → v.transfer.age < most_age → Enters sizes v → Enters sizes (begun_if_due wish v)
 enters_if_due sizes v None e young h = h
 enters_if_due sizes v (Some wish) e young h =
     let may = due_may_begin v.pool wish h.heads e in
@@ -139,7 +140,7 @@ begun_goes g false false busy still between = steps.begins _ between (schedule.c
 between_phase : (sizes : Sizes) (i : ℕ) (v : ProcessView) (g : Ledger) → InCalls sizes i v g → v.calls.stage ≡ Between → g.account.phase ≡ schedule.Between
 between_phase sizes i v g h e = h.phase ∙ ap (call_phase_at v.calls) e
 
-changing_begun : (sizes : Sizes) (i : ℕ) (v : ProcessView) (g : Ledger) (call : Call) → changes_pool (Some call) ≡ true → 0 < sizes.quantum → v.calls.stage ≡ Between → v.transfer.age < 2 ^ 32
+changing_begun : (sizes : Sizes) (i : ℕ) (v : ProcessView) (g : Ledger) (call : Call) → changes_pool (Some call) ≡ true → 0 < sizes.quantum → v.calls.stage ≡ Between → v.transfer.age < most_age
     → InCalls sizes i v g → CarriesOn sizes i (entered call (first_stage (before_call v)) (before_call v)) g (record g { account = account_begun g.account })
 changing_begun sizes i v g call changes some between young h =
     let a = g.account in
@@ -177,7 +178,7 @@ keeping_begun sizes i v g call keeps between h = record {
 
 -- each call begins
 pub changing_call_begins : (sizes : Sizes) (i : ℕ) (v : ProcessView) (g : Ledger) (call : Call) → changes_pool (Some call) ≡ true → 0 < sizes.quantum → v.calls.stage ≡ Between
-    → v.transfer.age < 2 ^ 32
+    → v.transfer.age < most_age
     → InCalls sizes i v g → CarriesOn sizes i (call_begun call v) g (ledger_begun call g)
 changing_call_begins sizes i v g Allocate changes some between young h = changing_begun sizes i v g Allocate changes some between young h
 changing_call_begins sizes i v g (Free block) changes some between young h = changing_begun sizes i v g (Free block) changes some between young h

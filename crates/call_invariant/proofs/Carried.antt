@@ -15,15 +15,16 @@ use Rattle.transfer_schedule.specs.Table.{InTable}
 use Rattle.transfer_schedule.proofs.Operations.{one_more_few}
 use Rattle.transfer_machine.specs.Loads.{overlay_length}
 use Rattle.transfer_machine.specs.Machine.{met_at}
-use Rattle.transfer_machine.specs.Phases.{is_rest}
-use Rattle.transfer_machine.specs.Pools.{pending_of, pool_met_at, pool_ended, step_counted}
+use Rattle.transfer_machine.specs.Stages.{is_rest}
+use Rattle.pool_machine.specs.Pools.{pending_of, pool_met_at, pool_ended, step_counted}
 use Rattle.transfer_machine.specs.Tries.{is_take}
-use Rattle.transfer_machine.specs.declared.call.CallStage.TheVariants.{Moving}
+use Rattle.pool_machine.specs.declared.call.CallStage.TheVariants.{Moving}
 use Rattle.transfer_machine.specs.declared.stage.NextStep.{NextStep}
-use Rattle.transfer_machine.specs.declared.stage.NextStep.TheVariants.{Rest, Announce, LoadState, LoadRecordWord, LoadCoveredSlot, ExchangeSlot, LoadAnnouncement, LoadPoppedSlot, StoreRecordWord, ExchangeState, LoadFinalState, LoadReply}
+use Rattle.transfer_machine.specs.declared.stage.NextStep.TheVariants.{Rest, Announce, Try, LoadFinalState, LoadReply}
+use Rattle.transfer_machine.specs.declared.stage.TryStep.TheVariants.{LoadState}
 use Rattle.transfer_machine.specs.declared.transfer.TransferView.{TransferView}
-use Rattle.transfer_machine.specs.declared.view.PoolView.{PoolView}
-use Rattle.transfer_machine.specs.declared.view.ProcessView.{ProcessView}
+use Rattle.pool_machine.specs.declared.view.PoolView.{PoolView}
+use Rattle.pool_machine.specs.declared.view.ProcessView.{ProcessView}
 use Rattle.transfer_invariant.specs.Progress.{has_record, has_announced}
 use Rattle.pool_machine.specs.Steps.{after_move, move_counted, call_met_at}
 use Rattle.pool_invariant.specs.Stages.{is_moving, is_announcing, IndexFitsAt}
@@ -42,7 +43,7 @@ use Rattle.call_invariant.proofs.Moved.{Moves, calls_counted, moves_at, counted_
 
 -- a step that doesn't end the transfer
 more_left : (sizes : Sizes) (v : TransferView) (s : NextStep) → IndexFitsAt sizes v.loaded s → (has_record s ≡ true → overlay_length v.loaded ≤ sizes.processes) → goes_on s ≡ true
-    → steps_before_at sizes.processes v.turn s + 1 < transfer_bound sizes
+    → steps_before_at sizes.processes s + 1 < transfer_bound sizes
 more_left sizes v s index few going = grind (arith, nat_tests)
 
 going_is_moving : (s : NextStep) → goes_on s ≡ true → (is_moving s ≡ true) × (has_announced s ≡ true)
@@ -63,7 +64,7 @@ going_goes : (sizes : Sizes) (v : ProcessView) (g : Ledger) (s : NextStep) → v
 going_goes sizes v g s e going m few =
     let (moving, sent) = going_is_moving s going in
     let index = rw e at m.runs.index in
-    let counted : v.pool.plan.done ≤ steps_before_at sizes.processes v.transfer.turn s = rw e at m.runs.counted moving in
+    let counted : v.pool.plan.done ≤ steps_before_at sizes.processes s = rw e at m.runs.counted moving in
     let low : v.pool.plan.done + 1 < v.pool.plan.bound = rw m.runs.kept.bound (less_done v.pool.plan.done _ (transfer_bound sizes) counted (more_left sizes v.transfer s index few going)) in
     let some : 0 < v.pool.plan.done = m.announced (rw e sent) in
     steps.moves v.calls.steps m.phase (rw m.plan some) (rw m.plan low)
@@ -105,7 +106,7 @@ announce_carries sizes i v word g e some m =
       goes = steps.announces v.calls.steps m.phase (rw m.plan (omega arith)) (rw m.plan long);
       calls = counted_calls sizes i v (record v { transfer = x; pool = record (step_counted v.pool) { giving = 0 } }) g (announced v.calls.steps g) m refl
           (ap (after_steps 1) m.plan)
-          (stepped_phase sizes v g LoadState m refl)
+          (stepped_phase sizes v g (Try false LoadState) m refl)
           (step_runs sizes v word Announce e some m.runs (λ has. absurd (none has)))
           m.heads (λ sent. one_step_more v.pool.plan);
     }
@@ -148,7 +149,7 @@ reply_carries : (sizes : Sizes) (i : ℕ) (v : ProcessView) (word : ℕ) (g : Le
 reply_carries sizes i v word g e some m table answers nothing =
     let x = met_at sizes v.transfer word LoadReply in
     let reply = reply_of (value_of word) in
-    let counted : v.pool.plan.done ≤ steps_before_at sizes.processes v.transfer.turn LoadReply = rw e at m.runs.counted refl in
+    let counted : v.pool.plan.done ≤ steps_before_at sizes.processes LoadReply = rw e at m.runs.counted refl in
     let low : v.pool.plan.done + 1 ≤ v.pool.plan.bound = rw m.runs.kept.bound (omega arith) in
     let sent : 0 < v.pool.plan.done = m.announced (rw e refl) in
     let pending : v.pool.plan.pending ≡ pending_of v.transfer.wish = m.runs.kept.pending (rw e refl) in
@@ -182,14 +183,7 @@ step_carries : (sizes : Sizes) (i : ℕ) (v : ProcessView) (word : ℕ) (g : Led
     → CarriesOn sizes i (move_counted sizes (record v { transfer = met_at sizes v.transfer word s; pool = pool_met_at word v.pool s })) g (ledger_moved_at word v.calls.steps s g)
 step_carries sizes i v word g Rest e busy some m table may = absurd (busy refl)
 step_carries sizes i v word g Announce e busy some m table may = announce_carries sizes i v word g e some m
-step_carries sizes i v word g LoadState e busy some m table may = going_carries sizes i v word g LoadState e refl some m may.few
-step_carries sizes i v word g (LoadRecordWord index) e busy some m table may = going_carries sizes i v word g (LoadRecordWord index) e refl some m may.few
-step_carries sizes i v word g (LoadCoveredSlot offset) e busy some m table may = going_carries sizes i v word g (LoadCoveredSlot offset) e refl some m may.few
-step_carries sizes i v word g (ExchangeSlot offset) e busy some m table may = going_carries sizes i v word g (ExchangeSlot offset) e refl some m may.few
-step_carries sizes i v word g (LoadAnnouncement process) e busy some m table may = going_carries sizes i v word g (LoadAnnouncement process) e refl some m may.few
-step_carries sizes i v word g (LoadPoppedSlot process) e busy some m table may = going_carries sizes i v word g (LoadPoppedSlot process) e refl some m may.few
-step_carries sizes i v word g (StoreRecordWord index) e busy some m table may = going_carries sizes i v word g (StoreRecordWord index) e refl some m may.few
-step_carries sizes i v word g ExchangeState e busy some m table may = going_carries sizes i v word g ExchangeState e refl some m may.few
+step_carries sizes i v word g (Try second step) e busy some m table may = going_carries sizes i v word g (Try second step) e refl some m may.few
 step_carries sizes i v word g LoadFinalState e busy some m table may = going_carries sizes i v word g LoadFinalState e refl some m may.few
 step_carries sizes i v word g LoadReply e busy some m table may = reply_carries sizes i v word g e some m table (may.answers refl) (may.nothing refl)
 

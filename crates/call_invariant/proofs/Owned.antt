@@ -19,12 +19,12 @@ use Rattle.transfer_schedule.specs.declared.own_step.Source.TheVariants as sourc
 use Rattle.transfer_schedule.specs.declared.own_step.Target.TheVariants as target
 use Rattle.transfer_schedule.proofs.Operations.{one_more_few}
 use Rattle.transfer_schedule.proofs.Reaching.{reached_stands, stands_table}
-use Rattle.transfer_machine.specs.declared.call.Call.{Call}
-use Rattle.transfer_machine.specs.declared.call.Call.TheVariants.{Allocate, Free, Read, Write}
-use Rattle.transfer_machine.specs.declared.call.CallStage.TheVariants.{Between, Own}
-use Rattle.transfer_machine.specs.declared.call.CallView.{CallView}
-use Rattle.transfer_machine.specs.declared.view.PoolView.{PoolView}
-use Rattle.transfer_machine.specs.declared.view.ProcessView.{ProcessView}
+use Rattle.pool_machine.specs.declared.call.Call.{Call}
+use Rattle.pool_machine.specs.declared.call.Call.TheVariants.{Allocate, Free, Read, Write}
+use Rattle.pool_machine.specs.declared.call.CallStage.TheVariants.{Between, Own}
+use Rattle.pool_machine.specs.declared.call.CallView.{CallView}
+use Rattle.pool_machine.specs.declared.view.PoolView.{PoolView}
+use Rattle.pool_machine.specs.declared.view.ProcessView.{ProcessView}
 use Rattle.pool_machine.specs.OwnSteps.{block_from, next_block, allocated, freed, pool_own_met, call_left, own_met}
 use Rattle.pool_invariant.specs.Holds.{PoolRuns}
 use Rattle.history_invariant.specs.Fits.{CountsEntries}

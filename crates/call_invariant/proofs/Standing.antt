@@ -9,11 +9,11 @@ use Rattle.transfer_schedule.specs.declared.pending.Pending.TheVariants.{Idle}
 use Rattle.transfer_schedule.proofs.Products.{quantum_some}
 use Rattle.transfer_schedule.proofs.Reaching.{Stands, reached_stands, reached_sizes, stands_table, stands_withholds}
 use Rattle.word_layout.specs.declared.announced.Wish.{Wish}
-use Rattle.transfer_machine.specs.Pools.{pending_of}
+use Rattle.pool_machine.specs.Pools.{pending_of}
 use Rattle.transfer_machine.specs.declared.stage.NextStep.{NextStep}
 use Rattle.transfer_machine.specs.declared.stage.NextStep.TheVariants.{Rest}
-use Rattle.transfer_machine.specs.declared.call.CallView.{CallView}
-use Rattle.transfer_machine.specs.declared.view.ProcessView.{ProcessView}
+use Rattle.pool_machine.specs.declared.call.CallView.{CallView}
+use Rattle.pool_machine.specs.declared.view.ProcessView.{ProcessView}
 use Rattle.pool_invariant.specs.Stages.{is_moving}
 use Rattle.pool_invariant.specs.Kept.{PoolKept}
 use Rattle.pool_invariant.specs.Holds.{PoolRuns}

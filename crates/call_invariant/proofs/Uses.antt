@@ -1,9 +1,8 @@
 -- what every process keeps, whichever way it uses its pool, and what follows
-use Rattle.std.proofs.Common.{List, ◌+◌, ◌*◌, ◌<◌, ◌^◌, ◌≡◌, ◌≢◌, ℕ, ◌≤◌, length, refl, sym, ◌∙◌, ap, arith}
+use Rattle.std.proofs.Common.{List, ◌+◌, ◌<◌, ◌≡◌, ◌≢◌, ℕ, ◌≤◌, length, refl, sym, ◌∙◌, ap, arith}
 use Rattle.std.specs.Prelude.{Some}
-use Rattle.std.proofs.Math.Seq.{take-length}
-use Rattle.word_layout.specs.Sizes.{Sizes}
-use Rattle.word_layout.specs.Packing.{value_of, reply_of}
+use Rattle.word_layout.specs.Sizes.{Sizes, most_blocks}
+use Rattle.word_layout.specs.Packing.{most_age, value_of, reply_of}
 use Rattle.word_layout.specs.declared.announced.Wish.{Wish}
 use Rattle.word_layout.specs.declared.announced.Wish.TheVariants.{Take, Give}
 use Rattle.word_layout.specs.declared.reply.Reply.{Reply}
@@ -15,22 +14,21 @@ use Rattle.transfer_schedule.specs.Numbers.{withheld}
 use Rattle.transfer_schedule.specs.Table.{InTable}
 use Rattle.transfer_schedule.specs.declared.pending.Pending.TheVariants.{Idle}
 use Rattle.transfer_machine.specs.Machine.{CanAct, CanMeet}
-use Rattle.transfer_machine.specs.Pools.{pending_of, MayBegin, CanCount, CanMeetPool, CanEnd}
-use Rattle.transfer_machine.specs.declared.call.CallStage.TheVariants.{Moving}
-use Rattle.transfer_machine.specs.declared.call.Way.{Way}
-use Rattle.transfer_machine.specs.declared.call.Way.TheVariants.{Fresh, Alone, Calls}
+use Rattle.pool_machine.specs.Pools.{pending_of, MayBegin, CanCount, CanMeetPool, CanEnd}
+use Rattle.pool_machine.specs.declared.call.CallStage.TheVariants.{Moving}
+use Rattle.pool_machine.specs.declared.call.Way.{Way}
+use Rattle.pool_machine.specs.declared.call.Way.TheVariants.{Fresh, Alone, Calls}
 use Rattle.transfer_machine.specs.declared.stage.NextStep.TheVariants.{Rest, LoadReply}
-use Rattle.transfer_machine.specs.declared.view.PoolView.{PoolView}
-use Rattle.transfer_machine.specs.declared.view.ProcessView.{ProcessView}
+use Rattle.pool_machine.specs.declared.view.PoolView.{PoolView}
+use Rattle.pool_machine.specs.declared.view.ProcessView.{ProcessView}
 use Rattle.pool_machine.specs.Beginning.{due, newest}
 use Rattle.pool_machine.specs.Ready.{CanBegin, CanMove, CanMeetMoving}
 use Rattle.pool_invariant.specs.Kept.{Answers, GivenToPool}
 use Rattle.pool_invariant.specs.StepCount.{OverlayIsFew}
 use Rattle.pool_invariant.proofs.Ending.{moving_unless_rest, step_left}
 use Rattle.history_invariant.specs.Ledger.{Ledger}
-use Rattle.history_invariant.specs.Grips.{total}
-use Rattle.history_invariant.proofs.Totals.{total_le}
-use Rattle.history_invariant.proofs.Unheld.{times_five}
+use Rattle.process_sums.specs.Sums.{total}
+use Rattle.history_invariant.proofs.Unheld.{five_leave_few}
 use Rattle.call_invariant.specs.InCalls.{Scheduled, IsFresh, InCalls}
 use Rattle.call_invariant.specs.InTransfers.{InTransfers}
 use Rattle.call_invariant.specs.Uses.{UsesPoolBy, PoolKeeps}
@@ -86,7 +84,7 @@ moves_can_be_made sizes i v word g h s moving given act meet =
 pub due_begins : (sizes : Sizes) (v : ProcessView) (wish : Wish) → PoolKeeps sizes v → due v.pool ≡ Some wish → (v.transfer.next ≡ Rest) × MayBegin wish v.pool
 due_begins sizes v wish h e = (due_rests sizes v wish h.runs.kept e, due_may_begin v.pool wish h.heads e)
 
-pub calls_can_begin : (sizes : Sizes) (v : ProcessView) → PoolKeeps sizes v → v.transfer.age < 2 ^ 32 → (v.pool.plan.spares ≡ 3 → newest v.pool < 2 ^ 22) → CanBegin v
+pub calls_can_begin : (sizes : Sizes) (v : ProcessView) → PoolKeeps sizes v → v.transfer.age < most_age → (v.pool.plan.spares ≡ 3 → newest v.pool < most_blocks) → CanBegin v
 calls_can_begin sizes v h young fits = record { rest = idle_rests sizes v h.runs.kept; age = young; heads = h.heads; fits = fits }
 
 pub idle_pool_rests : (sizes : Sizes) (v : ProcessView) → PoolKeeps sizes v → v.pool.plan.pending ≡ Idle → v.transfer.next ≡ Rest
@@ -137,6 +135,4 @@ pub empty_stack_leaves_few : (sizes : Sizes) (limits : Limits) (history : List E
     → limits.blocks ≤ length (held history) + total limits.processes (λ i. withheld (views i).pool.plan)
     → unheld limits history (length history) ≤ slack limits
 empty_stack_leaves_few sizes limits history views e keeps all =
-    let each : (i : ℕ) → i < limits.processes → withheld (views i).pool.plan ≤ 5 * limits.batch_length = λ i li. (let h = keeps i li in rw e h.five) in
-    let few = total_le limits.processes (5 * limits.batch_length) (λ i. withheld (views i).pool.plan) each in
-    rw (take-length history) (omega (arith, few, times_five limits.processes limits.batch_length))
+    five_leave_few limits history (λ i. withheld (views i).pool.plan) (λ i li. let h = keeps i li in rw e h.five) all

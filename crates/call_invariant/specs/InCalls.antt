@@ -3,13 +3,13 @@ use Rattle.std.specs.Prelude.{◌≡◌, ◌≢◌, ℕ, ◌<◌, true, None, []
 use Rattle.word_layout.specs.Sizes.{Sizes, transfer_bound}
 use Rattle.transfer_schedule.specs.Numbers.{AreSizes}
 use Rattle.transfer_schedule.specs.Account.{Account, Reached, opened}
-use Rattle.transfer_machine.specs.Pools.{opening_view}
-use Rattle.transfer_machine.specs.declared.call.CallStage.TheVariants.{Between, Moving, Own}
-use Rattle.transfer_machine.specs.declared.call.CallView.{CallView}
-use Rattle.transfer_machine.specs.declared.call.Way.TheVariants.{Fresh, Alone}
+use Rattle.pool_machine.specs.Pools.{opening_view}
+use Rattle.pool_machine.specs.declared.call.CallStage.TheVariants.{Between, Moving, Own}
+use Rattle.pool_machine.specs.declared.call.CallView.{CallView}
+use Rattle.pool_machine.specs.declared.call.Way.TheVariants.{Fresh, Alone}
 use Rattle.transfer_machine.specs.declared.stage.NextStep.{NextStep}
 use Rattle.transfer_machine.specs.declared.stage.NextStep.TheVariants.{Rest}
-use Rattle.transfer_machine.specs.declared.view.ProcessView.{ProcessView}
+use Rattle.pool_machine.specs.declared.view.ProcessView.{ProcessView}
 use Rattle.transfer_invariant.specs.Progress.{has_announced}
 use Rattle.pool_invariant.specs.Holds.{PoolRuns}
 use Rattle.history_invariant.specs.Ledger.{Ledger}
@@ -31,7 +31,8 @@ pub record IsFresh (sizes : Sizes) (process : ℕ) (v : ProcessView) (ledger : L
   pub view : v ≡ opening_view sizes process
   pub nothing : NothingEntered sizes ledger
 
--- between two calls there is none; at transfer steps it is an allocate or a free, a transfer is pending, and fewer steps than a quantum are made; at the own step there is one
+-- between two calls there is none; at transfer steps it is an allocate or a free, a transfer is pending, and fewer steps than a quantum
+-- are made; at the own step there is one
 pub record StageFits (quantum : ℕ) (calls : CallView) (next : NextStep) : Type 0 where
   pub none : calls.stage ≡ Between → calls.call ≡ None
   pub changes : calls.stage ≡ Moving → changes_pool calls.call ≡ true
@@ -39,7 +40,8 @@ pub record StageFits (quantum : ℕ) (calls : CallView) (next : NextStep) : Type
   pub few : calls.stage ≡ Moving → calls.steps < quantum
   pub some : calls.stage ≡ Own → calls.call ≢ None
 
--- the ledger has the plan of the pool and the phase of the process; each spare has its head; an announced transfer has made a step; a process that has begun no call is as it was
+-- the ledger has the plan of the pool and the phase of the process; each spare has its head; an announced transfer has made a step; a
+-- process that has begun no call is as it was
 pub record InCalls (sizes : Sizes) (process : ℕ) (v : ProcessView) (ledger : Ledger) : Type 0 where
   pub way : v.calls.way ≢ Alone
   pub plan : ledger.account.plan ≡ v.pool.plan

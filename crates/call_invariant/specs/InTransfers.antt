@@ -1,9 +1,9 @@
 -- what holds of a process that makes transfers alone, outside any call
 use Rattle.std.specs.Prelude.{◌≡◌, ℕ, None}
 use Rattle.word_layout.specs.Sizes.{Sizes}
-use Rattle.transfer_machine.specs.declared.call.CallStage.TheVariants.{Between}
-use Rattle.transfer_machine.specs.declared.call.Way.TheVariants.{Alone}
-use Rattle.transfer_machine.specs.declared.view.ProcessView.{ProcessView}
+use Rattle.pool_machine.specs.declared.call.CallStage.TheVariants.{Between}
+use Rattle.pool_machine.specs.declared.call.Way.TheVariants.{Alone}
+use Rattle.pool_machine.specs.declared.view.ProcessView.{ProcessView}
 use Rattle.pool_invariant.specs.Holds.{PoolHolds}
 use Rattle.history_invariant.specs.Ledger.{Ledger}
 use Rattle.call_invariant.specs.InCalls.{NothingEntered}

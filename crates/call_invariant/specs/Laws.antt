@@ -1,7 +1,7 @@
 -- beginnings and steps of a process keep what holds of its pool and its ledger, and what follows
-use Rattle.std.specs.Prelude.{◌+◌, None, ◌≡◌, ◌≢◌, ℕ, ◌<◌, ◌≤◌, ◌^◌, Bool, true, false, if◌then◌else◌, Some, List, length, Contains}
-use Rattle.word_layout.specs.Sizes.{Sizes, IsShape, transfer_bound}
-use Rattle.word_layout.specs.Packing.{value_of, reply_of}
+use Rattle.std.specs.Prelude.{◌+◌, None, ◌≡◌, ◌≢◌, ℕ, ◌<◌, ◌≤◌, Bool, true, false, if◌then◌else◌, Some, List, length, Contains}
+use Rattle.word_layout.specs.Sizes.{Sizes, most_blocks, IsShape, transfer_bound}
+use Rattle.word_layout.specs.Packing.{most_age, value_of, reply_of}
 use Rattle.word_layout.specs.declared.announced.Wish.{Wish}
 use Rattle.word_layout.specs.declared.reply.Reply.TheVariants.{Nothing}
 use Rattle.pool_model.specs.declared.entry.Entry.{Entry}
@@ -14,15 +14,15 @@ use Rattle.transfer_schedule.specs.declared.own_step.Source.TheVariants as sourc
 use Rattle.transfer_schedule.specs.declared.own_step.Target.TheVariants as target
 use Rattle.transfer_schedule.specs.declared.pending.Pending.TheVariants.{Idle}
 use Rattle.transfer_machine.specs.Machine.{CanAct, CanMeet}
-use Rattle.transfer_machine.specs.Pools.{opening_view, view_met, MayBegin, CanCount, CanMeetPool}
+use Rattle.pool_machine.specs.Pools.{opening_view, view_met, MayBegin, CanCount, CanMeetPool}
 use Rattle.transfer_machine.specs.Tries.{is_take}
-use Rattle.transfer_machine.specs.declared.call.Call.{Call}
-use Rattle.transfer_machine.specs.declared.call.Call.TheVariants.{Allocate, Free}
-use Rattle.transfer_machine.specs.declared.call.CallStage.TheVariants.{Between, Moving, Own}
-use Rattle.transfer_machine.specs.declared.call.Way.TheVariants.{Alone}
+use Rattle.pool_machine.specs.declared.call.Call.{Call}
+use Rattle.pool_machine.specs.declared.call.Call.TheVariants.{Allocate, Free}
+use Rattle.pool_machine.specs.declared.call.CallStage.TheVariants.{Between, Moving, Own}
+use Rattle.pool_machine.specs.declared.call.Way.TheVariants.{Alone}
 use Rattle.transfer_machine.specs.declared.stage.NextStep.TheVariants.{Rest, LoadReply}
-use Rattle.transfer_machine.specs.declared.view.PoolView.{PoolView}
-use Rattle.transfer_machine.specs.declared.view.ProcessView.{ProcessView}
+use Rattle.pool_machine.specs.declared.view.PoolView.{PoolView}
+use Rattle.pool_machine.specs.declared.view.ProcessView.{ProcessView}
 use Rattle.pool_machine.specs.Beginning.{due, newest, call_begun, alone_begun}
 use Rattle.pool_machine.specs.Conditions.{MayCall, MayMove}
 use Rattle.pool_machine.specs.OwnSteps.{next_block}
@@ -34,7 +34,8 @@ use Rattle.pool_invariant.specs.Kept.{Answers, GivenToPool}
 use Rattle.history_invariant.specs.Ledger.{Ledger, opening_ledger}
 use Rattle.history_invariant.specs.Fits.{CountsEntries}
 use Rattle.history_invariant.specs.Steps.{entered, got_one, got_none, gave_back}
-use Rattle.history_invariant.specs.Grips.{Balances, total}
+use Rattle.history_invariant.specs.Grips.{Balances}
+use Rattle.process_sums.specs.Sums.{total}
 use Rattle.call_invariant.specs.Phases.{changes_pool}
 use Rattle.call_invariant.specs.Ledgers.{ledger_begun, ledger_moved}
 use Rattle.call_invariant.specs.InCalls.{Scheduled, InCalls, CarriesOn}
@@ -140,7 +141,7 @@ TransfersBegin = (sizes : Sizes) (i : ℕ) (v : ProcessView) (ledger : Ledger) (
     → MayMove v
     → v.transfer.next ≡ Rest
     → MayBegin wish v.pool
-    → v.transfer.age < 2 ^ 32
+    → v.transfer.age < most_age
     → InTransfers sizes i (alone_begun wish v) ledger
 
 -- a step of such a transfer
@@ -154,6 +155,7 @@ TransfersStep = (sizes : Sizes) (i : ℕ) (v : ProcessView) (ledger : Ledger) (w
 abbrev pub CallsAreOneWay : Type 0
 CallsAreOneWay = (sizes : Sizes) (i : ℕ) (v : ProcessView) (ledger : Ledger) → v.calls.way ≢ Alone → UsesPool sizes i v ledger → InCalls sizes i v ledger
 
+-- and one that does so uses it in one of the ways
 abbrev pub InCallsIsAUse : Type 0
 InCallsIsAUse = (sizes : Sizes) (i : ℕ) (v : ProcessView) (ledger : Ledger) → InCalls sizes i v ledger → UsesPool sizes i v ledger
 
@@ -161,6 +163,7 @@ InCallsIsAUse = (sizes : Sizes) (i : ℕ) (v : ProcessView) (ledger : Ledger) �
 abbrev pub TransfersAreOneWay : Type 0
 TransfersAreOneWay = (sizes : Sizes) (i : ℕ) (v : ProcessView) (ledger : Ledger) → v.calls.way ≡ Alone → UsesPool sizes i v ledger → InTransfers sizes i v ledger
 
+-- and one that does so uses it in one of the ways
 abbrev pub InTransfersIsAUse : Type 0
 InTransfersIsAUse = (sizes : Sizes) (i : ℕ) (v : ProcessView) (ledger : Ledger) → InTransfers sizes i v ledger → UsesPool sizes i v ledger
 
@@ -191,7 +194,7 @@ IdlePoolsRest = (sizes : Sizes) (v : ProcessView) → PoolKeeps sizes v → v.po
 
 -- so a call can begin, where the age is below its limit and the newest of three spares is a block
 abbrev pub CallsCanBegin : Type 0
-CallsCanBegin = (sizes : Sizes) (v : ProcessView) → PoolKeeps sizes v → v.transfer.age < 2 ^ 32 → (v.pool.plan.spares ≡ 3 → newest v.pool < 2 ^ 22) → CanBegin v
+CallsCanBegin = (sizes : Sizes) (v : ProcessView) → PoolKeeps sizes v → v.transfer.age < most_age → (v.pool.plan.spares ≡ 3 → newest v.pool < most_blocks) → CanBegin v
 
 -- a call can make its next transfer step, where the transfer can
 abbrev pub MovesCanBeMade : Type 0

@@ -5,11 +5,11 @@ use Rattle.word_layout.specs.declared.reply.Reply.{Reply}
 use Rattle.word_layout.specs.declared.reply.Reply.TheVariants.{Nothing, Took, Gave}
 use Rattle.transfer_schedule.specs.Numbers.{is_idle, after_choice}
 use Rattle.transfer_schedule.specs.Account.{Account, Moving, Own}
-use Rattle.transfer_machine.specs.declared.call.Call.{Call}
-use Rattle.transfer_machine.specs.declared.call.Call.TheVariants.{Allocate, Free, Read, Write}
+use Rattle.pool_machine.specs.declared.call.Call.{Call}
+use Rattle.pool_machine.specs.declared.call.Call.TheVariants.{Allocate, Free, Read, Write}
 use Rattle.transfer_machine.specs.declared.stage.NextStep.{NextStep}
-use Rattle.transfer_machine.specs.declared.stage.NextStep.TheVariants.{Rest, Announce, LoadState, LoadRecordWord, LoadCoveredSlot, ExchangeSlot, LoadAnnouncement, LoadPoppedSlot, StoreRecordWord, ExchangeState, LoadFinalState, LoadReply}
-use Rattle.transfer_machine.specs.declared.view.ProcessView.{ProcessView}
+use Rattle.transfer_machine.specs.declared.stage.NextStep.TheVariants.{Rest, Announce, Try, LoadFinalState, LoadReply}
+use Rattle.pool_machine.specs.declared.view.ProcessView.{ProcessView}
 use Rattle.history_invariant.specs.Ledger.{Ledger}
 use Rattle.history_invariant.specs.Steps.{stepped, announced, ended}
 
@@ -45,14 +45,7 @@ ledger_stepped made ledger = record ledger { account = stepped made ledger.accou
 abbrev pub ledger_moved_at : ℕ → ℕ → NextStep → Ledger → Ledger
 ledger_moved_at word made Rest ledger = ledger
 ledger_moved_at word made Announce ledger = announced made ledger
-ledger_moved_at word made LoadState ledger = ledger_stepped made ledger
-ledger_moved_at word made (LoadRecordWord index) ledger = ledger_stepped made ledger
-ledger_moved_at word made (LoadCoveredSlot offset) ledger = ledger_stepped made ledger
-ledger_moved_at word made (ExchangeSlot offset) ledger = ledger_stepped made ledger
-ledger_moved_at word made (LoadAnnouncement process) ledger = ledger_stepped made ledger
-ledger_moved_at word made (LoadPoppedSlot process) ledger = ledger_stepped made ledger
-ledger_moved_at word made (StoreRecordWord index) ledger = ledger_stepped made ledger
-ledger_moved_at word made ExchangeState ledger = ledger_stepped made ledger
+ledger_moved_at word made (Try second step) ledger = ledger_stepped made ledger
 ledger_moved_at word made LoadFinalState ledger = ledger_stepped made ledger
 ledger_moved_at word made LoadReply ledger = ended (found_by (reply_of (value_of word))) ledger
 

@@ -2,12 +2,12 @@
 use Rattle.std.specs.Prelude.{Bool, true, false, Option, None, Some}
 use Rattle.transfer_schedule.specs.Account.{CallPhase}
 use Rattle.transfer_schedule.specs.Account as schedule
-use Rattle.transfer_machine.specs.declared.call.Call.{Call}
-use Rattle.transfer_machine.specs.declared.call.Call.TheVariants.{Allocate, Free, Read, Write}
-use Rattle.transfer_machine.specs.declared.call.CallStage.{CallStage}
-use Rattle.transfer_machine.specs.declared.call.CallStage.TheVariants.{Between, Moving, Own}
-use Rattle.transfer_machine.specs.declared.call.CallView.{CallView}
-use Rattle.transfer_machine.specs.declared.view.ProcessView.{ProcessView}
+use Rattle.pool_machine.specs.declared.call.Call.{Call}
+use Rattle.pool_machine.specs.declared.call.Call.TheVariants.{Allocate, Free, Read, Write}
+use Rattle.pool_machine.specs.declared.call.CallStage.{CallStage}
+use Rattle.pool_machine.specs.declared.call.CallStage.TheVariants.{Between, Moving, Own}
+use Rattle.pool_machine.specs.declared.call.CallView.{CallView}
+use Rattle.pool_machine.specs.declared.view.ProcessView.{ProcessView}
 
 -- an allocate or a free, which changes the pool
 abbrev pub changes_pool : Option Call → Bool

@@ -1,7 +1,8 @@
 -- what the part gives, whatever the blocks of the batches and of the current lists are
-use Rattle.std.proofs.Common.{◌≡◌, ◌≢◌, ℕ, ◌-◌, ◌<◌, ◌≤◌, true, length, arith}
-use Rattle.std.specs.Prelude.{slice_index, Contains}
+use Rattle.std.proofs.Common.{◌≡◌, ◌≢◌, ℕ, ◌+◌, ◌-◌, ◌<◌, ◌≤◌, true, false, refl, length, arith}
+use Rattle.std.specs.Prelude.{if◌then◌else◌, nat_lt, slice_index, Contains}
 use Rattle.std.specs.List.{All}
+use Rattle.std.proofs.lemmas.Bool.Decides.{nat_tests}
 use Rattle.word_layout.specs.Sizes.{Sizes, IsShape, blocks}
 use Rattle.word_layout.specs.declared.name.WordName.TheVariants.{Next}
 use Rattle.word_layout.proofs.Limits.{two_blocks_a_batch}
@@ -15,13 +16,36 @@ use Rattle.transfer_invariant.specs.Laws.{PlanFits}
 use Rattle.batch_invariant.specs.Places.{moving}
 use Rattle.batch_invariant.specs.Batches.{ProcessViews}
 use Rattle.batch_invariant.specs.Premises.{InstallsNext}
-use Rattle.batch_invariant.proofs.Plans.{planned_fits}
 use Rattle.chain_invariant.specs.Chains.{BlockLists, Chains, times_pooled}
 use Rattle.chain_invariant.specs.Laws.{IsFree, WishIsBlock}
 use Rattle.chain_invariant.proofs.Moves.{installs_carry}
 use Rattle.chain_invariant.proofs.Pool.{spare_pooled}
 use Rattle.chain_invariant.proofs.Places.{head_once}
 use Rattle.chain_invariant.proofs.Counts.{content_low, spare_low, transit_low, begun_low, pending_low, current_is_free, current_code, current_next, head_is_free, head_next, held_apart, room}
+
+-- the planned overlay stands above the planned base
+planned_height : (s : StackState) (v : TransferView) → (planned_state s v).height ≡ v.plan.base + v.plan.overlay
+unfolding planned_state
+planned_height s v = refl
+
+overlay_above : (base k low : ℕ) (high : ℕ → ℕ) → (if nat_lt (base + k) base then low else high (base + k - base)) ≡ high k
+overlay_above base k low high =
+    let test : nat_lt (base + k) base ≡ false = grind (arith, nat_tests) in
+    let place : base + k - base ≡ k = omega arith in rw (test, place) refl
+
+planned_overlay : (s : StackState) (v : TransferView) (k : ℕ) → (planned_state s v).content (v.plan.base + k) ≡ slice_index v.plan.heads k
+unfolding planned_state
+planned_overlay s v k = overlay_above v.plan.base k (s.content (v.plan.base + k)) (λ place. slice_index v.plan.heads place)
+
+-- so a plan has room where the state that it makes has
+planned_fits : (sizes : Sizes) (s : StackState) (v : TransferView) → (planned_state s v).height ≤ sizes.batches
+    → ((place : ℕ) → place < (planned_state s v).height → (planned_state s v).content place < blocks sizes) → PlanFits sizes v.plan
+planned_fits sizes s v within low =
+    let height = planned_height s v in
+    record {
+      within = omega (arith, height, within);
+      heads = λ k lt. omega (arith, planned_overlay s v k, low (v.plan.base + k) (omega (arith, height)));
+    }
 
 pub some_long : (sizes : Sizes) → IsShape sizes → 1 ≤ sizes.length
 some_long sizes shape = omega (arith, two_blocks_a_batch sizes shape)
@@ -39,7 +63,8 @@ module _ (sizes : Sizes) (words : Words) (s : StackState) (views : ProcessViews)
     λ some. current_next sizes words s views chains.batch_blocks chains.current_blocks held chains.hold i li some,
   )
 
-  pub spares_are_free : (i place : ℕ) → IsShape sizes → i < sizes.processes → Chains sizes words s views held → place < length (views i).pool.heads
+  pub spares_are_free : (i place : ℕ) → IsShape sizes → i < sizes.processes → Chains sizes words s views held
+      → place < length (views i).pool.heads
       → IsFree sizes held (slice_index (views i).pool.heads place) × (words (Next (slice_index (views i).pool.heads place)) ≤ blocks sizes)
   spares_are_free i place shape li chains lt =
       let head = slice_index (views i).pool.heads place in
@@ -50,7 +75,8 @@ module _ (sizes : Sizes) (words : Words) (s : StackState) (views : ProcessViews)
 
   pub held_are_apart : (i block : ℕ) → i < sizes.processes → Chains sizes words s views held → Contains (held i) block
       → (block < blocks sizes) × ((o : ℕ) → o < sizes.processes → o ≢ i → ¬ Contains (held o) block)
-  held_are_apart i block li chains has = held_apart sizes words s views chains.batch_blocks chains.current_blocks held chains.hold i block li has
+  held_are_apart i block li chains has =
+      held_apart sizes words s views chains.batch_blocks chains.current_blocks held chains.hold i block li has
 
   pub stack_has_room : IsShape sizes → Chains sizes words s views held → s.height ≤ sizes.batches
   stack_has_room shape chains = room sizes words s views chains.batch_blocks chains.current_blocks held chains.hold (some_long sizes shape)
@@ -66,7 +92,8 @@ module _ (sizes : Sizes) (words : Words) (s : StackState) (views : ProcessViews)
   )
 
   pub heads_are_apart : (head : ℕ) → IsShape sizes → Chains sizes words s views held → times_pooled sizes s views head ≤ 1
-  heads_are_apart head shape chains = head_once sizes words s views chains.batch_blocks chains.current_blocks held chains.hold head (some_long sizes shape)
+  heads_are_apart head shape chains =
+      head_once sizes words s views chains.batch_blocks chains.current_blocks held chains.hold head (some_long sizes shape)
 
   pub gives_are_blocks : (i : ℕ) → IsShape sizes → Chains sizes words s views held → i < sizes.processes
       → ((views i).transfer.next ≡ Announce → WishIsBlock sizes (views i).transfer.wish)
@@ -76,7 +103,8 @@ module _ (sizes : Sizes) (words : Words) (s : StackState) (views : ProcessViews)
     pending_low sizes words s views chains.batch_blocks chains.current_blocks held chains.hold i long li,
   )
 
-  pub plans_have_room : (v : TransferView) → IsShape sizes → Chains sizes words s views held → InstallsNext sizes s views v → PlanFits sizes v.plan
+  pub plans_have_room : (v : TransferView) → IsShape sizes → Chains sizes words s views held → InstallsNext sizes s views v
+      → PlanFits sizes v.plan
   plans_have_room v shape chains installs =
       let long = some_long sizes shape in
       let hold = installs_carry sizes words s views chains.batch_blocks chains.current_blocks held v shape chains.hold installs in

@@ -3,6 +3,7 @@ pub mod Pool
 pub mod Lists
 pub mod Places
 pub mod Moves
+pub mod Present
 pub mod Transfers
 pub mod OwnStep
 pub mod Own

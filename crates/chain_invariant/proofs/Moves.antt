@@ -1,7 +1,8 @@
 -- beginnings and steps of transfers, and changes of the state, move batches alone: the blocks stay where they are
-use Rattle.std.proofs.Common.{sym, ◌∙◌, ◌≡◌, ℕ, ◌+◌, ◌*◌, ◌<◌, ◌≤◌, true, false, refl, inl, inr, length, arith}
-use Rattle.std.specs.Prelude.{slice_index}
+use Rattle.std.proofs.Common.{◌≡◌, ℕ, ◌+◌, ◌*◌, ◌<◌, ◌≤◌, Bool, true, false, not, refl, inl, inr, length, arith}
+use Rattle.std.specs.Prelude.{if◌then◌else◌}
 use Rattle.std.proofs.lemmas.Bool.{cases_eq}
+use Rattle.process_sums.proofs.Sums.{total_none}
 use Rattle.word_layout.specs.Sizes.{Sizes, IsShape}
 use Rattle.word_layout.specs.Packing.{value_of, reply_of}
 use Rattle.word_layout.specs.declared.announced.Wish.{Wish}
@@ -9,36 +10,38 @@ use Rattle.word_layout.specs.declared.announced.Wish.TheVariants.{Take, Give}
 use Rattle.word_layout.specs.declared.reply.Reply.{Reply}
 use Rattle.word_layout.specs.declared.reply.Reply.TheVariants.{Nothing, Took, Gave}
 use Rattle.word_layout.proofs.Limits.{two_blocks_a_batch}
-use Rattle.transfer_machine.specs.Pools.{MayBegin, view_begun, view_met, pool_begun, pool_met_at, pool_ended, step_counted}
+use Rattle.transfer_schedule.specs.Numbers as schedule
+use Rattle.transfer_schedule.specs.declared.pending.Pending.TheVariants.{Idle}
 use Rattle.transfer_machine.specs.States.{StackState, next_of}
 use Rattle.transfer_machine.specs.declared.transfer.TransferView.{TransferView}
-use Rattle.transfer_machine.specs.declared.view.PoolView.{PoolView}
-use Rattle.transfer_machine.specs.declared.view.ProcessView.{ProcessView}
 use Rattle.transfer_machine.specs.declared.stage.NextStep.{NextStep}
-use Rattle.transfer_machine.specs.declared.stage.NextStep.TheVariants.{Rest, Announce, LoadState, LoadRecordWord, LoadCoveredSlot, ExchangeSlot, LoadAnnouncement, LoadPoppedSlot, StoreRecordWord, ExchangeState, LoadFinalState, LoadReply}
+use Rattle.transfer_machine.specs.declared.stage.NextStep.TheVariants.{Rest, Announce, Try, LoadFinalState, LoadReply}
+use Rattle.pool_machine.specs.Pools.{MayBegin, view_begun, view_met, pool_begun, pool_met_at, pool_ended, step_counted}
+use Rattle.pool_machine.specs.declared.view.PoolView.{PoolView}
+use Rattle.pool_machine.specs.declared.view.ProcessView.{ProcessView}
 use Rattle.transfer_invariant.specs.Installing.{planned_state}
 use Rattle.transfer_invariant.specs.Memory.{Words}
-use Rattle.batch_invariant.specs.Places.{moving, current_batch, process_batches}
-use Rattle.batch_invariant.specs.Batches.{ProcessViews, MovedProcess, ReplyMatches, weight, is_head}
+use Rattle.batch_invariant.specs.Places.{moving}
+use Rattle.batch_invariant.specs.Batches.{ProcessViews, MovedProcess, ReplyMatches, KeepsBatches, weight}
+use Rattle.batch_invariant.specs.Transit.{HeadsFit, Carried, is_large}
 use Rattle.batch_invariant.specs.Premises.{InStep, PendingIsPresent, InstallsNext}
-use Rattle.batch_invariant.proofs.Sums.{total_nothing}
-use Rattle.batch_invariant.proofs.Moving.{parts_weight}
-use Rattle.batch_invariant.proofs.Transit.{HeadsFit, Carried, is_large, small_where}
-use Rattle.batch_invariant.proofs.Steps.{KeepsBatches, stage_keeps, begun_keeps, ended_current}
+use Rattle.batch_invariant.proofs.Transit.{small_where}
+use Rattle.batch_invariant.proofs.Steps.{stage_keeps, begun_keeps}
 use Rattle.batch_invariant.proofs.Installing.{next_carried, planned_carried}
-use Rattle.chain_invariant.specs.Chains.{BlockLists, ChainsHold, NextsStay, pool_weight, blocks_weight}
+use Rattle.chain_invariant.specs.Chains.{BlockLists, ChainsHold, NextsStay, pool_weight, blocks_weight, is_head}
 use Rattle.chain_invariant.specs.Steps.{SameParts}
 use Rattle.chain_invariant.proofs.Lists.{chain_stays}
 use Rattle.chain_invariant.proofs.Pool.{pool_parts, pool_moved, pool_le, pool_each}
 use Rattle.chain_invariant.proofs.Places.{batch_stays, current_stays, head_low}
 
 -- a view that keeps its current list
-pub record KeepsCurrent (v x : PoolView) : Type 0 where
+record KeepsCurrent (v x : PoolView) : Type 0 where
   pub head : x.head ≡ v.head
   pub current : x.plan.current ≡ v.plan.current
 
 -- where all batches weigh the same and each current list is kept, the blocks stay
-pub chains_stay : (sizes : Sizes) (words : Words) (s t : StackState) (views after : ProcessViews) (batch_blocks current_blocks held_blocks : BlockLists)
+chains_stay : (sizes : Sizes) (words : Words) (s t : StackState) (views after : ProcessViews)
+    (batch_blocks current_blocks held_blocks : BlockLists)
     → ChainsHold sizes words s views batch_blocks current_blocks held_blocks
     → ((f : ℕ → ℕ) → pool_weight sizes t after f ≡ pool_weight sizes s views f)
     → ((i : ℕ) → i < sizes.processes → KeepsCurrent (views i).pool (after i).pool)
@@ -53,8 +56,10 @@ chains_stay sizes words s t views after batch_blocks current_blocks held_blocks 
 }
 
 -- the words may change where no block of a chain is
-pub words_stay : (sizes : Sizes) (words new : Words) (s : StackState) (views : ProcessViews) (batch_blocks current_blocks held_blocks : BlockLists)
-    → ChainsHold sizes words s views batch_blocks current_blocks held_blocks → NextsStay sizes words new → ChainsHold sizes new s views batch_blocks current_blocks held_blocks
+pub words_stay : (sizes : Sizes) (words new : Words) (s : StackState) (views : ProcessViews)
+    (batch_blocks current_blocks held_blocks : BlockLists)
+    → ChainsHold sizes words s views batch_blocks current_blocks held_blocks → NextsStay sizes words new
+    → ChainsHold sizes new s views batch_blocks current_blocks held_blocks
 words_stay sizes words new s views batch_blocks current_blocks held_blocks hold stay = record {
   batches = λ head pooled. chain_stays words new (head + 1) sizes.length (batch_blocks head)
       (batch_stays sizes words s views batch_blocks current_blocks held_blocks hold new head stay pooled) (hold.batches head pooled);
@@ -65,37 +70,45 @@ words_stay sizes words new s views batch_blocks current_blocks held_blocks hold 
 }
 
 -- one process moves, and keeps its batches and its current list
-batches_same : (s : StackState) (i : ℕ) (v x : ProcessView) (f : ℕ → ℕ) → weight f (current_batch x.pool) ≡ weight f (current_batch v.pool) → KeepsBatches s i v x
-    → weight f x.pool.heads + weight f (moving s i x.transfer) ≡ weight f v.pool.heads + weight f (moving s i v.transfer)
-batches_same s i v x f current keeps = omega (arith, keeps.same_weight f, parts_weight f s i x, parts_weight f s i v, current)
-
-current_same : (f : ℕ → ℕ) (v x : PoolView) → KeepsCurrent v x → weight f (current_batch x) ≡ weight f (current_batch v)
-current_same f v x keeps = rw (keeps.current, keeps.head) refl
-
 same_parts_keep : (s : StackState) (i : ℕ) (v x y : ProcessView) → SameParts x y → KeepsBatches s i v y → KeepsBatches s i v x
 same_parts_keep s i v x y same keeps = record {
-  same_weight = λ f. sym (weight_of f) ∙ keeps.same_weight f;
+  same_weight = λ f. rw (same.pool, same.transfer) (keeps.same_weight f);
   matches = λ h. rw same.transfer (keeps.matches h);
 }
-  where
-    weight_of : (f : ℕ → ℕ) → weight f (process_batches s i y) ≡ weight f (process_batches s i x)
-    weight_of f = rw (parts_weight f s i x, parts_weight f s i y, same.transfer, same.pool) refl
 
-pub process_moves : (sizes : Sizes) (words : Words) (s : StackState) (views after : ProcessViews) (batch_blocks current_blocks held_blocks : BlockLists) (i : ℕ) (x y : ProcessView) → i < sizes.processes
-    → ChainsHold sizes words s views batch_blocks current_blocks held_blocks → SameParts x y → MovedProcess i x views after → KeepsBatches s i (views i) y → KeepsCurrent (views i).pool y.pool
+process_moves : (sizes : Sizes) (words : Words) (s : StackState) (views after : ProcessViews)
+    (batch_blocks current_blocks held_blocks : BlockLists) (i : ℕ) (x y : ProcessView)
+    → i < sizes.processes → ChainsHold sizes words s views batch_blocks current_blocks held_blocks
+    → SameParts x y → MovedProcess i x views after → KeepsBatches s i (views i) y → KeepsCurrent (views i).pool y.pool
     → ChainsHold sizes words s after batch_blocks current_blocks held_blocks
 process_moves sizes words s views after batch_blocks current_blocks held_blocks i x y li hold same moved keeps_y current_y =
     let keeps = same_parts_keep s i (views i) x y same keeps_y in
     let current : KeepsCurrent (views i).pool x.pool = rw same.pool current_y in
     chains_stay sizes words s s views after batch_blocks current_blocks held_blocks hold
-    (λ f. omega (arith, pool_moved sizes s views after i x f li moved, batches_same s i (views i) x f (current_same f (views i).pool x.pool current) keeps))
-    (λ o lo. elim (cases_eq o i) [ inl e ↦ rw e (rw moved.here current) | inr ne ↦ rw (moved.elsewhere o ne) (record { head = refl; current = refl }) ])
-    (λ o lo. elim (cases_eq o i) [ inl e ↦ rw e (rw moved.here (keeps.matches (hold.replies i li))) | inr ne ↦ rw (moved.elsewhere o ne) (hold.replies o lo) ])
+    (λ f. omega (arith, pool_moved sizes s views after i x f li moved, keeps.same_weight f))
+    (λ o lo. elim (cases_eq o i) [
+      | inl e ↦ rw e (rw moved.here current)
+      | inr ne ↦ rw (moved.elsewhere o ne) (record { head = refl; current = refl })
+    ])
+    (λ o lo. elim (cases_eq o i) [
+      | inl e ↦ rw e (rw moved.here (keeps.matches (hold.replies i li)))
+      | inr ne ↦ rw (moved.elsewhere o ne) (hold.replies o lo)
+    ])
 
 -- beginnings and steps of transfers keep the current list
 begun_keeps_current : (wish : Wish) (pool : PoolView) → KeepsCurrent pool (pool_begun wish pool)
 begun_keeps_current Take pool = record { head = refl; current = refl }
 begun_keeps_current (Give head) pool = record { head = refl; current = refl }
+
+either_current : (t : Bool) (x y : schedule.Numbers) (current : ℕ) → x.current ≡ current → y.current ≡ current
+    → (if t then x else y).current ≡ current
+either_current true x y current ex ey = ex
+either_current false x y current ex ey = ey
+
+ended_current : (found : Bool) (x : schedule.Numbers) → (schedule.after_end found x).current ≡ x.current
+ended_current found x = either_current (schedule.is_taking x.pending)
+    (record x { pending = Idle; done = 0; spares = if found then schedule.one_more x.spares else x.spares; dry = not found })
+    (record x { pending = Idle; done = 0 }) x.current refl refl
 
 ended_keeps_current : (reply : Reply) (pool : PoolView) → KeepsCurrent pool (pool_ended reply pool)
 ended_keeps_current Nothing pool = record { head = refl; current = ended_current false pool.plan }
@@ -105,36 +118,39 @@ ended_keeps_current Gave pool = record { head = refl; current = ended_current tr
 counted_ended : (pool x : PoolView) → KeepsCurrent (step_counted pool) x → KeepsCurrent pool x
 counted_ended pool x keeps = record { head = keeps.head; current = keeps.current }
 
-pub met_keeps_current : (word : ℕ) (pool : PoolView) (stage : NextStep) → KeepsCurrent pool (pool_met_at word pool stage)
+met_keeps_current : (word : ℕ) (pool : PoolView) (stage : NextStep) → KeepsCurrent pool (pool_met_at word pool stage)
 met_keeps_current word pool Rest = record { head = refl; current = refl }
 met_keeps_current word pool Announce = record { head = refl; current = refl }
-met_keeps_current word pool LoadState = record { head = refl; current = refl }
-met_keeps_current word pool (LoadRecordWord index) = record { head = refl; current = refl }
-met_keeps_current word pool (LoadCoveredSlot offset) = record { head = refl; current = refl }
-met_keeps_current word pool (ExchangeSlot offset) = record { head = refl; current = refl }
-met_keeps_current word pool (LoadAnnouncement process) = record { head = refl; current = refl }
-met_keeps_current word pool (LoadPoppedSlot process) = record { head = refl; current = refl }
-met_keeps_current word pool (StoreRecordWord index) = record { head = refl; current = refl }
-met_keeps_current word pool ExchangeState = record { head = refl; current = refl }
+met_keeps_current word pool (Try second step) = record { head = refl; current = refl }
 met_keeps_current word pool LoadFinalState = record { head = refl; current = refl }
-met_keeps_current word pool LoadReply = counted_ended pool (pool_ended (reply_of (value_of word)) (step_counted pool)) (ended_keeps_current (reply_of (value_of word)) (step_counted pool))
+met_keeps_current word pool LoadReply =
+    counted_ended pool (pool_ended (reply_of (value_of word)) (step_counted pool))
+    (ended_keeps_current (reply_of (value_of word)) (step_counted pool))
 
-pub beginning_keeps : (sizes : Sizes) (words : Words) (s : StackState) (views after : ProcessViews) (batch_blocks current_blocks held_blocks : BlockLists) (i : ℕ) (wish : Wish) (x : ProcessView) → i < sizes.processes
-    → ChainsHold sizes words s views batch_blocks current_blocks held_blocks → (views i).transfer.next ≡ Rest → MayBegin wish (views i).pool → SameParts x (view_begun wish (views i)) → MovedProcess i x views after
+pub beginning_keeps : (sizes : Sizes) (words : Words) (s : StackState) (views after : ProcessViews)
+    (batch_blocks current_blocks held_blocks : BlockLists) (i : ℕ) (wish : Wish) (x : ProcessView) → i < sizes.processes
+    → ChainsHold sizes words s views batch_blocks current_blocks held_blocks → (views i).transfer.next ≡ Rest → MayBegin wish (views i).pool
+    → SameParts x (view_begun wish (views i)) → MovedProcess i x views after
     → ChainsHold sizes words s after batch_blocks current_blocks held_blocks
 beginning_keeps sizes words s views after batch_blocks current_blocks held_blocks i wish x li hold rest may same moved =
-    process_moves sizes words s views after batch_blocks current_blocks held_blocks i x (view_begun wish (views i)) li hold same moved (begun_keeps s i wish (views i) rest may) (begun_keeps_current wish (views i).pool)
+    process_moves sizes words s views after batch_blocks current_blocks held_blocks i x (view_begun wish (views i)) li hold same moved
+    (begun_keeps s i wish (views i) rest may) (begun_keeps_current wish (views i).pool)
 
-pub step_keeps : (sizes : Sizes) (words : Words) (s : StackState) (views after : ProcessViews) (batch_blocks current_blocks held_blocks : BlockLists) (i word : ℕ) (x : ProcessView) → i < sizes.processes
-    → ChainsHold sizes words s views batch_blocks current_blocks held_blocks → InStep s i (views i).transfer word → SameParts x (view_met sizes (views i) word) → MovedProcess i x views after
+pub step_keeps : (sizes : Sizes) (words : Words) (s : StackState) (views after : ProcessViews)
+    (batch_blocks current_blocks held_blocks : BlockLists) (i word : ℕ) (x : ProcessView) → i < sizes.processes
+    → ChainsHold sizes words s views batch_blocks current_blocks held_blocks → InStep s i (views i).transfer word
+    → SameParts x (view_met sizes (views i) word) → MovedProcess i x views after
     → ChainsHold sizes words s after batch_blocks current_blocks held_blocks
 step_keeps sizes words s views after batch_blocks current_blocks held_blocks i word x li hold step same moved =
     process_moves sizes words s views after batch_blocks current_blocks held_blocks i x (view_met sizes (views i) word) li hold same moved
-    (stage_keeps sizes s i (views i) word (views i).transfer.next refl step (hold.replies i li)) (met_keeps_current word (views i).pool (views i).transfer.next)
+    (stage_keeps sizes s i (views i) word (views i).transfer.next refl step (hold.replies i li))
+    (met_keeps_current word (views i).pool (views i).transfer.next)
 
 -- a change of the state moves batches between what is in transit and the content
-pub carried_chains : (sizes : Sizes) (words : Words) (s t : StackState) (views : ProcessViews) (batch_blocks current_blocks held_blocks : BlockLists)
-    → ChainsHold sizes words s views batch_blocks current_blocks held_blocks → Carried sizes s t views → ChainsHold sizes words t views batch_blocks current_blocks held_blocks
+pub carried_chains : (sizes : Sizes) (words : Words) (s t : StackState) (views : ProcessViews)
+    (batch_blocks current_blocks held_blocks : BlockLists)
+    → ChainsHold sizes words s views batch_blocks current_blocks held_blocks → Carried sizes s t views
+    → ChainsHold sizes words t views batch_blocks current_blocks held_blocks
 carried_chains sizes words s t views batch_blocks current_blocks held_blocks hold carried =
     chains_stay sizes words s t views views batch_blocks current_blocks held_blocks hold
     (λ f. omega (arith, carried.same_weight f, pool_parts sizes s views f, pool_parts sizes t views f))
@@ -142,29 +158,41 @@ carried_chains sizes words s t views batch_blocks current_blocks held_blocks hol
     (λ i li. carried.matches i li (hold.replies i li))
 
 -- all heads are blocks, so they fit
-pub chains_fit : (sizes : Sizes) (words : Words) (s : StackState) (views : ProcessViews) (batch_blocks current_blocks held_blocks : BlockLists) → IsShape sizes
+pub chains_fit : (sizes : Sizes) (words : Words) (s : StackState) (views : ProcessViews)
+    (batch_blocks current_blocks held_blocks : BlockLists) → IsShape sizes
     → ChainsHold sizes words s views batch_blocks current_blocks held_blocks → HeadsFit sizes s views
 chains_fit sizes words s views batch_blocks current_blocks held_blocks shape hold =
     let small = pool_le sizes s views is_large (λ head. 0) (λ head pooled. omega (
       arith,
-      small_where head (omega (arith, head_low sizes words s views batch_blocks current_blocks held_blocks hold head (omega (arith, two_blocks_a_batch sizes shape)) pooled, shape.few_blocks)),
+      small_where head (omega (
+        arith,
+        head_low sizes words s views batch_blocks current_blocks held_blocks hold head
+            (omega (arith, two_blocks_a_batch sizes shape)) pooled,
+        shape.few_blocks,
+      )),
     )) in
     let none = pool_each sizes s views 0 in
-    let nothing = total_nothing sizes.processes (λ i. 0 * (length (views i).pool.heads + length (moving s i (views i).transfer))) (λ i li. no_times (length (views i).pool.heads + length (moving s i (views i).transfer))) in
+    let nothing = total_none sizes.processes (λ i. 0 * (length (views i).pool.heads + length (moving s i (views i).transfer)))
+    (λ i li. no_times (length (views i).pool.heads + length (moving s i (views i).transfer))) in
     record { none_large = omega (arith, small, none, nothing, no_times s.height, pool_parts sizes s views is_large) }
   where
     no_times : (n : ℕ) → 0 * n ≡ 0
     no_times n = omega arith
 
-pub next_chains : (sizes : Sizes) (words : Words) (s : StackState) (views : ProcessViews) (batch_blocks current_blocks held_blocks : BlockLists) (announcements : ℕ → ℕ) (heard : ℕ) → IsShape sizes
-    → heard ≤ sizes.processes → ChainsHold sizes words s views batch_blocks current_blocks held_blocks → ((o : ℕ) → o < sizes.processes → PendingIsPresent s (announcements o) o (views o).transfer)
+pub next_chains : (sizes : Sizes) (words : Words) (s : StackState) (views : ProcessViews)
+    (batch_blocks current_blocks held_blocks : BlockLists) (announcements : ℕ → ℕ) (heard : ℕ) → IsShape sizes
+    → heard ≤ sizes.processes → ChainsHold sizes words s views batch_blocks current_blocks held_blocks
+    → ((o : ℕ) → o < sizes.processes → PendingIsPresent s (announcements o) o (views o).transfer)
     → ChainsHold sizes words (next_of heard announcements s) views batch_blocks current_blocks held_blocks
 next_chains sizes words s views batch_blocks current_blocks held_blocks announcements heard shape le hold present =
     carried_chains sizes words s (next_of heard announcements s) views batch_blocks current_blocks held_blocks hold
-    (next_carried sizes s views announcements heard le (chains_fit sizes words s views batch_blocks current_blocks held_blocks shape hold) present)
+    (next_carried sizes s views announcements heard le
+    (chains_fit sizes words s views batch_blocks current_blocks held_blocks shape hold) present)
 
-pub installs_carry : (sizes : Sizes) (words : Words) (s : StackState) (views : ProcessViews) (batch_blocks current_blocks held_blocks : BlockLists) (v : TransferView) → IsShape sizes
-    → ChainsHold sizes words s views batch_blocks current_blocks held_blocks → InstallsNext sizes s views v → ChainsHold sizes words (planned_state s v) views batch_blocks current_blocks held_blocks
+pub installs_carry : (sizes : Sizes) (words : Words) (s : StackState) (views : ProcessViews)
+    (batch_blocks current_blocks held_blocks : BlockLists) (v : TransferView) → IsShape sizes
+    → ChainsHold sizes words s views batch_blocks current_blocks held_blocks → InstallsNext sizes s views v
+    → ChainsHold sizes words (planned_state s v) views batch_blocks current_blocks held_blocks
 installs_carry sizes words s views batch_blocks current_blocks held_blocks v shape hold installs =
     carried_chains sizes words s (planned_state s v) views batch_blocks current_blocks held_blocks hold
-    (planned_carried sizes s (planned_state s v) views (λ o. slice_index v.loaded.announcements o) (chains_fit sizes words s views batch_blocks current_blocks held_blocks shape hold) installs.present installs.planned)
+    (planned_carried sizes s views v (chains_fit sizes words s views batch_blocks current_blocks held_blocks shape hold) installs)

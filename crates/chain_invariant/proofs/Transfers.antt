@@ -3,26 +3,29 @@ use Rattle.std.proofs.Common.{◌≡◌, ℕ, ◌<◌, Bool, true, false, refl, 
 use Rattle.word_layout.specs.Sizes.{Sizes, IsShape}
 use Rattle.word_layout.specs.declared.name.WordName.{WordName}
 use Rattle.word_layout.specs.declared.name.WordName.TheVariants.{State, Announcement, RecordWord, Slot, Next, Data}
-use Rattle.transfer_machine.specs.Machine.{action_at, action_of}
-use Rattle.transfer_machine.specs.Pools.{view_met}
+use Rattle.transfer_machine.specs.Machine.{try_action, action_at, action_of}
 use Rattle.transfer_machine.specs.Words.{name_of}
 use Rattle.transfer_machine.specs.declared.action.Action.{Action}
 use Rattle.transfer_machine.specs.declared.transfer.TransferView.{TransferView}
-use Rattle.transfer_machine.specs.declared.view.ProcessView.{ProcessView}
 use Rattle.transfer_machine.specs.declared.stage.NextStep.{NextStep}
-use Rattle.transfer_machine.specs.declared.stage.NextStep.TheVariants.{Rest, Announce, LoadState, LoadRecordWord, LoadCoveredSlot, ExchangeSlot, LoadAnnouncement, LoadPoppedSlot, StoreRecordWord, ExchangeState, LoadFinalState, LoadReply}
+use Rattle.transfer_machine.specs.declared.stage.NextStep.TheVariants.{Rest, Announce, Try, LoadFinalState, LoadReply}
+use Rattle.transfer_machine.specs.declared.stage.TryStep.{TryStep}
+use Rattle.transfer_machine.specs.declared.stage.TryStep.TheVariants.{LoadState, LoadRecordWord, LoadCoveredSlot, ExchangeSlot, LoadAnnouncement, LoadPoppedSlot, StoreRecordWord, ExchangeState}
+use Rattle.pool_machine.specs.Pools.{view_met}
+use Rattle.pool_machine.specs.declared.view.ProcessView.{ProcessView}
 use Rattle.transfer_invariant.specs.Installing.{planned_state, states_after}
 use Rattle.transfer_invariant.specs.Memory.{Words, States, Acted, state_tag}
 use Rattle.batch_invariant.specs.Batches.{ProcessViews, MovedProcess}
-use Rattle.batch_invariant.specs.Premises.{InStep, InstallsNext}
-use Rattle.batch_invariant.proofs.Steps.{exchange_keeps_at}
-use Rattle.batch_invariant.proofs.Machine.{step_carries}
+use Rattle.batch_invariant.specs.Premises.{InStep}
+use Rattle.batch_invariant.proofs.Steps.{exchange_in_step}
 use Rattle.chain_invariant.specs.Chains.{BlockLists, ChainsHold, NextsStay}
+use Rattle.chain_invariant.specs.Laws.{ExchangeInstalls}
 use Rattle.chain_invariant.specs.Steps.{SameParts}
-use Rattle.chain_invariant.proofs.Moves.{words_stay, process_moves, met_keeps_current, step_keeps, installs_carry}
+use Rattle.chain_invariant.proofs.Moves.{words_stay, step_keeps, installs_carry}
+use Rattle.chain_invariant.proofs.Present.{holds_after}
 
 -- the word is the next word of a block
-abbrev pub is_next : WordName → Bool
+abbrev is_next : WordName → Bool
 is_next State = false
 is_next (Announcement process) = false
 is_next (RecordWord row index) = false
@@ -31,7 +34,8 @@ is_next (Next block) = true
 is_next (Data block index) = false
 
 -- an action on another word leaves the next words
-pub acts_elsewhere : (sizes : Sizes) (action : Action) (m n : Words) → is_next (name_of action) ≡ false → Acted sizes action m n → NextsStay sizes m n
+pub acts_elsewhere : (sizes : Sizes) (action : Action) (m n : Words) → is_next (name_of action) ≡ false → Acted sizes action m n
+    → NextsStay sizes m n
 acts_elsewhere sizes action m n other a = λ b lt. a.elsewhere (Next b) lt (λ e. differ (name_of action) b other e)
   where
     apart : true ≡ false → ⊥
@@ -41,27 +45,31 @@ acts_elsewhere sizes action m n other a = λ b lt. a.elsewhere (Next b) lt (λ e
     differ name b other e = apart (ap is_next e ∙ other)
 
 -- so does a step of a transfer
+try_elsewhere : (sizes : Sizes) (v : TransferView) (step : TryStep) → is_next (name_of (try_action sizes v step)) ≡ false
+try_elsewhere sizes v LoadState = refl
+try_elsewhere sizes v (LoadRecordWord index) = refl
+try_elsewhere sizes v (LoadCoveredSlot offset) = refl
+try_elsewhere sizes v (ExchangeSlot offset) = refl
+try_elsewhere sizes v (LoadAnnouncement process) = refl
+try_elsewhere sizes v (LoadPoppedSlot process) = refl
+try_elsewhere sizes v (StoreRecordWord index) = refl
+try_elsewhere sizes v ExchangeState = refl
+
 stage_elsewhere : (sizes : Sizes) (v : TransferView) (stage : NextStep) → is_next (name_of (action_at sizes v stage)) ≡ false
 stage_elsewhere sizes v Rest = refl
 stage_elsewhere sizes v Announce = refl
-stage_elsewhere sizes v LoadState = refl
-stage_elsewhere sizes v (LoadRecordWord index) = refl
-stage_elsewhere sizes v (LoadCoveredSlot offset) = refl
-stage_elsewhere sizes v (ExchangeSlot offset) = refl
-stage_elsewhere sizes v (LoadAnnouncement process) = refl
-stage_elsewhere sizes v (LoadPoppedSlot process) = refl
-stage_elsewhere sizes v (StoreRecordWord index) = refl
-stage_elsewhere sizes v ExchangeState = refl
+stage_elsewhere sizes v (Try second step) = try_elsewhere sizes v step
 stage_elsewhere sizes v LoadFinalState = refl
 stage_elsewhere sizes v LoadReply = refl
 
-pub transfer_keeps_nexts : (sizes : Sizes) (v : TransferView) (m n : Words) → Acted sizes (action_of sizes v) m n → NextsStay sizes m n
+transfer_keeps_nexts : (sizes : Sizes) (v : TransferView) (m n : Words) → Acted sizes (action_of sizes v) m n → NextsStay sizes m n
 transfer_keeps_nexts sizes v m n a = acts_elsewhere sizes (action_of sizes v) m n (stage_elsewhere sizes v v.next) a
 
-pub transfer_keeps : (sizes : Sizes) (m n : Words) (views after : ProcessViews) (states : States) (batch_blocks current_blocks held_blocks : BlockLists) (i : ℕ) (x : ProcessView) → IsShape sizes → i < sizes.processes
+pub transfer_keeps : (sizes : Sizes) (m n : Words) (views after : ProcessViews) (states : States)
+    (batch_blocks current_blocks held_blocks : BlockLists) (i : ℕ) (x : ProcessView) → IsShape sizes → i < sizes.processes
     → ChainsHold sizes m (states (state_tag m)) views batch_blocks current_blocks held_blocks
     → InStep (states (state_tag m)) i (views i).transfer (m (name_of (action_of sizes (views i).transfer)))
-    → ((views i).transfer.next ≡ ExchangeState → m State ≡ (views i).transfer.loaded.state → InstallsNext sizes (states (state_tag m)) views (views i).transfer)
+    → ExchangeInstalls sizes m (states (state_tag m)) views (views i).transfer
     → Acted sizes (action_of sizes (views i).transfer) m n
     → SameParts x (view_met sizes (views i) (m (name_of (action_of sizes (views i).transfer)))) → MovedProcess i x views after
     → ChainsHold sizes n (states_after m (views i).transfer states (state_tag n)) after batch_blocks current_blocks held_blocks
@@ -69,14 +77,14 @@ transfer_keeps sizes m n views after states batch_blocks current_blocks held_blo
     let v = (views i).transfer in
     let now = states (state_tag m) in
     let word = m (name_of (action_of sizes v)) in
-    let stay : ChainsHold sizes m now after batch_blocks current_blocks held_blocks = step_keeps sizes m now views after batch_blocks current_blocks held_blocks i word x li hold step parts moved in
+    let stay = step_keeps sizes m now views after batch_blocks current_blocks held_blocks i word x li hold step parts moved in
     words_stay sizes m n (states_after m v states (state_tag n)) after batch_blocks current_blocks held_blocks
-    (step_carries (λ t. ChainsHold sizes m t after batch_blocks current_blocks held_blocks) sizes m n v states v.next stay (λ is same.
-    let next = installs is same in
+    (holds_after (λ t. ChainsHold sizes m t after batch_blocks current_blocks held_blocks) sizes m n v states v.next stay (λ second is same.
+    let next = installs second is same in
     let planned = planned_state now v in (
       next.row,
-      process_moves sizes m planned views after batch_blocks current_blocks held_blocks i x (view_met sizes (views i) word) li
-          (installs_carry sizes m now views batch_blocks current_blocks held_blocks v shape hold next) parts moved
-          (exchange_keeps_at sizes planned i (views i) word v.next refl is) (met_keeps_current word (views i).pool v.next),
+      step_keeps sizes m planned views after batch_blocks current_blocks held_blocks i word x li
+          (installs_carry sizes m now views batch_blocks current_blocks held_blocks v shape hold next)
+          (exchange_in_step planned i v word second is) parts moved,
     )) a)
     (transfer_keeps_nexts sizes v m n a)

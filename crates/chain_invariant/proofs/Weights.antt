@@ -1,17 +1,23 @@
--- weights of lists and of all batches
-use Rattle.std.proofs.Common.{◌≡◌, ℕ, zero, suc, ◌+◌, ◌*◌, ◌<◌, ◌≤◌, ◌==◌, Bool, true, false, not, refl, ap, inl, inr, List, [], ◌∷◌, length, arith}
+-- weights of lists and of numbers below a bound
+use Rattle.std.proofs.Common.{◌∙◌, ◌≡◌, ◌≢◌, ℕ, suc, ◌+◌, ◌*◌, ◌<◌, ◌≤◌, ◌==◌, Bool, true, false, not, refl, ap, inl, inr, List, [], ◌∷◌, length, arith}
 use Rattle.std.specs.Prelude.{Contains, if◌then◌else◌}
-use Rattle.std.proofs.lemmas.Bool.{cases_eq, cases_lt}
+use Rattle.std.proofs.lemmas.Bool.{cases_eq}
 use Rattle.std.proofs.lemmas.Bool.Decides.{nat_tests}
 use Rattle.std.proofs.lemmas.List.Sums.{sum_by-cons, get_or-le-sum_by}
-use Rattle.transfer_invariant.specs.Tags.{total}
-use Rattle.batch_invariant.specs.Batches.{weight, is_head}
-use Rattle.batch_invariant.proofs.Apart.{counts_no_other}
-use Rattle.chain_invariant.specs.Chains.{without}
+use Rattle.process_sums.specs.Sums.{total}
+use Rattle.process_sums.proofs.Sums.{total_none, total_of_one}
+use Rattle.batch_invariant.specs.Batches.{weight}
+use Rattle.chain_invariant.specs.Chains.{without, is_head}
 
--- a block counts for itself alone
+-- a head or block counts for itself alone
 pub counts_itself : (this : ℕ) → is_head this this ≡ 1
 counts_itself this = grind (arith, nat_tests)
+
+pub counts_equal : (this head : ℕ) → 1 ≤ is_head this head → head ≡ this
+counts_equal this head h = grind (arith, nat_tests)
+
+pub counts_no_other : (this head : ℕ) → head ≢ this → is_head this head ≡ 0
+counts_no_other this head h = grind (arith, nat_tests)
 
 -- a list that has a block weighs as much as it at least
 pub has_weighs : (xs : List ℕ) (b : ℕ) → Contains xs b → 1 ≤ weight (is_head b) xs
@@ -27,7 +33,13 @@ pub weight_part : (f : ℕ → ℕ) (b : ℕ) (xs : List ℕ) → 1 ≤ weight (
 weight_part f b [] some = absurd (omega arith)
 weight_part f b (x ∷ xs) some = elim (cases_eq x b) [
   | inl e ↦ rw (← e) (omega (arith, sum_by-cons f x xs))
-  | inr ne ↦ omega (arith, sum_by-cons f x xs, sum_by-cons (is_head b) x xs, counts_no_other b x ne, weight_part f b xs (omega (arith, sum_by-cons (is_head b) x xs, counts_no_other b x ne)))
+  | inr ne ↦ omega (
+    arith,
+    sum_by-cons f x xs,
+    sum_by-cons (is_head b) x xs,
+    counts_no_other b x ne,
+    weight_part f b xs (omega (arith, sum_by-cons (is_head b) x xs, counts_no_other b x ne)),
+  )
 ]
 
 -- a number that is at most another one at each element
@@ -38,12 +50,7 @@ weight_le f g (x ∷ xs) le =
     let rest = weight_le f g xs (λ b some. le b (omega (arith, sum_by-cons (is_head b) x xs))) in
     omega (arith, here, rest, sum_by-cons f x xs, sum_by-cons g x xs)
 
-pub total_le : (count : ℕ) (f g : ℕ → ℕ) → ((o : ℕ) → o < count → f o ≤ g o) → total count f ≤ total count g
-unfolding total
-total_le zero f g le = omega arith
-total_le (suc count) f g le = omega (arith, le count (omega arith), total_le count f g (λ o lt. le o (omega arith)))
-
--- as many for each element
+-- so many of one number
 pub weight_each : (n : ℕ) (xs : List ℕ) → weight (λ b. n) xs ≡ n * length xs
 weight_each n [] = omega arith
 weight_each n (x ∷ xs) = omega (arith, sum_by-cons (λ b. n) x xs, weight_each n xs, times_more n (length xs))
@@ -51,13 +58,9 @@ weight_each n (x ∷ xs) = omega (arith, sum_by-cons (λ b. n) x xs, weight_each
     times_more : (n k : ℕ) → n * suc k ≡ n * k + n
     times_more n k = omega arith
 
-pub total_each : (n count : ℕ) → total count (λ k. n) ≡ n * count
-unfolding total
-total_each n zero = omega arith
-total_each n (suc count) = omega (arith, total_each n count)
-
 -- a list without a block weighs as much less
-pick_weighs : (f : ℕ → ℕ) (b x : ℕ) (rest less : List ℕ) (t : Bool) → (x == b) ≡ t → weight f less + weight (is_head b) rest * f b ≡ weight f rest
+pick_weighs : (f : ℕ → ℕ) (b x : ℕ) (rest less : List ℕ) (t : Bool) → (x == b) ≡ t
+    → weight f less + weight (is_head b) rest * f b ≡ weight f rest
     → weight f (if not t then x ∷ less else less) + (is_head b x + weight (is_head b) rest) * f b ≡ f x + weight f rest
 pick_weighs f b x rest less true e h =
     let same : x ≡ b = grind (arith, nat_tests) in
@@ -75,27 +78,12 @@ pick_weighs f b x rest less false e h =
 
 pub weight_without : (f : ℕ → ℕ) (b : ℕ) (xs : List ℕ) → weight f (without b xs) + weight (is_head b) xs * f b ≡ weight f xs
 weight_without f b [] = omega arith
-weight_without f b (x ∷ xs) = rw (sum_by-cons (is_head b) x xs, sum_by-cons f x xs) (pick_weighs f b x xs (without b xs) (x == b) refl (weight_without f b xs))
+weight_without f b (x ∷ xs) =
+    rw (sum_by-cons (is_head b) x xs, sum_by-cons f x xs) (pick_weighs f b x xs (without b xs) (x == b) refl (weight_without f b xs))
 
--- the weight of the numbers below a bound
+-- among the numbers below a bound a block counts once where it is one of them
 pub total_past : (count b : ℕ) → count ≤ b → total count (is_head b) ≡ 0
-unfolding total
-total_past zero b le = refl
-total_past (suc count) b le = omega (arith, total_past count b (omega arith), counts_no_other b count (λ e. omega arith))
+total_past count b le = total_none count (is_head b) (λ o lt. counts_no_other b o (λ e. omega arith))
 
 pub total_one : (count b : ℕ) → b < count → total count (is_head b) ≡ 1
-unfolding total
-total_one zero b lt = absurd (omega arith)
-total_one (suc count) b lt = elim (cases_eq count b) [
-  | inl e ↦ rw e (omega (arith, total_past b b (omega arith), counts_itself b))
-  | inr ne ↦ omega (arith, total_one count b (omega arith), counts_no_other b count ne)
-]
-
--- where some term of a sum is there, so is a part of another
-pub total_part : (count part : ℕ) (f g : ℕ → ℕ) → ((o : ℕ) → o < count → 1 ≤ f o → part ≤ g o) → 1 ≤ total count f → part ≤ total count g
-unfolding total
-total_part zero part f g parts some = absurd (omega arith)
-total_part (suc count) part f g parts some = elim (cases_lt 0 (f count)) [
-  | inl lt ↦ omega (arith, parts count (omega arith) lt)
-  | inr le ↦ omega (arith, total_part count part f g (λ o lt. parts o (omega arith)) (omega arith))
-]
+total_one count b lt = total_of_one count b (is_head b) lt (λ o lo ne. counts_no_other b o ne) ∙ counts_itself b

@@ -4,14 +4,14 @@ use Rattle.word_layout.specs.Names.{InRange}
 use Rattle.word_layout.specs.Sizes.{Sizes, IsShape}
 use Rattle.transfer_machine.specs.States.{StackState}
 use Rattle.transfer_machine.specs.Words.{name_of}
-use Rattle.transfer_machine.specs.declared.call.Call.{Call}
-use Rattle.transfer_machine.specs.declared.call.Call.TheVariants.{Allocate, Free, Read, Write}
-use Rattle.transfer_machine.specs.declared.view.PoolView.{PoolView}
-use Rattle.transfer_machine.specs.declared.view.ProcessView.{ProcessView}
-use Rattle.transfer_invariant.specs.Memory.{Words, Acted}
+use Rattle.pool_machine.specs.declared.call.Call.{Call}
+use Rattle.pool_machine.specs.declared.call.Call.TheVariants.{Allocate, Free, Read, Write}
+use Rattle.pool_machine.specs.declared.view.PoolView.{PoolView}
+use Rattle.pool_machine.specs.declared.view.ProcessView.{ProcessView}
 use Rattle.pool_machine.specs.Beginning.{call_begun}
 use Rattle.pool_machine.specs.OwnSteps.{next_block, own_action, own_met}
 use Rattle.pool_machine.specs.Ready.{CanBegin, CanOwn, CanMeetOwn}
+use Rattle.transfer_invariant.specs.Memory.{Words, Acted}
 use Rattle.batch_invariant.specs.Batches.{ProcessViews, MovedProcess}
 use Rattle.chain_invariant.specs.Chains.{BlockLists, Chains, MovedList, without}
 use Rattle.chain_invariant.specs.Steps.{SameParts}
@@ -38,7 +38,7 @@ NamesHeld sizes held (Some (Free block)) = Contains held block
 NamesHeld sizes held (Some (Read block index)) = Contains held block × (index < sizes.words)
 NamesHeld sizes held (Some (Write block index value)) = Contains held block × (index < sizes.words)
 
--- what other parts say of a process at the own step of its call: its plan has the sizes, each spare has its head, and what the call names is held
+-- what other parts say of a process at the own step of its call: its plan fits the sizes, each spare has its head, what is named is held
 pub record OwnStepFits (sizes : Sizes) (held : List ℕ) (v : ProcessView) : Type 0 where
   pub size : v.pool.plan.length ≡ sizes.length
   pub within : v.pool.plan.current ≤ sizes.length
@@ -47,7 +47,10 @@ pub record OwnStepFits (sizes : Sizes) (held : List ℕ) (v : ProcessView) : Typ
 
 -- a call that begins keeps it, with the transfer that is due
 abbrev pub CallsBeginWithChains : Type 0
-CallsBeginWithChains = (sizes : Sizes) (words : Words) (s : StackState) (views after : ProcessViews) (held : BlockLists) (i : ℕ) (call : Call) (x : ProcessView) → i < sizes.processes
+CallsBeginWithChains =
+    (sizes : Sizes) (words : Words) (s : StackState) (views after : ProcessViews) (held : BlockLists) (i : ℕ) (call : Call)
+    (x : ProcessView)
+    → i < sizes.processes
     → Chains sizes words s views held
     → CanBegin (views i)
     → SameParts x (call_begun call (views i))
@@ -56,7 +59,10 @@ CallsBeginWithChains = (sizes : Sizes) (words : Words) (s : StackState) (views a
 
 -- so does the own step of a call: its process then holds the block that it got, or no longer the one that it freed
 abbrev pub OwnStepsKeepChains : Type 0
-OwnStepsKeepChains = (sizes : Sizes) (words new : Words) (s : StackState) (views after : ProcessViews) (held held_after : BlockLists) (i : ℕ) (x : ProcessView) → IsShape sizes → i < sizes.processes
+OwnStepsKeepChains =
+    (sizes : Sizes) (words new : Words) (s : StackState) (views after : ProcessViews) (held held_after : BlockLists) (i : ℕ)
+    (x : ProcessView)
+    → IsShape sizes → i < sizes.processes
     → Chains sizes words s views held
     → OwnStepFits sizes (held i) (views i)
     → Acted sizes (own_action (views i)) words new
@@ -67,7 +73,8 @@ OwnStepsKeepChains = (sizes : Sizes) (words new : Words) (s : StackState) (views
 
 -- the block that an allocate gets is free
 abbrev pub GotBlocksAreFree : Type 0
-GotBlocksAreFree = (sizes : Sizes) (words : Words) (s : StackState) (views : ProcessViews) (held : BlockLists) (i block : ℕ) → IsShape sizes → i < sizes.processes
+GotBlocksAreFree = (sizes : Sizes) (words : Words) (s : StackState) (views : ProcessViews) (held : BlockLists) (i block : ℕ)
+    → IsShape sizes → i < sizes.processes
     → Chains sizes words s views held
     → OwnStepFits sizes (held i) (views i)
     → next_block (views i).pool ≡ Some block
@@ -75,11 +82,13 @@ GotBlocksAreFree = (sizes : Sizes) (words : Words) (s : StackState) (views : Pro
 
 -- the own step of a call can be made where a full current list finds room among the spares
 abbrev pub OwnStepsCanBeMade : Type 0
-OwnStepsCanBeMade = (sizes : Sizes) (words : Words) (s : StackState) (views : ProcessViews) (held : BlockLists) (i : ℕ) → IsShape sizes → i < sizes.processes
+OwnStepsCanBeMade = (sizes : Sizes) (words : Words) (s : StackState) (views : ProcessViews) (held : BlockLists) (i : ℕ)
+    → IsShape sizes → i < sizes.processes
     → Chains sizes words s views held
     → OwnStepFits sizes (held i) (views i)
     → ((views i).pool.plan.current ≡ sizes.length → length (views i).pool.heads < 3)
-    → CanOwn sizes (views i) × CanMeetOwn (views i) (words (name_of (own_action (views i)))) × InRange sizes (name_of (own_action (views i)))
+    → CanOwn sizes (views i) × CanMeetOwn (views i) (words (name_of (own_action (views i))))
+    × InRange sizes (name_of (own_action (views i)))
 
 -- it holds of lists of held blocks that say the same of all processes
 abbrev pub SameHeldKeepChains : Type 0

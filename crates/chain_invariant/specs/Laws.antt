@@ -1,7 +1,9 @@
 -- the opening, transfers and the own steps of processes keep each block at one place, and what follows
-use Rattle.std.specs.Prelude.{◌≡◌, ◌≢◌, ℕ, ◌+◌, ◌-◌, ◌*◌, ◌<◌, ◌≤◌, true, false, [], ◌∷◌, length, slice_index, Contains}
+use Rattle.std.specs.Prelude.{◌≡◌, ◌≢◌, ℕ, ◌+◌, ◌-◌, ◌*◌, ◌<◌, ◌≤◌, Bool, true, false, [], ◌∷◌, length, slice_index, Contains}
 use Rattle.std.specs.List.{All}
-use Rattle.word_layout.specs.Sizes.{Sizes, IsShape, blocks, slack}
+use Rattle.process_sums.specs.Sums.{total}
+use Rattle.pool_model.specs.Limits.{slack}
+use Rattle.word_layout.specs.Sizes.{Sizes, IsShape, blocks, limits_of}
 use Rattle.word_layout.specs.Packing.{value_of, reply_of}
 use Rattle.word_layout.specs.declared.announced.Wish.{Wish}
 use Rattle.word_layout.specs.declared.announced.Wish.TheVariants.{Take, Give}
@@ -10,27 +12,28 @@ use Rattle.word_layout.specs.declared.reply.Reply.TheVariants.{Nothing, Gave}
 use Rattle.transfer_schedule.specs.Numbers.{is_idle, withheld}
 use Rattle.transfer_machine.specs.Machine.{action_of}
 use Rattle.transfer_machine.specs.Opening.{opening_base, opening_slot, opening_next}
-use Rattle.transfer_machine.specs.Pools.{opening_view, view_begun, view_met, MayBegin}
 use Rattle.transfer_machine.specs.States.{StackState, next_of}
 use Rattle.transfer_machine.specs.Tries.{is_take}
 use Rattle.transfer_machine.specs.Words.{name_of}
 use Rattle.transfer_machine.specs.declared.transfer.TransferView.{TransferView}
-use Rattle.transfer_machine.specs.declared.view.ProcessView.{ProcessView}
-use Rattle.transfer_machine.specs.declared.stage.NextStep.TheVariants.{Rest, Announce, ExchangeState, LoadReply}
+use Rattle.transfer_machine.specs.declared.stage.NextStep.TheVariants.{Rest, Announce, Try, LoadReply}
+use Rattle.transfer_machine.specs.declared.stage.TryStep.TheVariants.{ExchangeState}
+use Rattle.pool_machine.specs.Pools.{opening_view, view_begun, view_met, MayBegin}
+use Rattle.pool_machine.specs.declared.view.ProcessView.{ProcessView}
 use Rattle.transfer_invariant.specs.Progress.{has_announced}
 use Rattle.transfer_invariant.specs.Installing.{planned_state, states_after}
 use Rattle.transfer_invariant.specs.Memory.{Words, States, Acted, state_tag}
-use Rattle.transfer_invariant.specs.Tags.{total}
 use Rattle.transfer_invariant.specs.Laws.{PlanFits}
 use Rattle.batch_invariant.specs.Places.{moving}
-use Rattle.batch_invariant.specs.Batches.{ProcessViews, MovedProcess, is_head}
+use Rattle.batch_invariant.specs.Batches.{ProcessViews, MovedProcess}
 use Rattle.batch_invariant.specs.Premises.{InStep, PendingIsPresent, InstallsNext, SameStack}
-use Rattle.chain_invariant.specs.Chains.{BlockLists, ChainsHold, Chains, MovedList, NextsStay, OtherNextsStay, times_pooled, blocks_weight, without}
+use Rattle.chain_invariant.specs.Chains.{BlockLists, ChainsHold, Chains, MovedList, NextsStay, OtherNextsStay, times_pooled, blocks_weight, without, is_head}
 use Rattle.chain_invariant.specs.Steps.{SameParts, KeepsLists, FirstLeaves, SpareOpens, FirstComes, ListStarts}
 
 -- at the opening each block is at one place, and none is held
 abbrev pub OpeningHasChains : Type 0
-OpeningHasChains = (sizes : Sizes) (words : Words) (s : StackState) (views : ProcessViews) (held : BlockLists) → IsShape sizes
+OpeningHasChains = (sizes : Sizes) (words : Words) (s : StackState) (views : ProcessViews) (held : BlockLists)
+    → IsShape sizes
     → ((b : ℕ) → b < blocks sizes → words (Next b) ≡ opening_next sizes b)
     → s.height ≡ opening_base sizes
     → ((k : ℕ) → k < s.height → s.content k ≡ opening_slot sizes k)
@@ -40,7 +43,10 @@ OpeningHasChains = (sizes : Sizes) (words : Words) (s : StackState) (views : Pro
 
 -- a process at rest that begins a transfer keeps that
 abbrev pub BeginningsKeepChains : Type 0
-BeginningsKeepChains = (sizes : Sizes) (words : Words) (s : StackState) (views after : ProcessViews) (held : BlockLists) (i : ℕ) (wish : Wish) (x : ProcessView) → i < sizes.processes
+BeginningsKeepChains =
+    (sizes : Sizes) (words : Words) (s : StackState) (views after : ProcessViews) (held : BlockLists) (i : ℕ) (wish : Wish)
+    (x : ProcessView)
+    → i < sizes.processes
     → Chains sizes words s views held
     → (views i).transfer.next ≡ Rest
     → MayBegin wish (views i).pool
@@ -50,7 +56,9 @@ BeginningsKeepChains = (sizes : Sizes) (words : Words) (s : StackState) (views a
 
 -- so does a step of a transfer that leaves the state
 abbrev pub StepsKeepChains : Type 0
-StepsKeepChains = (sizes : Sizes) (words : Words) (s : StackState) (views after : ProcessViews) (held : BlockLists) (i word : ℕ) (x : ProcessView) → i < sizes.processes
+StepsKeepChains = (sizes : Sizes) (words : Words) (s : StackState) (views after : ProcessViews) (held : BlockLists) (i word : ℕ)
+    (x : ProcessView)
+    → i < sizes.processes
     → Chains sizes words s views held
     → InStep s i (views i).transfer word
     → SameParts x (view_met sizes (views i) word)
@@ -59,7 +67,9 @@ StepsKeepChains = (sizes : Sizes) (words : Words) (s : StackState) (views after 
 
 -- it holds of the states that come of one by the announcements of the first so many processes
 abbrev pub NextStatesKeepChains : Type 0
-NextStatesKeepChains = (sizes : Sizes) (words : Words) (s : StackState) (views : ProcessViews) (held : BlockLists) (announcements : ℕ → ℕ) (heard : ℕ) → IsShape sizes → heard ≤ sizes.processes
+NextStatesKeepChains =
+    (sizes : Sizes) (words : Words) (s : StackState) (views : ProcessViews) (held : BlockLists) (announcements : ℕ → ℕ) (heard : ℕ)
+    → IsShape sizes → heard ≤ sizes.processes
     → Chains sizes words s views held
     → ((o : ℕ) → o < sizes.processes → PendingIsPresent s (announcements o) o (views o).transfer)
     → Chains sizes words (next_of heard announcements s) views held
@@ -71,12 +81,19 @@ SameStatesKeepChains = (sizes : Sizes) (words : Words) (s t : StackState) (views
     → SameStack sizes.processes s t
     → Chains sizes words t views held
 
+-- where the next step of a view exchanges the state and meets the one that it loaded, it installs the next one
+abbrev pub ExchangeInstalls : Sizes → Words → StackState → ProcessViews → TransferView → Type 0
+ExchangeInstalls sizes words s views v =
+    (second : Bool) → v.next ≡ Try second ExchangeState → words State ≡ v.loaded.state → InstallsNext sizes s views v
+
 -- the step of a transfer on the words keeps it, of the present state before and after
 abbrev pub TransfersKeepChains : Type 0
-TransfersKeepChains = (sizes : Sizes) (words new : Words) (views after : ProcessViews) (states : States) (held : BlockLists) (i : ℕ) (x : ProcessView) → IsShape sizes → i < sizes.processes
+TransfersKeepChains =
+    (sizes : Sizes) (words new : Words) (views after : ProcessViews) (states : States) (held : BlockLists) (i : ℕ) (x : ProcessView)
+    → IsShape sizes → i < sizes.processes
     → Chains sizes words (states (state_tag words)) views held
     → InStep (states (state_tag words)) i (views i).transfer (words (name_of (action_of sizes (views i).transfer)))
-    → ((views i).transfer.next ≡ ExchangeState → words State ≡ (views i).transfer.loaded.state → InstallsNext sizes (states (state_tag words)) views (views i).transfer)
+    → ExchangeInstalls sizes words (states (state_tag words)) views (views i).transfer
     → Acted sizes (action_of sizes (views i).transfer) words new
     → SameParts x (view_met sizes (views i) (words (name_of (action_of sizes (views i).transfer))))
     → MovedProcess i x views after
@@ -84,7 +101,9 @@ TransfersKeepChains = (sizes : Sizes) (words new : Words) (views after : Process
 
 -- a step that changes no next word and no list keeps it: it gets no block, or it is one on data
 abbrev pub QuietStepsKeepChains : Type 0
-QuietStepsKeepChains = (sizes : Sizes) (words new : Words) (s : StackState) (views after : ProcessViews) (held : BlockLists) (i : ℕ) (x : ProcessView) → i < sizes.processes
+QuietStepsKeepChains =
+    (sizes : Sizes) (words new : Words) (s : StackState) (views after : ProcessViews) (held : BlockLists) (i : ℕ) (x : ProcessView)
+    → i < sizes.processes
     → Chains sizes words s views held
     → KeepsLists (views i) x
     → MovedProcess i x views after
@@ -93,7 +112,10 @@ QuietStepsKeepChains = (sizes : Sizes) (words new : Words) (s : StackState) (vie
 
 -- the first block of the current list leaves it, and its process holds it
 abbrev pub LeavingKeepsChains : Type 0
-LeavingKeepsChains = (sizes : Sizes) (words new : Words) (s : StackState) (views after : ProcessViews) (held held_after : BlockLists) (i block : ℕ) (x : ProcessView) → i < sizes.processes
+LeavingKeepsChains =
+    (sizes : Sizes) (words new : Words) (s : StackState) (views after : ProcessViews) (held held_after : BlockLists) (i block : ℕ)
+    (x : ProcessView)
+    → i < sizes.processes
     → Chains sizes words s views held
     → FirstLeaves words block (views i).pool x.pool
     → x.transfer ≡ (views i).transfer
@@ -104,7 +126,10 @@ LeavingKeepsChains = (sizes : Sizes) (words new : Words) (s : StackState) (views
 
 -- the newest spare becomes the current list, and its first block leaves it
 abbrev pub OpeningASpareKeepsChains : Type 0
-OpeningASpareKeepsChains = (sizes : Sizes) (words new : Words) (s : StackState) (views after : ProcessViews) (held held_after : BlockLists) (i block : ℕ) (x : ProcessView) → i < sizes.processes
+OpeningASpareKeepsChains =
+    (sizes : Sizes) (words new : Words) (s : StackState) (views after : ProcessViews) (held held_after : BlockLists) (i block : ℕ)
+    (x : ProcessView)
+    → i < sizes.processes
     → Chains sizes words s views held
     → SpareOpens sizes.length words block (views i).pool x.pool
     → x.transfer ≡ (views i).transfer
@@ -115,7 +140,9 @@ OpeningASpareKeepsChains = (sizes : Sizes) (words new : Words) (s : StackState) 
 
 -- a held block comes before the current list
 abbrev pub ComingKeepsChains : Type 0
-ComingKeepsChains = (sizes : Sizes) (words new : Words) (s : StackState) (views after : ProcessViews) (held held_after : BlockLists) (i block : ℕ) (x : ProcessView) → i < sizes.processes
+ComingKeepsChains = (sizes : Sizes) (words new : Words) (s : StackState) (views after : ProcessViews) (held held_after : BlockLists)
+    (i block : ℕ) (x : ProcessView)
+    → i < sizes.processes
     → Chains sizes words s views held
     → Contains (held i) block
     → FirstComes sizes.length new block (views i).pool x.pool
@@ -127,7 +154,10 @@ ComingKeepsChains = (sizes : Sizes) (words new : Words) (s : StackState) (views 
 
 -- the full current list becomes the newest spare, and a held block begins another list
 abbrev pub StartingKeepsChains : Type 0
-StartingKeepsChains = (sizes : Sizes) (words new : Words) (s : StackState) (views after : ProcessViews) (held held_after : BlockLists) (i block : ℕ) (x : ProcessView) → IsShape sizes → i < sizes.processes
+StartingKeepsChains =
+    (sizes : Sizes) (words new : Words) (s : StackState) (views after : ProcessViews) (held held_after : BlockLists) (i block : ℕ)
+    (x : ProcessView)
+    → IsShape sizes → i < sizes.processes
     → Chains sizes words s views held
     → Contains (held i) block
     → ListStarts sizes.length new block (views i).pool x.pool
@@ -142,9 +172,11 @@ pub record IsFree (sizes : Sizes) (held : BlockLists) (block : ℕ) : Type 0 whe
   pub low : block < blocks sizes
   pub free : (i : ℕ) → i < sizes.processes → ¬ Contains (held i) block
 
--- the code of the current list is that of its first block, which is free, and so is the code that its next word has; 0 is the code of the empty list
+-- a current list that isn't empty has the code of its first block, which is free, and its next word is the code of a block or 0; the code
+-- of the empty list is 0
 abbrev pub CurrentListsAreFree : Type 0
-CurrentListsAreFree = (sizes : Sizes) (words : Words) (s : StackState) (views : ProcessViews) (held : BlockLists) (i : ℕ) → i < sizes.processes
+CurrentListsAreFree = (sizes : Sizes) (words : Words) (s : StackState) (views : ProcessViews) (held : BlockLists) (i : ℕ)
+    → i < sizes.processes
     → Chains sizes words s views held
     → ((views i).pool.plan.current ≡ 0 → (views i).pool.head ≡ 0)
     × ((views i).pool.plan.current ≢ 0 → 1 ≤ (views i).pool.head)
@@ -153,7 +185,8 @@ CurrentListsAreFree = (sizes : Sizes) (words : Words) (s : StackState) (views : 
 
 -- the head of each spare is free, and its next word is the code of a block or 0
 abbrev pub SparesAreFree : Type 0
-SparesAreFree = (sizes : Sizes) (words : Words) (s : StackState) (views : ProcessViews) (held : BlockLists) (i place : ℕ) → IsShape sizes → i < sizes.processes
+SparesAreFree = (sizes : Sizes) (words : Words) (s : StackState) (views : ProcessViews) (held : BlockLists) (i place : ℕ)
+    → IsShape sizes → i < sizes.processes
     → Chains sizes words s views held
     → place < length (views i).pool.heads
     → IsFree sizes held (slice_index (views i).pool.heads place)
@@ -161,32 +194,37 @@ SparesAreFree = (sizes : Sizes) (words : Words) (s : StackState) (views : Proces
 
 -- a held block is one of the pool, and no other process holds it
 abbrev pub HeldAreApart : Type 0
-HeldAreApart = (sizes : Sizes) (words : Words) (s : StackState) (views : ProcessViews) (held : BlockLists) (i block : ℕ) → i < sizes.processes
+HeldAreApart = (sizes : Sizes) (words : Words) (s : StackState) (views : ProcessViews) (held : BlockLists) (i block : ℕ)
+    → i < sizes.processes
     → Chains sizes words s views held
     → Contains (held i) block
     → (block < blocks sizes) × ((o : ℕ) → o < sizes.processes → o ≢ i → ¬ Contains (held o) block)
 
 -- each block of the pool is at one place, and each at a place is one of the pool
 abbrev pub BlocksAreOnce : Type 0
-BlocksAreOnce = (sizes : Sizes) (words : Words) (s : StackState) (views : ProcessViews) (batch_blocks current_blocks held_blocks : BlockLists) (block : ℕ)
+BlocksAreOnce = (sizes : Sizes) (words : Words) (s : StackState) (views : ProcessViews)
+    (batch_blocks current_blocks held_blocks : BlockLists) (block : ℕ)
     → ChainsHold sizes words s views batch_blocks current_blocks held_blocks
     → (block < blocks sizes → blocks_weight sizes s views batch_blocks current_blocks held_blocks (is_head block) ≡ 1)
     × (blocks sizes ≤ block → blocks_weight sizes s views batch_blocks current_blocks held_blocks (is_head block) ≡ 0)
 
 -- the stack has no more batches than there are
 abbrev pub StackHasRoom : Type 0
-StackHasRoom = (sizes : Sizes) (words : Words) (s : StackState) (views : ProcessViews) (held : BlockLists) → IsShape sizes → Chains sizes words s views held → s.height ≤ sizes.batches
+StackHasRoom = (sizes : Sizes) (words : Words) (s : StackState) (views : ProcessViews) (held : BlockLists)
+    → IsShape sizes → Chains sizes words s views held → s.height ≤ sizes.batches
 
 -- all heads are blocks: of the content, of the spares, in transit
 abbrev pub HeadsAreBlocks : Type 0
-HeadsAreBlocks = (sizes : Sizes) (words : Words) (s : StackState) (views : ProcessViews) (held : BlockLists) → IsShape sizes → Chains sizes words s views held
+HeadsAreBlocks = (sizes : Sizes) (words : Words) (s : StackState) (views : ProcessViews) (held : BlockLists)
+    → IsShape sizes → Chains sizes words s views held
     → ((place : ℕ) → place < s.height → s.content place < blocks sizes)
     × ((i place : ℕ) → i < sizes.processes → place < length (views i).pool.heads → slice_index (views i).pool.heads place < blocks sizes)
     × ((i : ℕ) → i < sizes.processes → All (λ head. head < blocks sizes) (moving s i (views i).transfer))
 
 -- no head is at two places
 abbrev pub HeadsAreApart : Type 0
-HeadsAreApart = (sizes : Sizes) (words : Words) (s : StackState) (views : ProcessViews) (held : BlockLists) (head : ℕ) → IsShape sizes → Chains sizes words s views held → times_pooled sizes s views head ≤ 1
+HeadsAreApart = (sizes : Sizes) (words : Words) (s : StackState) (views : ProcessViews) (held : BlockLists) (head : ℕ)
+    → IsShape sizes → Chains sizes words s views held → times_pooled sizes s views head ≤ 1
 
 -- the head of a give is a block
 abbrev pub WishIsBlock : Sizes → Wish → Type 0
@@ -195,18 +233,21 @@ WishIsBlock sizes (Give head) = head < blocks sizes
 
 -- a give that is begun, or announced and not applied, is of a block
 abbrev pub GivesAreBlocks : Type 0
-GivesAreBlocks = (sizes : Sizes) (words : Words) (s : StackState) (views : ProcessViews) (held : BlockLists) (i : ℕ) → IsShape sizes → Chains sizes words s views held → i < sizes.processes
+GivesAreBlocks = (sizes : Sizes) (words : Words) (s : StackState) (views : ProcessViews) (held : BlockLists) (i : ℕ)
+    → IsShape sizes → Chains sizes words s views held → i < sizes.processes
     → ((views i).transfer.next ≡ Announce → WishIsBlock sizes (views i).transfer.wish)
     × (has_announced (views i).transfer.next ≡ true → s.applied i ≢ (views i).transfer.age → WishIsBlock sizes (views i).transfer.wish)
 
 -- a plan that a view installs has room
 abbrev pub PlansHaveRoom : Type 0
-PlansHaveRoom = (sizes : Sizes) (words : Words) (s : StackState) (views : ProcessViews) (held : BlockLists) (v : TransferView) → IsShape sizes → Chains sizes words s views held
+PlansHaveRoom = (sizes : Sizes) (words : Words) (s : StackState) (views : ProcessViews) (held : BlockLists) (v : TransferView)
+    → IsShape sizes → Chains sizes words s views held
     → InstallsNext sizes s views v → PlanFits sizes v.plan
 
 -- the reply that ends a transfer is one to its wish: a give is answered that it gave, a take never
 abbrev pub EndsAnswerWishes : Type 0
-EndsAnswerWishes = (sizes : Sizes) (words : Words) (s : StackState) (views : ProcessViews) (held : BlockLists) (i word : ℕ) → i < sizes.processes
+EndsAnswerWishes = (sizes : Sizes) (words : Words) (s : StackState) (views : ProcessViews) (held : BlockLists) (i word : ℕ)
+    → i < sizes.processes
     → Chains sizes words s views held
     → InStep s i (views i).transfer word
     → (views i).transfer.next ≡ LoadReply
@@ -225,27 +266,32 @@ pub record CountsItsBatches (sizes : Sizes) (v : ProcessView) : Type 0 where
 
 -- so what it keeps is at most what its plan says that it withholds, in whatever state
 abbrev pub KeptIsWithheld : Type 0
-KeptIsWithheld = (sizes : Sizes) (s : StackState) (i : ℕ) (v : ProcessView) → CountsItsBatches sizes v → kept_blocks sizes s i v ≤ withheld v.pool.plan
+KeptIsWithheld = (sizes : Sizes) (s : StackState) (i : ℕ) (v : ProcessView) → CountsItsBatches sizes v
+    → kept_blocks sizes s i v ≤ withheld v.pool.plan
 
 -- what the processes keep, what they hold, and the batches of the content are all blocks
 abbrev pub BlocksAreCounted : Type 0
-BlocksAreCounted = (sizes : Sizes) (words : Words) (s : StackState) (views : ProcessViews) (held : BlockLists) → Chains sizes words s views held
-    → total sizes.processes (λ i. kept_blocks sizes s i (views i)) + total sizes.processes (λ i. length (held i)) + sizes.length * s.height ≡ blocks sizes
+BlocksAreCounted = (sizes : Sizes) (words : Words) (s : StackState) (views : ProcessViews) (held : BlockLists)
+    → Chains sizes words s views held
+    → total sizes.processes (λ i. kept_blocks sizes s i (views i)) + total sizes.processes (λ i. length (held i)) + sizes.length * s.height
+    ≡ blocks sizes
 
 -- where the content is empty and each process keeps at most five batches, all blocks but the slack are held
 abbrev pub FewAreFree : Type 0
-FewAreFree = (sizes : Sizes) (words : Words) (s : StackState) (views : ProcessViews) (held : BlockLists) → Chains sizes words s views held
+FewAreFree = (sizes : Sizes) (words : Words) (s : StackState) (views : ProcessViews) (held : BlockLists)
+    → Chains sizes words s views held
     → s.height ≡ 0
     → ((i : ℕ) → i < sizes.processes → kept_blocks sizes s i (views i) ≤ 5 * sizes.length)
-    → blocks sizes ≤ total sizes.processes (λ i. length (held i)) + slack sizes
+    → blocks sizes ≤ total sizes.processes (λ i. length (held i)) + slack (limits_of sizes)
 
 -- a take that the installed state applied and answered with nothing met an empty stack, so all blocks but the slack are held
 abbrev pub EmptyTakesFindFew : Type 0
-EmptyTakesFindFew = (sizes : Sizes) (words : Words) (s : StackState) (views : ProcessViews) (held : BlockLists) (v : TransferView) (i : ℕ) → IsShape sizes → i < sizes.processes
+EmptyTakesFindFew = (sizes : Sizes) (words : Words) (s : StackState) (views : ProcessViews) (held : BlockLists) (v : TransferView) (i : ℕ)
+    → IsShape sizes → i < sizes.processes
     → Chains sizes words s views held
     → InstallsNext sizes s views v
     → is_take (views i).transfer.wish ≡ true
     → (planned_state s v).applied i ≢ s.applied i
     → reply_of ((planned_state s v).reply i) ≡ Nothing
     → ((t : StackState) (o : ℕ) → o < sizes.processes → kept_blocks sizes t o (views o) ≤ 5 * sizes.length)
-    → blocks sizes ≤ total sizes.processes (λ o. length (held o)) + slack sizes
+    → blocks sizes ≤ total sizes.processes (λ o. length (held o)) + slack (limits_of sizes)

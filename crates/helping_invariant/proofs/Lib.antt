@@ -9,6 +9,7 @@ pub mod Moves
 pub mod Turns
 pub mod Makes
 pub mod LoadSteps
+pub mod WriteSteps
 pub mod Keeps
 pub mod OpenedHelping
 pub mod Consequences

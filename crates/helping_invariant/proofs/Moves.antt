@@ -27,14 +27,25 @@ pub record Owed (sizes : Sizes) (n : Words) (views : Views) (states : States) (i
   pub from : (o : ℕ) → o < sizes.processes → o ≢ i → HearsPresent sizes.processes n states o x (views o)
   pub into : (a : ℕ) → a < sizes.processes → a ≢ i → HearsPresent sizes.processes n states i (views a) x
   pub self : HearsPresent sizes.processes n states i x x
-  pub rest : (a o : ℕ) → a < sizes.processes → o < sizes.processes → a ≢ i → o ≢ i → HearsPresent sizes.processes n states o (views a) (views o)
+  pub rest : (a o : ℕ) → a < sizes.processes → o < sizes.processes → a ≢ i → o ≢ i
+      → HearsPresent sizes.processes n states o (views a) (views o)
 
-pub assemble : (sizes : Sizes) (n : Words) (views after : Views) (states : States) (i : ℕ) (x : TransferView) → Moved i x views after → Owed sizes n views states i x → HelpingHolds sizes n after states
+pub assemble : (sizes : Sizes) (n : Words) (views after : Views) (states : States) (i : ℕ) (x : TransferView) → Moved i x views after
+    → Owed sizes n views states i x → HelpingHolds sizes n after states
 assemble sizes n views after states i x moved owed = record {
   counts = owed.counts;
-  announced = λ o lo. elim (cases_eq o i) [ inl e ↦ rw e (rw moved.here owed.announced) | inr ne ↦ rw (moved.elsewhere o ne) (owed.others_announced o lo ne) ];
-  tries = λ o lo. elim (cases_eq o i) [ inl e ↦ rw e (rw moved.here owed.tries) | inr ne ↦ rw (moved.elsewhere o ne) (owed.others_tries o lo ne) ];
-  settled = λ o lo. elim (cases_eq o i) [ inl e ↦ rw e (rw moved.here owed.settled) | inr ne ↦ rw (moved.elsewhere o ne) (owed.others_settled o lo ne) ];
+  announced = λ o lo. elim (cases_eq o i) [
+    | inl e ↦ rw e (rw moved.here owed.announced)
+    | inr ne ↦ rw (moved.elsewhere o ne) (owed.others_announced o lo ne)
+  ];
+  tries = λ o lo. elim (cases_eq o i) [
+    | inl e ↦ rw e (rw moved.here owed.tries)
+    | inr ne ↦ rw (moved.elsewhere o ne) (owed.others_tries o lo ne)
+  ];
+  settled = λ o lo. elim (cases_eq o i) [
+    | inl e ↦ rw e (rw moved.here owed.settled)
+    | inr ne ↦ rw (moved.elsewhere o ne) (owed.others_settled o lo ne)
+  ];
   hears = λ a o la lo. elim (cases_eq a i) [
     | inl e ↦ elim (cases_eq o i) [
       | inl f ↦ rw e (rw f (rw moved.here owed.self))
@@ -48,7 +59,8 @@ assemble sizes n views after states i x moved owed = record {
 }
 
 -- neither the state nor a record word nor an announcement changes
-pub stay : (sizes : Sizes) (m n : Words) (views : Views) (states : States) → HelpingHolds sizes m views states → RecordsStay sizes m n → AnnouncementsStay sizes m n → HelpingHolds sizes n views states
+pub stay : (sizes : Sizes) (m n : Words) (views : Views) (states : States) → HelpingHolds sizes m views states → RecordsStay sizes m n
+    → AnnouncementsStay sizes m n → HelpingHolds sizes n views states
 stay sizes m n views states h s a = record {
   counts = stay_counts sizes m n states h.counts s.state;
   announced = λ o lo. stay_announced m n states o (views o) (h.announced o lo) s.state (a.each o lo);
@@ -58,8 +70,11 @@ stay sizes m n views states h s a = record {
 }
 
 -- a record word is stored that has the present reply where it is the reply to an applied transfer
-pub store : (sizes : Sizes) (m n : Words) (views : Views) (states : States) (row index tag value : ℕ) → HelpingHolds sizes m views states → WordStored sizes m n row index (tag + 1) value → AnnouncementsStay sizes m n
-    → ((o : ℕ) → o < sizes.processes → has_announced (views o).next ≡ true → (states tag).applied o ≡ (views o).age → sizes.processes + 2 + o ≡ index → value ≡ (states (state_tag m)).reply o) → HelpingHolds sizes n views states
+pub store : (sizes : Sizes) (m n : Words) (views : Views) (states : States) (row index tag value : ℕ) → HelpingHolds sizes m views states
+    → WordStored sizes m n row index (tag + 1) value → AnnouncementsStay sizes m n
+    → ((o : ℕ) → o < sizes.processes → has_announced (views o).next ≡ true → (states tag).applied o ≡ (views o).age
+    → sizes.processes + 2 + o ≡ index → value ≡ (states (state_tag m)).reply o)
+    → HelpingHolds sizes n views states
 store sizes m n views states row index tag value h s a final = record {
   counts = stay_counts sizes m n states h.counts s.state;
   announced = λ o lo. stay_announced m n states o (views o) (h.announced o lo) s.state (a.each o lo);
@@ -79,9 +94,12 @@ pub record ViewOwes (sizes : Sizes) (m : Words) (views : Views) (states : States
   pub tries : TwoTries m states i x
   pub settled : SettledReply sizes m states i x
   pub from : (o : ℕ) → o < sizes.processes → HearsPresent sizes.processes m states o x (views o)
-  pub into : (w : TransferView) → (in_try w.next ≡ true → loaded_tag w.loaded ≤ state_tag m) → HearsPresent sizes.processes m states i w (views i) → HearsPresent sizes.processes m states i w x
+  pub into : (w : TransferView) → (in_try w.next ≡ true → loaded_tag w.loaded ≤ state_tag m)
+      → HearsPresent sizes.processes m states i w (views i) → HearsPresent sizes.processes m states i w x
 
-pub view_moves : (sizes : Sizes) (m : Words) (views after : Views) (states : States) (i : ℕ) (x : TransferView) → i < sizes.processes → HelpingHolds sizes m views states → LoadedPast sizes m views → Moved i x views after → ViewOwes sizes m views states i x → HelpingHolds sizes m after states
+pub view_moves : (sizes : Sizes) (m : Words) (views after : Views) (states : States) (i : ℕ) (x : TransferView) → i < sizes.processes
+    → HelpingHolds sizes m views states → LoadedPast sizes m views → Moved i x views after → ViewOwes sizes m views states i x
+    → HelpingHolds sizes m after states
 view_moves sizes m views after states i x li h past moved owes = assemble sizes m views after states i x moved (record {
   counts = h.counts;
   announced = owes.announced;
@@ -97,8 +115,10 @@ view_moves sizes m views after states i x li h past moved owes = assemble sizes 
 })
 
 -- a process at rest stays so, and one begins or ends a transfer
-pub view_idle : (sizes : Sizes) (m : Words) (views after : Views) (states : States) (i : ℕ) (x : TransferView) → i < sizes.processes → HelpingHolds sizes m views states → Moved i x views after → (states (state_tag m)).applied i ≡ (views i).age
-    → has_announced x.next ≡ false → heard_announcements sizes.processes x.next ≡ 0 → x.number ≡ (views i).number → x.age ≡ (views i).age → x.loaded ≡ (views i).loaded → HelpingHolds sizes m after states
+pub view_idle : (sizes : Sizes) (m : Words) (views after : Views) (states : States) (i : ℕ) (x : TransferView) → i < sizes.processes
+    → HelpingHolds sizes m views states → Moved i x views after → (states (state_tag m)).applied i ≡ (views i).age
+    → has_announced x.next ≡ false → heard_announcements sizes.processes x.next ≡ 0 → x.number ≡ (views i).number → x.age ≡ (views i).age
+    → x.loaded ≡ (views i).loaded → HelpingHolds sizes m after states
 view_idle sizes m views after states i x li h moved applied none deaf en ea el = assemble sizes m views after states i x moved (record {
   counts = h.counts;
   announced = announced_idle m states i (views i) x (h.announced i li) none applied en ea (ap (λ l. length l.announcements) el);

@@ -1,5 +1,5 @@
 -- what the moving view keeps of its own facts
-use Rattle.std.proofs.Common.{◌≡◌, ℕ, ◌+◌, ◌<◌, ◌==◌, true, false, refl, ◌∙◌, ap, arith, length}
+use Rattle.std.proofs.Common.{◌≡◌, ℕ, ◌+◌, ◌<◌, Bool, true, false, refl, ◌∙◌, ap, arith, length}
 use Rattle.std.specs.Prelude.{if◌then◌else◌}
 use Rattle.std.proofs.lemmas.Bool.Decides.{nat_tests}
 use Rattle.word_layout.specs.Sizes.{Sizes}
@@ -9,11 +9,13 @@ use Rattle.transfer_machine.specs.Loads.{loaded_tag}
 use Rattle.transfer_machine.specs.Machine.{try_ended, installed, own_announcement}
 use Rattle.transfer_machine.specs.States.{StackState}
 use Rattle.transfer_machine.specs.declared.transfer.TransferView.{TransferView}
-use Rattle.transfer_machine.specs.declared.stage.NextStep.TheVariants.{Announce, LoadState, LoadRecordWord, ExchangeState, LoadFinalState, LoadReply}
+use Rattle.transfer_machine.specs.declared.stage.NextStep.TheVariants.{Announce, Try, LoadFinalState, LoadReply}
+use Rattle.transfer_machine.specs.declared.stage.TryStep.{TryStep}
+use Rattle.transfer_machine.specs.declared.stage.TryStep.TheVariants.{LoadState, LoadRecordWord, ExchangeState}
 use Rattle.transfer_invariant.specs.Memory.{Words, States, state_tag}
-use Rattle.transfer_invariant.specs.Progress.{in_try, has_announced}
+use Rattle.transfer_invariant.specs.Progress.{has_loaded_state, in_try, has_announced}
 use Rattle.transfer_invariant.specs.Records.{TagsBelow}
-use Rattle.transfer_invariant.specs.Tags.{InstallOrder}
+use Rattle.helping_invariant.specs.Parts.{in_first_try, in_second_try}
 use Rattle.helping_invariant.specs.Parts.{AppliedRises, AnnouncementHolds, TwoTries, SettledReply, HearsPresent}
 use Rattle.helping_invariant.proofs.Changes.{AnnouncementStored, StatesGrow, AppliesHeard}
 
@@ -26,7 +28,8 @@ pub record Pends (v x : TransferView) : Type 0 where
   pub wish : x.wish ≡ v.wish
   pub room : length x.loaded.announcements ≡ length v.loaded.announcements
 
-pub pends_announced : (m : Words) (states : States) (i : ℕ) (v x : TransferView) → AnnouncementHolds m states i v → Pends v x → AnnouncementHolds m states i x
+pub pends_announced : (m : Words) (states : States) (i : ℕ) (v x : TransferView) → AnnouncementHolds m states i v → Pends v x
+    → AnnouncementHolds m states i x
 pends_announced m states i v x h g = record {
   number = g.number ∙ h.number;
   room = g.room ∙ h.room;
@@ -37,50 +40,63 @@ pends_announced m states i v x h g = record {
   idle = λ k. absurd (grind (arith, g.pends, k));
 }
 
-pub pends_settled : (sizes : Sizes) (m : Words) (states : States) (i : ℕ) (v x : TransferView) → SettledReply sizes m states i v → Pends v x → SettledReply sizes m states i x
+pub pends_settled : (sizes : Sizes) (m : Words) (states : States) (i : ℕ) (v x : TransferView) → SettledReply sizes m states i v → Pends v x
+    → SettledReply sizes m states i x
 pends_settled sizes m states i v x h g = record {
   in_states = λ k t le e. h.in_states g.was t le (rw g.age at e);
   in_records = λ k row lr some e. h.in_records g.was row lr some (rw g.age at e);
 }
 
--- a view that goes on in its try
-pub record TriesOn (v x : TransferView) : Type 0 where
+-- the view stays in its try of its transfer
+pub record StaysInTry (v x : TransferView) : Type 0 where
   pub was : in_try v.next ≡ true
   pub trying : in_try x.next ≡ true
-  pub turn : x.turn ≡ v.turn
+  pub first : in_first_try x.next ≡ true → in_first_try v.next ≡ true
+  pub second : in_second_try x.next ≡ true → in_second_try v.next ≡ true
+  pub number : x.number ≡ v.number
   pub age : x.age ≡ v.age
-  pub first : x.first_loaded ≡ v.first_loaded
+  pub wish : x.wish ≡ v.wish
+  pub first_loaded : x.first_loaded ≡ v.first_loaded
   pub loaded : loaded_tag x.loaded ≡ loaded_tag v.loaded
+  pub room : length x.loaded.announcements ≡ length v.loaded.announcements
 
-pub tries_on : (m : Words) (states : States) (i : ℕ) (v x : TransferView) → TwoTries m states i v → TriesOn v x → TwoTries m states i x
-tries_on m states i v x h g = grind arith
+pub stays_tries : (m : Words) (states : States) (i : ℕ) (v x : TransferView) → TwoTries m states i v → StaysInTry v x
+    → TwoTries m states i x
+stays_tries m states i v x h g = grind arith
 
 -- the end of a try that installed nothing: the state has moved on
-pub tries_ended : (m : Words) (states : States) (i : ℕ) (v : TransferView) → TwoTries m states i v → InstallOrder m v → in_try v.next ≡ true → loaded_tag v.loaded < state_tag m → TwoTries m states i (try_ended v)
-tries_ended m states i v h o e moved = grind (arith, nat_tests)
+pub tries_ended : (m : Words) (states : States) (i : ℕ) (second : Bool) (step : TryStep) (v : TransferView) → TwoTries m states i v
+    → v.next ≡ Try second step → has_loaded_state step ≡ true → loaded_tag v.loaded < state_tag m → TwoTries m states i (try_ended second v)
+tries_ended m states i second step v h e was moved = grind (arith, nat_tests)
 
 -- the state is loaded, at the beginning of a try
-pub tries_loaded : (m : Words) (states : States) (i : ℕ) (v x : TransferView) → TwoTries m states i v → InstallOrder m v → v.next ≡ LoadState → x.next ≡ LoadRecordWord 0 → x.turn ≡ v.turn → x.age ≡ v.age → loaded_tag x.loaded ≡ state_tag m
-    → x.first_loaded ≡ (if v.turn == 1 then state_tag m else v.first_loaded) → TwoTries m states i x
-tries_loaded m states i v x h o e en et ea el ef = grind (arith, nat_tests)
+pub tries_loaded : (m : Words) (states : States) (i : ℕ) (second : Bool) (v x : TransferView) → TwoTries m states i v
+    → v.next ≡ Try second LoadState → x.next ≡ Try second (LoadRecordWord 0) → x.age ≡ v.age → loaded_tag x.loaded ≡ state_tag m
+    → x.first_loaded ≡ (if second then v.first_loaded else state_tag m) → TwoTries m states i x
+tries_loaded m states i second v x h e en ea el ef = grind (arith, nat_tests)
 
 -- and at the end
-pub tries_final : (m : Words) (states : States) (i : ℕ) (v x : TransferView) → TwoTries m states i v → v.next ≡ LoadFinalState → x.next ≡ LoadReply → x.age ≡ v.age → x.first_loaded ≡ v.first_loaded → loaded_tag x.loaded ≡ state_tag m → TwoTries m states i x
+pub tries_final : (m : Words) (states : States) (i : ℕ) (v x : TransferView) → TwoTries m states i v → v.next ≡ LoadFinalState
+    → x.next ≡ LoadReply → x.age ≡ v.age → x.first_loaded ≡ v.first_loaded → loaded_tag x.loaded ≡ state_tag m → TwoTries m states i x
 tries_final m states i v x h e en ea ef el = grind arith
 
 -- no transfer is announced
 pub tries_idle : (m : Words) (states : States) (i : ℕ) (x : TransferView) → has_announced x.next ≡ false → TwoTries m states i x
 tries_idle m states i x e = grind arith
 
-pub settled_idle : (sizes : Sizes) (m : Words) (states : States) (i : ℕ) (x : TransferView) → has_announced x.next ≡ false → SettledReply sizes m states i x
+pub settled_idle : (sizes : Sizes) (m : Words) (states : States) (i : ℕ) (x : TransferView) → has_announced x.next ≡ false
+    → SettledReply sizes m states i x
 settled_idle sizes m states i x e = grind arith
 
-pub announced_idle : (m : Words) (states : States) (i : ℕ) (v x : TransferView) → AnnouncementHolds m states i v → has_announced x.next ≡ false → (states (state_tag m)).applied i ≡ v.age → x.number ≡ v.number → x.age ≡ v.age → length x.loaded.announcements ≡ length v.loaded.announcements → AnnouncementHolds m states i x
+pub announced_idle : (m : Words) (states : States) (i : ℕ) (v x : TransferView) → AnnouncementHolds m states i v
+    → has_announced x.next ≡ false → (states (state_tag m)).applied i ≡ v.age → x.number ≡ v.number → x.age ≡ v.age
+    → length x.loaded.announcements ≡ length v.loaded.announcements → AnnouncementHolds m states i x
 announced_idle m states i v x h none applied en ea el = grind arith
 
 -- a transfer is announced
-pub announced_own : (sizes : Sizes) (m n : Words) (states : States) (i : ℕ) (v : TransferView) → AnnouncementHolds m states i v → v.next ≡ Announce → FitsWish v.wish → state_tag n ≡ state_tag m → AnnouncementStored sizes m n i (own_announcement v)
-    → AnnouncementHolds n states i (record v { next = LoadState; turn = 1; age = v.age + 1 })
+pub announced_own : (sizes : Sizes) (m n : Words) (states : States) (i : ℕ) (v : TransferView) → AnnouncementHolds m states i v
+    → v.next ≡ Announce → FitsWish v.wish → state_tag n ≡ state_tag m → AnnouncementStored sizes m n i (own_announcement v)
+    → AnnouncementHolds n states i (record v { next = Try false LoadState; age = v.age + 1 })
 announced_own sizes m n states i v h e fits same s =
     let applied : (states (state_tag n)).applied i ≡ v.age = rw same (h.idle (rw e refl)) in
     record {
@@ -93,14 +109,18 @@ announced_own sizes m n states i v h e fits same s =
       idle = λ k. absurd (grind arith);
     }
 
-pub announced_tries : (m : Words) (states : States) (i : ℕ) (v : TransferView) → TwoTries m states i (record v { next = LoadState; turn = 1; age = v.age + 1 })
+pub announced_tries : (m : Words) (states : States) (i : ℕ) (v : TransferView)
+    → TwoTries m states i (record v { next = Try false LoadState; age = v.age + 1 })
 announced_tries m states i v = grind (arith, nat_tests)
 
-pub announced_settled : (sizes : Sizes) (m : Words) (states : States) (i : ℕ) (v : TransferView) → i < sizes.processes → TagsBelow sizes m → AppliedRises sizes m states → (states (state_tag m)).applied i ≡ v.age
-    → SettledReply sizes m states i (record v { next = LoadState; turn = 1; age = v.age + 1 })
+pub announced_settled : (sizes : Sizes) (m : Words) (states : States) (i : ℕ) (v : TransferView) → i < sizes.processes
+    → TagsBelow sizes m → AppliedRises sizes m states → (states (state_tag m)).applied i ≡ v.age
+    → SettledReply sizes m states i (record v { next = Try false LoadState; age = v.age + 1 })
 announced_settled sizes m states i v li low c h = grind (arith, c.rises i, low)
 
 -- a state is installed: it applied the own transfer
-pub installed_tries : (processes : ℕ) (m n : Words) (states later : States) (next : StackState) (i : ℕ) (v : TransferView) → i < processes → AnnouncementHolds m states i v → TwoTries m states i v → HearsPresent processes m states i v v → v.next ≡ ExchangeState
-    → StatesGrow m n states later next → AppliesHeard processes (states (state_tag m)) next v → TwoTries n later i (installed v)
-installed_tries processes m n states later next i v li h t p e g a = grind (arith, nat_tests)
+pub installed_tries : (processes : ℕ) (m n : Words) (states later : States) (next : StackState) (i : ℕ) (second : Bool) (v : TransferView)
+    → i < processes → AnnouncementHolds m states i v → TwoTries m states i v → HearsPresent processes m states i v v
+    → v.next ≡ Try second ExchangeState → StatesGrow m n states later next → AppliesHeard processes (states (state_tag m)) next v
+    → TwoTries n later i (installed v)
+installed_tries processes m n states later next i second v li h t p e g a = grind (arith, nat_tests)

@@ -1,5 +1,5 @@
 -- what the actions of the views do to announcements
-use Rattle.std.proofs.Common.{◌≡◌, ◌≢◌, ℕ, ◌<◌, Bool, true, false, refl, ◌∙◌, ap, inl, inr, arith}
+use Rattle.std.proofs.Common.{◌≡◌, ◌≢◌, ℕ, ◌<◌, inl, inr}
 use Rattle.std.specs.Prelude.{◌⊎◌}
 use Rattle.std.proofs.lemmas.Bool.{cases_eq}
 use Rattle.word_layout.specs.Sizes.{Sizes}
@@ -11,38 +11,18 @@ use Rattle.transfer_machine.specs.declared.action.Action.TheVariants.{Load, Stor
 use Rattle.transfer_invariant.specs.Memory.{Words, Acted}
 use Rattle.helping_invariant.proofs.Changes.{AnnouncementsStay, AnnouncementStored}
 
--- whether a name is an announcement
-abbrev pub is_announcement : WordName → Bool
-is_announcement State = false
-is_announcement (Announcement process) = true
-is_announcement (RecordWord row index) = false
-is_announcement (Slot slot) = false
-is_announcement (Next block) = false
-is_announcement (Data block index) = false
-
--- and whose
-abbrev pub announcer_of : WordName → ℕ
-announcer_of State = 0
-announcer_of (Announcement process) = process
-announcer_of (RecordWord row index) = 0
-announcer_of (Slot slot) = 0
-announcer_of (Next block) = 0
-announcer_of (Data block index) = 0
-
-true_false : true ≡ false → ⊥
-true_false h = grind arith
-
 -- a name is that announcement or it isn't
 is_or_not_announcement : (o : ℕ) (x : WordName) → (Announcement o ≡ x) ⊎ (Announcement o ≢ x)
-is_or_not_announcement o State = inr (λ e. true_false (ap is_announcement e))
-is_or_not_announcement o (Announcement process) = elim (cases_eq o process) [ inl e ↦ inl (rw e refl) | inr ne ↦ inr (λ e. ne (ap announcer_of e)) ]
-is_or_not_announcement o (RecordWord row index) = inr (λ e. true_false (ap is_announcement e))
-is_or_not_announcement o (Slot slot) = inr (λ e. true_false (ap is_announcement e))
-is_or_not_announcement o (Next block) = inr (λ e. true_false (ap is_announcement e))
-is_or_not_announcement o (Data block index) = inr (λ e. true_false (ap is_announcement e))
+is_or_not_announcement o State = inr (λ e. cc)
+is_or_not_announcement o (Announcement process) = elim (cases_eq o process) [ inl e ↦ inl cc | inr ne ↦ inr (λ e. ne cc) ]
+is_or_not_announcement o (RecordWord row index) = inr (λ e. cc)
+is_or_not_announcement o (Slot slot) = inr (λ e. cc)
+is_or_not_announcement o (Next block) = inr (λ e. cc)
+is_or_not_announcement o (Data block index) = inr (λ e. cc)
 
 -- a load leaves all announcements
-loaded_stays : (sizes : Sizes) (name : WordName) (m n : Words) (o : ℕ) → Acted sizes (Load name) m n → o < sizes.processes → (Announcement o ≡ name) ⊎ (Announcement o ≢ name) → n (Announcement o) ≡ m (Announcement o)
+loaded_stays : (sizes : Sizes) (name : WordName) (m n : Words) (o : ℕ) → Acted sizes (Load name) m n → o < sizes.processes
+    → (Announcement o ≡ name) ⊎ (Announcement o ≢ name) → n (Announcement o) ≡ m (Announcement o)
 loaded_stays sizes name m n o a lo (inl e) = rw e a.here
 loaded_stays sizes name m n o a lo (inr ne) = a.elsewhere (Announcement o) lo ne
 
@@ -50,9 +30,14 @@ pub loads_leave : (sizes : Sizes) (name : WordName) (m n : Words) → Acted size
 loads_leave sizes name m n a = record { each = λ o lo. loaded_stays sizes name m n o a lo (is_or_not_announcement o name) }
 
 -- so does an action on any other word
-pub misses_announcements : (sizes : Sizes) (action : Action) (m n : Words) → Acted sizes action m n → is_announcement (name_of action) ≡ false → AnnouncementsStay sizes m n
-misses_announcements sizes action m n a other = record { each = λ o lo. a.elsewhere (Announcement o) lo (λ e. true_false (ap is_announcement e ∙ other)) }
+pub misses_announcements : (sizes : Sizes) (action : Action) (m n : Words) → Acted sizes action m n
+    → ((o : ℕ) → Announcement o ≢ name_of action) → AnnouncementsStay sizes m n
+misses_announcements sizes action m n a other = record { each = λ o lo. a.elsewhere (Announcement o) lo (other o) }
 
 -- an announcement is stored
-pub stores_announcement : (sizes : Sizes) (process word : ℕ) (m n : Words) → Acted sizes (Store (Announcement process) word) m n → AnnouncementStored sizes m n process word
-stores_announcement sizes process word m n a = record { here = a.here; elsewhere = λ o lo ne. a.elsewhere (Announcement o) lo (λ e. ne (ap announcer_of e)) }
+pub stores_announcement : (sizes : Sizes) (process word : ℕ) (m n : Words) → Acted sizes (Store (Announcement process) word) m n
+    → AnnouncementStored sizes m n process word
+stores_announcement sizes process word m n a = record {
+  here = a.here;
+  elsewhere = λ o lo ne. a.elsewhere (Announcement o) lo (λ e. ne cc);
+}

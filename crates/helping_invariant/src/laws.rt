@@ -1,6 +1,7 @@
 //! The opening meets the parts of helping and each step keeps them. Each law is the contract of a call that
 //! does nothing.
-ghost use Rattle.helping_invariant.specs.Laws.{OpeningMeetsHelping, StepsKeepHelping, BeginningsKeepHelping, InstallsPresent, TransfersAreAnswered, TwoTriesApply, AllButOneApplied};
+ghost use Rattle.helping_invariant.specs.Laws.{OpeningMeetsHelping, StepsKeepHelping, BeginningsKeepHelping};
+ghost use Rattle.helping_invariant.specs.Laws.{InstallsPresent, TransfersAreAnswered, TwoTriesApply, AllButOneApplied};
 
 /// The words and views of the opening meet the parts of helping.
 pub fn opening()

@@ -13,7 +13,7 @@ use Rattle.history_invariant.specs.Ledger.{Ledger}
 use Rattle.history_invariant.specs.Fits.{CountsEntries, LedgerFits}
 use Rattle.history_invariant.specs.Steps.{got_one, got_none, gave_back}
 use Rattle.history_invariant.specs.Grips.{Balances}
-use Rattle.history_invariant.proofs.Totals.{length_without, times_contained}
+use Rattle.history_invariant.proofs.Times.{length_without, times_contained}
 use Rattle.history_invariant.proofs.Shared.{Shared, gots_more, backs_more}
 use Rattle.history_invariant.proofs.Fitting.{KeepsTransfer, Owes}
 use Rattle.history_invariant.proofs.Refusals.{refusal_may_follow, refusal_has_net}
@@ -35,7 +35,9 @@ back_keeps : (a : Account) → KeepsTransfer a (gave_back a)
 back_keeps a = let k = gave_keeps a in record { begun = refl; ended = refl; pending = k.pending; done = k.done; dry = k.dry }
 
 -- the account counts the entry
-got_counts : (a : Account) (entries : List Entry) (by block : ℕ) → CountsEntries a entries → CountsEntries (got_one a) (entries ++ Got by block ∷ [])
+got_counts : (a : Account) (entries : List Entry) (by block : ℕ)
+    → CountsEntries a entries
+    → CountsEntries (got_one a) (entries ++ Got by block ∷ [])
 got_counts a entries by block c = record {
   entries = omega (arith, c.entries, length-append entries (Got by block ∷ []));
   gots = omega (arith, c.gots, gots_more entries (Got by block));
@@ -49,7 +51,9 @@ none_counts a entries by c = record {
   backs = omega (arith, c.backs, backs_more entries (Dry by));
 }
 
-back_counts : (a : Account) (entries : List Entry) (by block : ℕ) → CountsEntries a entries → CountsEntries (gave_back a) (entries ++ Back by block ∷ [])
+back_counts : (a : Account) (entries : List Entry) (by block : ℕ)
+    → CountsEntries a entries
+    → CountsEntries (gave_back a) (entries ++ Back by block ∷ [])
 back_counts a entries by block c = record {
   entries = omega (arith, c.entries, length-append entries (Back by block ∷ []));
   gots = omega (arith, c.gots, gots_more entries (Back by block));
@@ -57,7 +61,9 @@ back_counts a entries by block c = record {
 }
 
 -- an allocate that is given a block
-pub got_owes : (limits : Limits) (bound quantum : ℕ) (history : List Entry) (i block : ℕ) (ledger : Ledger) → i < limits.processes → LedgerFits limits bound quantum history i ledger
+pub got_owes : (limits : Limits) (bound quantum : ℕ) (history : List Entry) (i block : ℕ) (ledger : Ledger)
+    → i < limits.processes
+    → LedgerFits limits bound quantum history i ledger
     → ledger.account.phase ≡ Own
     → source_of ledger.account.plan ≢ Nothing
     → block < limits.blocks
@@ -74,9 +80,12 @@ got_owes limits bound quantum history i block ledger lt f phase some low free = 
 -- a free: its process got more blocks than it gave back
 more_gots : (entries : List Entry) (block : ℕ) → Contains (grip entries) block → Balances entries
     → count_by is_back entries < count_by is_got entries
-more_gots entries block mine balance = omega (arith, balance, times_contained block (grip entries) mine, length_without block (grip entries))
+more_gots entries block mine balance =
+    omega (arith, balance, times_contained block (grip entries) mine, length_without block (grip entries))
 
-pub back_owes : (limits : Limits) (bound quantum : ℕ) (history : List Entry) (i block : ℕ) (ledger : Ledger) → i < limits.processes → Shared limits history
+pub back_owes : (limits : Limits) (bound quantum : ℕ) (history : List Entry) (i block : ℕ) (ledger : Ledger)
+    → i < limits.processes
+    → Shared limits history
     → LedgerFits limits bound quantum history i ledger
     → ledger.account.phase ≡ Own
     → Contains (grip ledger.entries) block
@@ -92,7 +101,8 @@ back_owes limits bound quantum history i block ledger lt shared f phase mine =
     }
 
 -- a refusal
-pub refusal_owes : (limits : Limits) (bound quantum : ℕ) (history : List Entry) (i : ℕ) (ledger : Ledger) → AreSizes limits.batch_length bound quantum
+pub refusal_owes : (limits : Limits) (bound quantum : ℕ) (history : List Entry) (i : ℕ) (ledger : Ledger)
+    → AreSizes limits.batch_length bound quantum
     → i < limits.processes → LedgerFits limits bound quantum history i ledger
     → ledger.account.phase ≡ Own
     → source_of ledger.account.plan ≡ Nothing

@@ -20,7 +20,8 @@ pub seen_within : (history : List Entry) (i : ℕ) (ledger : Ledger) → SeesBeg
 seen_within history i ledger s = omega (arith, ap length s.beginning, length-take (length ledger.seen) history)
 
 -- own entries before a place
-own_split : (i place : ℕ) (history : List Entry) → length (own history i) ≡ length (own (take place history) i) + length (own (drop place history) i)
+own_split : (i place : ℕ) (history : List Entry)
+    → length (own history i) ≡ length (own (take place history) i) + length (own (drop place history) i)
 own_split i place history = omega (
   arith,
   ap (λ entries. length (own entries i)) (take-append-drop place history),
@@ -28,15 +29,22 @@ own_split i place history = omega (
   length-append (own (take place history) i) (own (drop place history) i),
 )
 
-pub own_rises : (i first later : ℕ) (history : List Entry) → first ≤ later → length (own (take first history) i) ≤ length (own (take later history) i)
-own_rises i first later history le = omega (arith, own_split i first (take later history), ap (λ entries. length (own entries i)) (take-take first later history le))
+pub own_rises : (i first later : ℕ) (history : List Entry)
+    → first ≤ later
+    → length (own (take first history) i) ≤ length (own (take later history) i)
+own_rises i first later history le =
+    omega (arith, own_split i first (take later history), ap (λ entries. length (own entries i)) (take-take first later history le))
 
 -- the number of own entries after a later place
-pub own_since : (i first later : ℕ) (history : List Entry) → first ≤ later → length (own (drop later history) i) + length (own (take first history) i) ≤ length (own history i)
+pub own_since : (i first later : ℕ) (history : List Entry)
+    → first ≤ later
+    → length (own (drop later history) i) + length (own (take first history) i) ≤ length (own history i)
 own_since i first later history le = omega (arith, own_split i later history, own_rises i first later history le)
 
 -- one entry more
-few_more : (limits : Limits) (history : List Entry) (entry : Entry) (start : ℕ) → HadFewSince limits history start → HadFewSince limits (history ++ entry ∷ []) start
+few_more : (limits : Limits) (history : List Entry) (entry : Entry) (start : ℕ)
+    → HadFewSince limits history start
+    → HadFewSince limits (history ++ entry ∷ []) start
 few_more limits history entry start h = record {
   place = h.place;
   after = h.after;
@@ -55,27 +63,39 @@ pub record KeepsTransfer (a b : Account) : Type 0 where
 keeps_same : (a : Account) → KeepsTransfer a a
 keeps_same a = record { begun = refl; ended = refl; pending = refl; done = refl; dry = refl }
 
-places_more : (history : List Entry) (entry : Entry) (i : ℕ) (old new : Ledger) → new.begun_place ≡ old.begun_place → new.ended_place ≡ old.ended_place
+places_more : (history : List Entry) (entry : Entry) (i : ℕ) (old new : Ledger)
+    → new.begun_place ≡ old.begun_place
+    → new.ended_place ≡ old.ended_place
     → KeepsTransfer old.account new.account → KeepsPlaces history i old → KeepsPlaces (history ++ entry ∷ []) i new
 places_more history entry i old new b e k p = record {
   begun_within = omega (arith, b, p.begun_within, length-append history (entry ∷ []));
-  begun_here = λ announced. rw b (rw (take-append-le old.begun_place history (entry ∷ []) p.begun_within) (p.begun_here (rw k.done at announced) ∙ sym k.begun));
+  begun_here =
+      λ announced. rw b
+      (rw (take-append-le old.begun_place history (entry ∷ []) p.begun_within) (p.begun_here (rw k.done at announced) ∙ sym k.begun));
   ended_within = omega (arith, e, p.ended_within, length-append history (entry ∷ []));
   ended_here = rw e (rw (take-append-le old.ended_place history (entry ∷ []) p.ended_within) (p.ended_here ∙ sym k.ended));
 }
 
-found_more : (limits : Limits) (history : List Entry) (entry : Entry) (old new : Ledger) → new.begun_place ≡ old.begun_place → new.ended_place ≡ old.ended_place
+found_more : (limits : Limits) (history : List Entry) (entry : Entry) (old new : Ledger)
+    → new.begun_place ≡ old.begun_place
+    → new.ended_place ≡ old.ended_place
     → new.found_nothing ≡ old.found_nothing
     → KeepsTransfer old.account new.account
     → FoundFew limits history old
     → FoundFew limits (history ++ entry ∷ []) new
 found_more limits history entry old new b e n k f = record {
-  pending = λ taking announced nothing. rw b (few_more limits history entry old.begun_place (f.pending (rw k.pending at taking) (rw k.done at announced) (sym n ∙ nothing)));
+  pending =
+      λ taking announced nothing. rw b
+      (few_more limits history entry old.begun_place
+      (f.pending (rw k.pending at taking) (rw k.done at announced) (sym n ∙ nothing)));
   dry = λ dry. rw e (few_more limits history entry old.ended_place (f.dry (sym k.dry ∙ dry)));
 }
 
 -- another's entry
-sees_other : (history : List Entry) (entry : Entry) (i : ℕ) (ledger : Ledger) → i ≢ process_of entry → SeesBeginning history i ledger → SeesBeginning (history ++ entry ∷ []) i ledger
+sees_other : (history : List Entry) (entry : Entry) (i : ℕ) (ledger : Ledger)
+    → i ≢ process_of entry
+    → SeesBeginning history i ledger
+    → SeesBeginning (history ++ entry ∷ []) i ledger
 sees_other history entry i ledger ne s = record {
   own_entries = own_other history entry i (λ e. ne (sym e)) ∙ s.own_entries;
   own_seen = s.own_seen;
@@ -93,7 +113,9 @@ fits_other limits bound quantum history entry i ledger ne f = record {
 }
 
 -- the own entry
-sees_own : (history : List Entry) (entry : Entry) (i : ℕ) (account : Account) (ledger : Ledger) → process_of entry ≡ i → SeesBeginning history i ledger
+sees_own : (history : List Entry) (entry : Entry) (i : ℕ) (account : Account) (ledger : Ledger)
+    → process_of entry ≡ i
+    → SeesBeginning history i ledger
     → SeesBeginning (history ++ entry ∷ []) i (entered history entry account ledger)
 sees_own history entry i account ledger mine s = record {
   own_entries = own_more history entry i mine ∙ ap (λ entries. entries ++ entry ∷ []) s.own_entries;
@@ -102,14 +124,16 @@ sees_own history entry i account ledger mine s = record {
 }
 
 -- what a process's own step owes
-pub record Owes (limits : Limits) (bound quantum : ℕ) (history : List Entry) (entry : Entry) (account : Account) (ledger : Ledger) : Type 0 where
+pub record Owes (limits : Limits) (bound quantum : ℕ) (history : List Entry) (entry : Entry) (account : Account) (ledger : Ledger)
+    : Type 0 where
   pub may : MayFollow limits history entry
   pub net : HasNet limits history entry
   pub reached : Reached limits.batch_length bound quantum account
   pub counts : CountsEntries account (ledger.entries ++ entry ∷ [])
   pub keeps : KeepsTransfer ledger.account account
 
-fits_own : (limits : Limits) (bound quantum : ℕ) (history : List Entry) (entry : Entry) (i : ℕ) (account : Account) (ledger : Ledger) → process_of entry ≡ i
+fits_own : (limits : Limits) (bound quantum : ℕ) (history : List Entry) (entry : Entry) (i : ℕ) (account : Account) (ledger : Ledger)
+    → process_of entry ≡ i
     → Owes limits bound quantum history entry account ledger
     → LedgerFits limits bound quantum history i ledger
     → LedgerFits limits bound quantum (history ++ entry ∷ []) i (entered history entry account ledger)
@@ -122,7 +146,9 @@ fits_own limits bound quantum history entry i account ledger mine o f = record {
 }
 
 -- an entry keeps the history
-pub entry_kept : (limits : Limits) (bound quantum : ℕ) (history : List Entry) (ledgers after : Ledgers) (entry : Entry) (i : ℕ) (account : Account) → i < limits.processes
+pub entry_kept : (limits : Limits) (bound quantum : ℕ) (history : List Entry) (ledgers after : Ledgers)
+    (entry : Entry) (i : ℕ) (account : Account)
+    → i < limits.processes
     → HistoryHolds limits bound quantum history ledgers
     → process_of entry ≡ i
     → Owes limits bound quantum history entry account (ledgers i)
@@ -138,7 +164,8 @@ entry_kept limits bound quantum history ledgers after entry i account lt h mine 
 }
 
 -- a step that makes no entry keeps the history
-pub step_kept : (limits : Limits) (bound quantum : ℕ) (history : List Entry) (ledgers after : Ledgers) (i : ℕ) (ledger : Ledger) → i < limits.processes
+pub step_kept : (limits : Limits) (bound quantum : ℕ) (history : List Entry) (ledgers after : Ledgers) (i : ℕ) (ledger : Ledger)
+    → i < limits.processes
     → HistoryHolds limits bound quantum history ledgers
     → LedgerFits limits bound quantum history i ledger
     → ledger.seen ≡ (ledgers i).seen

@@ -114,13 +114,18 @@ no_quanta quantum made entries begun few none le = elim (cases_eq (entries - beg
   | inr some ↦ absurd (omega (arith, times_le quantum 1 (entries - begun) (omega arith)))
 ]
 
-just_begun : (length bound quantum : ℕ) (a : Account) (made : ℕ) → AreSizes length bound quantum → Reached length bound quantum a → a.phase ≡ Moving made
+just_begun : (length bound quantum : ℕ) (a : Account) (made : ℕ)
+    → AreSizes length bound quantum
+    → Reached length bound quantum a
+    → a.phase ≡ Moving made
     → a.plan.done ≡ 0 → a.entries ≡ a.begun
 just_begun length bound quantum a made sizes r moving none =
     let k : CountsSteps a = stands_counts a (reached_stands length bound quantum a sizes r) in
-    no_quanta a.plan.quantum made a.entries a.begun (k.few made moving) (sym none ∙ k.done made moving) (begun_before length bound quantum a r)
+    no_quanta a.plan.quantum made a.entries a.begun (k.few made moving) (sym none ∙ k.done made moving)
+    (begun_before length bound quantum a r)
 
-announces_fits : (limits : Limits) (bound quantum : ℕ) (history : List Entry) (i : ℕ) (ledger : Ledger) (made : ℕ) → AreSizes limits.batch_length bound quantum
+announces_fits : (limits : Limits) (bound quantum : ℕ) (history : List Entry) (i : ℕ) (ledger : Ledger) (made : ℕ)
+    → AreSizes limits.batch_length bound quantum
     → LedgerFits limits bound quantum history i ledger
     → ledger.account.phase ≡ Moving made
     → ledger.account.plan.done ≡ 0
@@ -146,7 +151,8 @@ announces_fits limits bound quantum history i ledger made sizes f moving none lo
     apart e = cc
 
 -- a later step of the transfer
-moves_fits : (limits : Limits) (bound quantum : ℕ) (history : List Entry) (i : ℕ) (ledger : Ledger) (made : ℕ) → LedgerFits limits bound quantum history i ledger
+moves_fits : (limits : Limits) (bound quantum : ℕ) (history : List Entry) (i : ℕ) (ledger : Ledger) (made : ℕ)
+    → LedgerFits limits bound quantum history i ledger
     → ledger.account.phase ≡ Moving made
     → IsAnnounced ledger.account
     → ledger.account.plan.done + 1 < ledger.account.plan.bound
@@ -155,7 +161,12 @@ moves_fits limits bound quantum history i ledger made f moving sent low = record
   reached = follows f.reached (moves made moving low);
   counts = record { entries = f.counts.entries; gots = f.counts.gots; backs = f.counts.backs };
   sees = record { own_entries = f.sees.own_entries; own_seen = f.sees.own_seen; beginning = f.sees.beginning };
-  places = record { begun_within = f.places.begun_within; begun_here = λ some. f.places.begun_here sent; ended_within = f.places.ended_within; ended_here = f.places.ended_here };
+  places = record {
+    begun_within = f.places.begun_within;
+    begun_here = λ some. f.places.begun_here sent;
+    ended_within = f.places.ended_within;
+    ended_here = f.places.ended_here;
+  };
   found = record { pending = λ taking some nothing. f.found.pending taking sent nothing; dry = f.found.dry };
 }
 
@@ -175,19 +186,22 @@ ended_within : (history : List Entry) (begun_place ended_place : ℕ) (t : Bool)
 ended_within history begun_place ended_place true b e = b
 ended_within history begun_place ended_place false b e = e
 
-ended_here : (history : List Entry) (i begun_place ended_place begun ended : ℕ) (t : Bool) → length (own (take begun_place history) i) ≡ begun
+ended_here : (history : List Entry) (i begun_place ended_place begun ended : ℕ) (t : Bool)
+    → length (own (take begun_place history) i) ≡ begun
     → length (own (take ended_place history) i) ≡ ended
     → length (own (take (if t then begun_place else ended_place) history) i) ≡ (if t then begun else ended)
 ended_here history i begun_place ended_place begun ended true b e = b
 ended_here history i begun_place ended_place begun ended false b e = e
 
-ended_few : (limits : Limits) (history : List Entry) (begun_place ended_place : ℕ) (t : Bool) → (t ≡ true → HadFewSince limits history begun_place)
+ended_few : (limits : Limits) (history : List Entry) (begun_place ended_place : ℕ) (t : Bool)
+    → (t ≡ true → HadFewSince limits history begun_place)
     → (t ≡ false → HadFewSince limits history ended_place)
     → HadFewSince limits history (if t then begun_place else ended_place)
 ended_few limits history begun_place ended_place true b e = b refl
 ended_few limits history begun_place ended_place false b e = e refl
 
-ends_fits : (limits : Limits) (bound quantum : ℕ) (history : List Entry) (i : ℕ) (ledger : Ledger) (made : ℕ) (found : Bool) → LedgerFits limits bound quantum history i ledger
+ends_fits : (limits : Limits) (bound quantum : ℕ) (history : List Entry) (i : ℕ) (ledger : Ledger) (made : ℕ) (found : Bool)
+    → LedgerFits limits bound quantum history i ledger
     → ledger.account.phase ≡ Moving made
     → IsAnnounced ledger.account
     → ledger.account.plan.done + 1 ≤ ledger.account.plan.bound
@@ -203,8 +217,10 @@ ends_fits limits bound quantum history i ledger made found f moving sent low giv
       places = record {
         begun_within = f.places.begun_within;
         begun_here = λ some. f.places.begun_here sent;
-        ended_within = ended_within history ledger.begun_place ledger.ended_place (is_taking x.pending) f.places.begun_within f.places.ended_within;
-        ended_here = ended_here history i ledger.begun_place ledger.ended_place ledger.account.begun ledger.account.ended (is_taking x.pending)
+        ended_within =
+            ended_within history ledger.begun_place ledger.ended_place (is_taking x.pending) f.places.begun_within f.places.ended_within;
+        ended_here =
+            ended_here history i ledger.begun_place ledger.ended_place ledger.account.begun ledger.account.ended (is_taking x.pending)
             (f.places.begun_here sent) f.places.ended_here;
       };
       found = record {
@@ -216,11 +232,15 @@ ends_fits limits bound quantum history i ledger made found f moving sent low giv
     }
 
 -- each step
-pub going_fits : (limits : Limits) (bound quantum : ℕ) (history : List Entry) (i : ℕ) (old new : Ledger) → AreSizes limits.batch_length bound quantum
+pub going_fits : (limits : Limits) (bound quantum : ℕ) (history : List Entry) (i : ℕ) (old new : Ledger)
+    → AreSizes limits.batch_length bound quantum
     → LedgerFits limits bound quantum history i old → GoesOn old new → LedgerFits limits bound quantum history i new
-going_fits limits bound quantum history i old new sizes f (steps.begins account between next) = begins_fits limits bound quantum history i old account f between next
-going_fits limits bound quantum history i old new sizes f (steps.announces made moving none long) = announces_fits limits bound quantum history i old made sizes f moving none long
-going_fits limits bound quantum history i old new sizes f (steps.moves made moving sent low) = moves_fits limits bound quantum history i old made f moving sent low
+going_fits limits bound quantum history i old new sizes f (steps.begins account between next) =
+    begins_fits limits bound quantum history i old account f between next
+going_fits limits bound quantum history i old new sizes f (steps.announces made moving none long) =
+    announces_fits limits bound quantum history i old made sizes f moving none long
+going_fits limits bound quantum history i old new sizes f (steps.moves made moving sent low) =
+    moves_fits limits bound quantum history i old made f moving sent low
 going_fits limits bound quantum history i old new sizes f (steps.ends made found moving sent low gives nothing) =
     ends_fits limits bound quantum history i old made found f moving sent low gives nothing
 

@@ -4,11 +4,16 @@ use Rattle.std.specs.List.{Contains}
 use Rattle.std.proofs.lemmas.Bool.Decides.{nat_tests}
 use Rattle.pool_model.specs.Limits.{Limits}
 use Rattle.pool_model.proofs.Members.{contains_cons_cases, contains_nil, contains_without}
-use Rattle.history_invariant.specs.Grips.{times, total, GripsAreHeld}
-use Rattle.history_invariant.proofs.Totals.{total_same, total_moved, total_part, total_none, times_push, times_without, length_without, times_contained, times_none}
+use Rattle.process_sums.specs.Sums.{total}
+use Rattle.process_sums.proofs.Sums.{total_same, total_moved, term_of_total, total_none}
+use Rattle.history_invariant.specs.Grips.{times, GripsAreHeld}
+use Rattle.history_invariant.proofs.Times.{times_push, times_without, length_without, times_contained, times_none}
 
 -- a block that nobody holds comes to one grip
-pub grips_got : (limits : Limits) (i block : ℕ) (blocks : List ℕ) (grips new : ℕ → List ℕ) → i < limits.processes → block < limits.blocks → ¬ Contains blocks block
+pub grips_got : (limits : Limits) (i block : ℕ) (blocks : List ℕ) (grips new : ℕ → List ℕ)
+    → i < limits.processes
+    → block < limits.blocks
+    → ¬ Contains blocks block
     → GripsAreHeld limits blocks grips
     → new i ≡ block ∷ grips i
     → ((o : ℕ) → o < limits.processes → o ≢ i → new o ≡ grips o)
@@ -23,22 +28,40 @@ grips_got limits i block blocks grips new lt low out g hit miss = record {
     ap (times c) hit ∙ times_push c block (grips i),
     total_moved limits.processes i (λ o. times c (grips o)) (λ o. times c (new o)) lt (λ o lo ne. ap (times c) (miss o lo ne)),
   );
-  count = omega (arith, g.count, ap length hit, total_moved limits.processes i (λ o. length (grips o)) (λ o. length (new o)) lt (λ o lo ne. ap length (miss o lo ne)));
+  count = omega (
+    arith,
+    g.count,
+    ap length hit,
+    total_moved limits.processes i (λ o. length (grips o)) (λ o. length (new o)) lt (λ o lo ne. ap length (miss o lo ne)),
+  );
   below = λ c there. elim (contains_cons_cases c block blocks there) [ inl e ↦ omega (arith, e, low) | inr old ↦ g.below c old ];
 }
   where
-    once_more : (block c here there all : ℕ) → here ≡ 0 → (c ≡ block → there ≡ here) → all ≡ cond (block == c) 1 0 + there → there ≤ 1 → all ≤ 1
+    once_more : (block c here there all : ℕ)
+        → here ≡ 0
+        → (c ≡ block → there ≡ here)
+        → all ≡ cond (block == c) 1 0 + there
+        → there ≤ 1
+        → all ≤ 1
     once_more block c here there all none same e few = grind (arith, nat_tests)
 
 -- a block leaves a grip
-pub grip_once : (limits : Limits) (i block : ℕ) (blocks : List ℕ) (grips : ℕ → List ℕ) → i < limits.processes → GripsAreHeld limits blocks grips → times block (grips i) ≤ 1
-grip_once limits i block blocks grips lt g = omega (arith, g.once block, g.parts block, total_part limits.processes i (λ o. times block (grips o)) lt)
+pub grip_once : (limits : Limits) (i block : ℕ) (blocks : List ℕ) (grips : ℕ → List ℕ)
+    → i < limits.processes
+    → GripsAreHeld limits blocks grips
+    → times block (grips i) ≤ 1
+grip_once limits i block blocks grips lt g =
+    omega (arith, g.once block, g.parts block, term_of_total limits.processes i (λ o. times block (grips o)) lt)
 
-pub grip_all : (limits : Limits) (i block : ℕ) (blocks : List ℕ) (grips : ℕ → List ℕ) → i < limits.processes → GripsAreHeld limits blocks grips
+pub grip_all : (limits : Limits) (i block : ℕ) (blocks : List ℕ) (grips : ℕ → List ℕ)
+    → i < limits.processes
+    → GripsAreHeld limits blocks grips
     → times block (grips i) ≤ times block blocks
-grip_all limits i block blocks grips lt g = omega (arith, g.parts block, total_part limits.processes i (λ o. times block (grips o)) lt)
+grip_all limits i block blocks grips lt g = omega (arith, g.parts block, term_of_total limits.processes i (λ o. times block (grips o)) lt)
 
-pub grips_back : (limits : Limits) (i block : ℕ) (blocks : List ℕ) (grips new : ℕ → List ℕ) → i < limits.processes → Contains (grips i) block
+pub grips_back : (limits : Limits) (i block : ℕ) (blocks : List ℕ) (grips new : ℕ → List ℕ)
+    → i < limits.processes
+    → Contains (grips i) block
     → GripsAreHeld limits blocks grips
     → new i ≡ filter (λ other. not (other == block)) (grips i)
     → ((o : ℕ) → o < limits.processes → o ≢ i → new o ≡ grips o)
@@ -51,9 +74,12 @@ grips_back limits i block blocks grips new lt mine g hit miss =
     let one : times block (grips i) ≡ 1 = omega arith in
     let all : times block blocks ≡ 1 = omega arith in
     record {
-      once = λ c. once_less (c == block) (times c blocks) (times c (filter (λ other. not (other == block)) blocks)) (times_without block c blocks) (g.once c);
+      once =
+          λ c. once_less (c == block) (times c blocks) (times c (filter (λ other. not (other == block)) blocks))
+          (times_without block c blocks) (g.once c);
       parts = λ c. parts_less block c (times block (grips i)) (times block blocks) (times c (grips i)) (times c blocks)
-          (total limits.processes (λ o. times c (grips o))) (times c (new i)) (total limits.processes (λ o. times c (new o))) (times c (filter (λ other. not (other == block)) blocks))
+          (total limits.processes (λ o. times c (grips o))) (times c (new i)) (total limits.processes (λ o. times c (new o)))
+          (times c (filter (λ other. not (other == block)) blocks))
           one all (λ e. ap (λ k. times k (grips i)) e) (λ e. ap (λ k. times k blocks) e) (g.parts c)
           (ap (times c) hit ∙ times_without block c (grips i)) (times_without block c blocks)
           (total_moved limits.processes i (λ o. times c (grips o)) (λ o. times c (new o)) lt (λ o lo ne. ap (times c) (miss o lo ne)));
@@ -78,13 +104,18 @@ grips_back limits i block blocks grips new lt mine g hit miss =
         → (c ≡ block → mine ≡ mine_at) → (c ≡ block → all ≡ all_at) → all ≡ sum
         → mine_after ≡ cond (c == block) 0 mine → all_after ≡ cond (c == block) 0 all
         → sum_after + mine ≡ sum + mine_after → all_after ≡ sum_after
-    parts_less block c mine_at all_at mine all sum mine_after sum_after all_after one whole here everywhere parts e f moved = grind (arith, nat_tests)
+    parts_less block c mine_at all_at mine all sum mine_after sum_after all_after one whole here everywhere parts e f moved =
+        grind (arith, nat_tests)
 
 -- grips that stay
-pub grips_same : (limits : Limits) (blocks : List ℕ) (grips new : ℕ → List ℕ) → GripsAreHeld limits blocks grips → ((o : ℕ) → new o ≡ grips o) → GripsAreHeld limits blocks new
+pub grips_same : (limits : Limits) (blocks : List ℕ) (grips new : ℕ → List ℕ)
+    → GripsAreHeld limits blocks grips
+    → ((o : ℕ) → new o ≡ grips o)
+    → GripsAreHeld limits blocks new
 grips_same limits blocks grips new g same = record {
   once = g.once;
-  parts = λ c. g.parts c ∙ sym (total_same limits.processes (λ o. times c (grips o)) (λ o. times c (new o)) (λ o lo. ap (times c) (same o)));
+  parts =
+      λ c. g.parts c ∙ sym (total_same limits.processes (λ o. times c (grips o)) (λ o. times c (new o)) (λ o lo. ap (times c) (same o)));
   count = g.count ∙ sym (total_same limits.processes (λ o. length (grips o)) (λ o. length (new o)) (λ o lo. ap length (same o)));
   below = g.below;
 }
@@ -93,7 +124,7 @@ grips_same limits blocks grips new g same = record {
 pub grips_none : (limits : Limits) → GripsAreHeld limits [] (λ o. [])
 grips_none limits = record {
   once = λ block. omega arith;
-  parts = λ block. sym (total_none limits.processes (λ o. 0) (λ o. refl));
-  count = sym (total_none limits.processes (λ o. 0) (λ o. refl));
+  parts = λ block. sym (total_none limits.processes (λ o. 0) (λ o lo. refl));
+  count = sym (total_none limits.processes (λ o. 0) (λ o lo. refl));
   below = λ block there. absurd (contains_nil block there);
 }

@@ -1,4 +1,4 @@
-pub mod Totals
+pub mod Times
 pub mod Grips
 pub mod Shared
 pub mod Fitting

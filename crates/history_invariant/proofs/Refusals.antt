@@ -17,7 +17,9 @@ use Rattle.history_invariant.specs.Fits.{LedgerFits}
 use Rattle.history_invariant.proofs.Fitting.{own_since}
 
 -- the place of the last ended take lies in the window, and with it every later place
-in_window : (limits : Limits) (history : List Entry) (i ended_place entries ended : ℕ) → 2 ≤ limits.batch_length → length (own history i) ≡ entries
+in_window : (limits : Limits) (history : List Entry) (i ended_place entries ended : ℕ)
+    → 2 ≤ limits.batch_length
+    → length (own history i) ≡ entries
     → length (own (take ended_place history) i) ≡ ended → entries ≤ ended + (2 * limits.batch_length - 2)
     → (place : ℕ) → ended_place ≤ place → place ≤ length history → IsInWindow limits history i place
 in_window limits history i ended_place entries ended long all here soon place after within = record {
@@ -30,7 +32,8 @@ has_net : (a : Account) → IsSound a → source_of a.plan ≡ Nothing → 2 * a
 has_net a sound none = grind (arith, nat_tests, nothing_stock a.plan none)
 
 -- its refusal is legal
-pub refusal_may_follow : (limits : Limits) (bound quantum : ℕ) (history : List Entry) (i : ℕ) (ledger : Ledger) → AreSizes limits.batch_length bound quantum
+pub refusal_may_follow : (limits : Limits) (bound quantum : ℕ) (history : List Entry) (i : ℕ) (ledger : Ledger)
+    → AreSizes limits.batch_length bound quantum
     → i < limits.processes → LedgerFits limits bound quantum history i ledger
     → ledger.account.phase ≡ Own
     → source_of ledger.account.plan ≡ Nothing
@@ -44,17 +47,21 @@ refusal_may_follow limits bound quantum history i ledger sizes lt f phase none =
       lt,
       record {
         place = few.place;
-        in_window = in_window limits history i ledger.ended_place ledger.account.entries ledger.account.ended sizes.long all f.places.ended_here (rw (← same) soon.recent)
+        in_window =
+            in_window limits history i ledger.ended_place ledger.account.entries ledger.account.ended sizes.long all
+            f.places.ended_here (rw (← same) soon.recent)
             few.place few.after few.within;
         few = few.few;
       },
     )
 
-pub refusal_has_net : (limits : Limits) (bound quantum : ℕ) (history : List Entry) (i : ℕ) (ledger : Ledger) → AreSizes limits.batch_length bound quantum
+pub refusal_has_net : (limits : Limits) (bound quantum : ℕ) (history : List Entry) (i : ℕ) (ledger : Ledger)
+    → AreSizes limits.batch_length bound quantum
     → LedgerFits limits bound quantum history i ledger
     → source_of ledger.account.plan ≡ Nothing
     → HasNet limits history (Dry i)
 refusal_has_net limits bound quantum history i ledger sizes f none =
-    let enough = has_net ledger.account (stands_sound ledger.account (reached_stands limits.batch_length bound quantum ledger.account sizes f.reached)) none in
+    let stands = reached_stands limits.batch_length bound quantum ledger.account sizes f.reached in
+    let enough = has_net ledger.account (stands_sound ledger.account stands) none in
     let same = (reached_sizes limits.batch_length bound quantum ledger.account f.reached).0 in
     rw f.sees.own_entries (omega (arith, enough, same, f.counts.gots, f.counts.backs))

@@ -21,10 +21,15 @@ no_more front [] all e le = e ∙ append-nil front
 no_more front (entry ∷ rest) all e le = absurd (omega (arith, ap length e, length-append front (entry ∷ rest)))
 
 own_parts : (i place : ℕ) (history : List Entry) → own history i ≡ own (take place history) i ++ own (drop place history) i
-own_parts i place history = ap (λ entries. own entries i) (sym (take-append-drop place history)) ∙ filter-append (λ e. process_of e == i) (take place history) (drop place history)
+own_parts i place history =
+    ap (λ entries. own entries i) (sym (take-append-drop place history))
+    ∙ filter-append (λ e. process_of e == i) (take place history) (drop place history)
 
 -- a longer beginning of the history has all entries of the process too
-own_of_longer : (history : List Entry) (i place : ℕ) (ledger : Ledger) → SeesBeginning history i ledger → length ledger.seen ≤ place → own (take place history) i ≡ ledger.entries
+own_of_longer : (history : List Entry) (i place : ℕ) (ledger : Ledger)
+    → SeesBeginning history i ledger
+    → length ledger.seen ≤ place
+    → own (take place history) i ≡ ledger.entries
 own_of_longer history i place ledger s le =
     sym (no_more (own (take place history) i) (own (drop place history) i) (own history i) (own_parts i place history)
     (omega (
@@ -45,21 +50,29 @@ join_sees history i other mine theirs s t le = record {
   beginning = t.beginning;
 }
 
-join_fits : (limits : Limits) (bound quantum : ℕ) (history : List Entry) (i other : ℕ) (mine theirs : Ledger) → LedgerFits limits bound quantum history i mine
+join_fits : (limits : Limits) (bound quantum : ℕ) (history : List Entry) (i other : ℕ) (mine theirs : Ledger)
+    → LedgerFits limits bound quantum history i mine
     → SeesBeginning history other theirs → length mine.seen ≤ length theirs.seen
     → LedgerFits limits bound quantum history i (record mine { seen = theirs.seen })
 join_fits limits bound quantum history i other mine theirs f t le = record {
   reached = f.reached;
   counts = f.counts;
   sees = join_sees history i other mine theirs f.sees t le;
-  places = record { begun_within = f.places.begun_within; begun_here = f.places.begun_here; ended_within = f.places.ended_within; ended_here = f.places.ended_here };
+  places = record {
+    begun_within = f.places.begun_within;
+    begun_here = f.places.begun_here;
+    ended_within = f.places.ended_within;
+    ended_here = f.places.ended_here;
+  };
   found = record { pending = f.found.pending; dry = f.found.dry };
 }
 
 seen_whole : (history seen : List Entry) → take (length seen) history ≡ seen → length history ≤ length seen → seen ≡ history
 seen_whole history seen beginning le = sym beginning ∙ take_all (length seen) history le
 
-pub join_holds : (limits : Limits) (bound quantum : ℕ) (history : List Entry) (ledgers after : Ledgers) (i other : ℕ) → i < limits.processes → other < limits.processes
+pub join_holds : (limits : Limits) (bound quantum : ℕ) (history : List Entry) (ledgers after : Ledgers) (i other : ℕ)
+    → i < limits.processes
+    → other < limits.processes
     → HistoryHolds limits bound quantum history ledgers
     → length (ledgers i).seen ≤ length (ledgers other).seen
     → Replaced i (record (ledgers i) { seen = (ledgers other).seen }) ledgers after
@@ -67,7 +80,8 @@ pub join_holds : (limits : Limits) (bound quantum : ℕ) (history : List Entry) 
 join_holds limits bound quantum history ledgers after i other lt lo h le moved = record {
   legal = h.legal;
   each = λ o li. elim (cases_eq o i) [
-    | inl e ↦ rw e (rw moved.here (join_fits limits bound quantum history i other (ledgers i) (ledgers other) (h.each i lt) (sees other lo) le))
+    | inl e ↦
+        rw e (rw moved.here (join_fits limits bound quantum history i other (ledgers i) (ledgers other) (h.each i lt) (sees other lo) le))
     | inr ne ↦ rw (moved.elsewhere o ne) (h.each o li)
   ];
   longest = λ some. longest_after (h.longest some);
@@ -107,19 +121,24 @@ longer_of n history seen all false up down beginning l = record {
   most = λ i lt. elim (cases_eq i n) [ inl e ↦ rw e (down refl) | inr ne ↦ l.most i (omega arith) ];
 }
 
-longest_of : (n : ℕ) (history : List Entry) (seen : ℕ → List Entry) → ((i : ℕ) → i < n → take (length (seen i)) history ≡ seen i) → IsLongest n history seen (longest n seen)
+longest_of : (n : ℕ) (history : List Entry) (seen : ℕ → List Entry)
+    → ((i : ℕ) → i < n → take (length (seen i)) history ≡ seen i)
+    → IsLongest n history seen (longest n seen)
 unfolding longest
 longest_of zero history seen beginnings = record { beginning = refl; most = λ i lt. absurd (omega arith) }
 longest_of (suc n) history seen beginnings =
-    longer_of n history seen (longest n seen) (nat_lt (length (longest n seen)) (length (seen n))) (λ e. grind (arith, nat_tests)) (λ e. grind (arith, nat_tests))
+    longer_of n history seen (longest n seen) (nat_lt (length (longest n seen)) (length (seen n)))
+    (λ e. grind (arith, nat_tests)) (λ e. grind (arith, nat_tests))
     (beginnings n (omega arith)) (longest_of n history seen (λ i lt. beginnings i (omega arith)))
 
 -- the history is the longest that a process has seen
-pub longest_is_history : (limits : Limits) (bound quantum : ℕ) (history : List Entry) (ledgers : Ledgers) → HistoryHolds limits bound quantum history ledgers
+pub longest_is_history : (limits : Limits) (bound quantum : ℕ) (history : List Entry) (ledgers : Ledgers)
+    → HistoryHolds limits bound quantum history ledgers
     → longest limits.processes (λ i. (ledgers i).seen) ≡ history
 longest_is_history limits bound quantum history ledgers h = elim (cases_eq (length history) 0) [
   | inl none ↦ seen_whole history all l.beginning (omega arith)
-  | inr some ↦ let s = h.longest (omega arith) in seen_whole history all l.beginning (omega (arith, ap length s.all, l.most s.process s.one))
+  | inr some ↦
+      let s = h.longest (omega arith) in seen_whole history all l.beginning (omega (arith, ap length s.all, l.most s.process s.one))
 ]
   where
     all : List Entry

@@ -12,7 +12,7 @@ use Rattle.pool_model.specs.History.{process_of, own, held_after, held, grip, is
 use Rattle.pool_model.specs.Legal.{MayFollow, EachEntry, IsLegal}
 use Rattle.pool_model.proofs.Histories.{held_more, own_more, own_other}
 use Rattle.history_invariant.specs.Grips.{times, GripsAreHeld, Balances}
-use Rattle.history_invariant.proofs.Totals.{length_without, times_contained}
+use Rattle.history_invariant.proofs.Times.{length_without, times_contained}
 use Rattle.history_invariant.proofs.Grips.{grips_got, grips_back, grips_same, grips_none, grip_once}
 
 -- the grips of the processes after a history
@@ -25,7 +25,8 @@ pub record Shared (limits : Limits) (history : List Entry) : Type 0 where
   pub balance : (i : ℕ) → i < limits.processes → Balances (own history i)
 
 -- the grip of the process that makes an entry, and those of all others
-grip_more : (history : List Entry) (entry : Entry) → grips_of (history ++ entry ∷ []) (process_of entry) ≡ held_after (grips_of history (process_of entry)) entry
+grip_more : (history : List Entry) (entry : Entry)
+    → grips_of (history ++ entry ∷ []) (process_of entry) ≡ held_after (grips_of history (process_of entry)) entry
 grip_more history entry = ap held (own_more history entry (process_of entry) refl) ∙ held_more (own history (process_of entry)) entry
 
 grip_other : (history : List Entry) (entry : Entry) (o : ℕ) → o ≢ process_of entry → grips_of (history ++ entry ∷ []) o ≡ grips_of history o
@@ -46,25 +47,40 @@ shares_more limits history (Got by block) s may =
 shares_more limits history (Back by block) s may =
     grips_back limits by block (held history) (grips_of history) (grips_of (history ++ Back by block ∷ [])) may.0 may.1 s.grips
     (grip_more history (Back by block)) (λ o lo. grip_other history (Back by block) o)
-shares_more limits history (Dry by) s may = grips_same limits (held history) (grips_of history) (grips_of (history ++ Dry by ∷ [])) s.grips (grip_refused history by)
+shares_more limits history (Dry by) s may =
+    grips_same limits (held history) (grips_of history) (grips_of (history ++ Dry by ∷ [])) s.grips (grip_refused history by)
 
 -- how many of the entries gave a block or took one back
-pub gots_more : (entries : List Entry) (entry : Entry) → count_by is_got (entries ++ entry ∷ []) ≡ count_by is_got entries + cond (is_got entry) 1 0
+pub gots_more : (entries : List Entry) (entry : Entry)
+    → count_by is_got (entries ++ entry ∷ []) ≡ count_by is_got entries + cond (is_got entry) 1 0
 gots_more entries entry = sum_by_push (λ e. cond (is_got e) 1 0) entries entry
 
-pub backs_more : (entries : List Entry) (entry : Entry) → count_by is_back (entries ++ entry ∷ []) ≡ count_by is_back entries + cond (is_back entry) 1 0
+pub backs_more : (entries : List Entry) (entry : Entry)
+    → count_by is_back (entries ++ entry ∷ []) ≡ count_by is_back entries + cond (is_back entry) 1 0
 backs_more entries entry = sum_by_push (λ e. cond (is_back e) 1 0) entries entry
 
 -- the own entries of the process that makes the entry balance
 got_balances : (entries : List Entry) (by block : ℕ) → Balances entries → Balances (entries ++ Got by block ∷ [])
-got_balances entries by block b = omega (arith, b, gots_more entries (Got by block), backs_more entries (Got by block), ap length (held_more entries (Got by block)))
+got_balances entries by block b =
+    omega (arith, b, gots_more entries (Got by block), backs_more entries (Got by block), ap length (held_more entries (Got by block)))
 
-back_balances : (entries : List Entry) (by block : ℕ) → times block (held entries) ≡ 1 → Balances entries → Balances (entries ++ Back by block ∷ [])
-back_balances entries by block one b =
-    omega (arith, b, one, length_without block (held entries), gots_more entries (Back by block), backs_more entries (Back by block), ap length (held_more entries (Back by block)))
+back_balances : (entries : List Entry) (by block : ℕ)
+    → times block (held entries) ≡ 1
+    → Balances entries
+    → Balances (entries ++ Back by block ∷ [])
+back_balances entries by block one b = omega (
+  arith,
+  b,
+  one,
+  length_without block (held entries),
+  gots_more entries (Back by block),
+  backs_more entries (Back by block),
+  ap length (held_more entries (Back by block)),
+)
 
 dry_balances : (entries : List Entry) (by : ℕ) → Balances entries → Balances (entries ++ Dry by ∷ [])
-dry_balances entries by b = omega (arith, b, gots_more entries (Dry by), backs_more entries (Dry by), ap length (held_more entries (Dry by)))
+dry_balances entries by b =
+    omega (arith, b, gots_more entries (Dry by), backs_more entries (Dry by), ap length (held_more entries (Dry by)))
 
 mine_balances : (limits : Limits) (history : List Entry) (entry : Entry) → Shared limits history → MayFollow limits history entry
     → Balances (own history (process_of entry) ++ entry ∷ [])
@@ -84,9 +100,14 @@ balances_more limits history entry balances mine i lt = elim (cases_eq i (proces
 ]
 
 -- an entry that may follow keeps both
-shared_more : (limits : Limits) (history : List Entry) (entry : Entry) → Shared limits history → MayFollow limits history entry → Shared limits (history ++ entry ∷ [])
+shared_more : (limits : Limits) (history : List Entry) (entry : Entry)
+    → Shared limits history
+    → MayFollow limits history entry
+    → Shared limits (history ++ entry ∷ [])
 shared_more limits history entry s may = record {
-  grips = subst (λ blocks. GripsAreHeld limits blocks (grips_of (history ++ entry ∷ []))) (sym (held_more history entry)) (shares_more limits history entry s may);
+  grips =
+      subst (λ blocks. GripsAreHeld limits blocks (grips_of (history ++ entry ∷ []))) (sym (held_more history entry))
+      (shares_more limits history entry s may);
   balance = balances_more limits history entry s.balance (mine_balances limits history entry s may);
 }
 
@@ -99,12 +120,17 @@ some_at [] x default lt = absurd (omega arith)
 some_at (first ∷ rest) zero default lt = refl
 some_at (first ∷ rest) (suc x) default lt = some_at rest x default (omega arith)
 
-entry_at : (Fact : List Entry → Entry → Type 0) (history : List Entry) (x : ℕ) (default : Entry) → x < length history → EachEntry Fact history
+entry_at : (Fact : List Entry → Entry → Type 0) (history : List Entry) (x : ℕ) (default : Entry)
+    → x < length history
+    → EachEntry Fact history
     → Fact (take x history) (get_or history x default)
 entry_at Fact history x default lt each = rw (some_at history x default lt) at (each x)
 
 -- every legal history shares out its blocks
-shared_at : (limits : Limits) (history : List Entry) (place : ℕ) → place ≤ length history → IsLegal limits history → Shared limits (take place history)
+shared_at : (limits : Limits) (history : List Entry) (place : ℕ)
+    → place ≤ length history
+    → IsLegal limits history
+    → Shared limits (take place history)
 shared_at limits history zero le legal = shared_none limits
 shared_at limits history (suc place) le legal =
     subst (Shared limits) (sym (take-suc history place (Dry 0) (omega arith)))
@@ -112,4 +138,5 @@ shared_at limits history (suc place) le legal =
     (entry_at (MayFollow limits) history place (Dry 0) (omega arith) legal.follows))
 
 pub legal_shared : (limits : Limits) (history : List Entry) → IsLegal limits history → Shared limits history
-legal_shared limits history legal = subst (Shared limits) (take-length history) (shared_at limits history (length history) (omega arith) legal)
+legal_shared limits history legal =
+    subst (Shared limits) (take-length history) (shared_at limits history (length history) (omega arith) legal)

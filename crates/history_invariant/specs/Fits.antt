@@ -33,9 +33,11 @@ pub record HadFewSince (limits : Limits) (history : List Entry) (start : ℕ) : 
   pub within : place ≤ length history
   pub few : unheld limits history place ≤ slack limits
 
--- a take that found nothing had a moment since its announcement when few blocks were unheld: the pending one, and the last ended one where the plan says dry
+-- a take that found nothing had a moment since its announcement when few blocks were unheld: the pending one, and the last
+-- ended one where the plan says dry
 pub record FoundFew (limits : Limits) (history : List Entry) (ledger : Ledger) : Type 0 where
-  pub pending : is_taking ledger.account.plan.pending ≡ true → IsAnnounced ledger.account → ledger.found_nothing ≡ true → HadFewSince limits history ledger.begun_place
+  pub pending : is_taking ledger.account.plan.pending ≡ true → IsAnnounced ledger.account → ledger.found_nothing ≡ true
+      → HadFewSince limits history ledger.begun_place
   pub dry : ledger.account.plan.dry ≡ true → HadFewSince limits history ledger.ended_place
 
 -- the ledger of process i fits the history

@@ -1,18 +1,14 @@
 -- how the held blocks are shared out among the processes
-use Rattle.std.specs.Prelude.{◌≡◌, ℕ, zero, suc, ◌+◌, ◌<◌, ◌≤◌, ◌==◌, List, length, count_by, Contains}
+use Rattle.std.specs.Prelude.{◌≡◌, ℕ, ◌+◌, ◌<◌, ◌≤◌, ◌==◌, List, length, count_by, Contains}
 use Rattle.pool_model.specs.Limits.{Limits}
 use Rattle.pool_model.specs.declared.entry.Entry.{Entry}
 use Rattle.pool_model.specs.History.{held, grip, is_got, is_back}
+use Rattle.process_sums.specs.Sums.{total}
 use Rattle.history_invariant.specs.Ledger.{Ledgers}
 
 -- how often the block stands in the list
 abbrev pub times : ℕ → List ℕ → ℕ
 times block blocks = count_by (λ other. other == block) blocks
-
--- the sum of a number of each process
-unfoldable pub total : ℕ → (ℕ → ℕ) → ℕ
-total zero number = 0
-total (suc process) number = total process number + number process
 
 -- as many blocks were got as were given back or are still held
 abbrev pub Balances : List Entry → Type 0

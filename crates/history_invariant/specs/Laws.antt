@@ -8,10 +8,11 @@ use Rattle.pool_model.specs.Legal.{IsLegal}
 use Rattle.transfer_schedule.specs.declared.own_step.Source.TheVariants.{Nothing}
 use Rattle.transfer_schedule.specs.Numbers.{AreSizes, source_of, withheld}
 use Rattle.transfer_schedule.specs.Account.{Own}
+use Rattle.process_sums.specs.Sums.{total}
 use Rattle.history_invariant.specs.Ledger.{Ledger, Ledgers, opening_ledger}
 use Rattle.history_invariant.specs.Holds.{HistoryHolds}
 use Rattle.history_invariant.specs.Steps.{GoesOn, Emptied, Replaced, entered, got_one, got_none, gave_back}
-use Rattle.history_invariant.specs.Grips.{total, SharesOut}
+use Rattle.history_invariant.specs.Grips.{SharesOut}
 use Rattle.history_invariant.specs.Longest.{longest}
 
 -- the empty history is that of the opening

@@ -21,7 +21,14 @@ Ledgers = ℕ → Ledger
 
 -- the ledger of a process at the opening of its pool
 abbrev pub opening_ledger : ℕ → ℕ → ℕ → Ledger
-opening_ledger length bound quantum = record { account = opened length bound quantum; entries = []; seen = []; begun_place = 0; ended_place = 0; found_nothing = false }
+opening_ledger length bound quantum = record {
+  account = opened length bound quantum;
+  entries = [];
+  seen = [];
+  begun_place = 0;
+  ended_place = 0;
+  found_nothing = false;
+}
 
 -- the pending transfer is announced: that is its first step
 abbrev pub IsAnnounced : Account → Type 0

@@ -3,29 +3,10 @@ use Rattle.std.specs.Prelude.{◌≡◌, ◌≢◌, ◌==◌, ℕ, ◌+◌, ◌<
 use Rattle.pool_model.specs.declared.entry.Entry.{Entry}
 use Rattle.pool_model.specs.Limits.{Limits, slack}
 use Rattle.pool_model.specs.History.{unheld}
-use Rattle.transfer_schedule.specs.Numbers.{is_taking, is_giving, after_steps, after_end, after_took_one, after_gave_one}
-use Rattle.transfer_schedule.specs.Account.{Account, Between, Moving, Own, after_move, Follows}
+use Rattle.transfer_schedule.specs.Numbers.{is_taking, is_giving}
+pub use Rattle.transfer_schedule.specs.Account.{stepped, ended_with, got_one, got_none, gave_back}
+use Rattle.transfer_schedule.specs.Account.{Account, Between, Moving, Follows}
 use Rattle.history_invariant.specs.Ledger.{Ledger, Ledgers, IsAnnounced}
-
--- the account after a step of the transfer that goes on, the present call having made so many before
-abbrev pub stepped : ℕ → Account → Account
-stepped made a = record a { plan = after_steps 1 a.plan; phase = after_move a.plan.quantum made }
-
--- the account after the last step of the transfer
-abbrev pub ended_with : Bool → Account → Account
-ended_with found a = record a { plan = after_end found (after_steps 1 a.plan); phase = Own; ended = if is_taking a.plan.pending then a.begun else a.ended }
-
--- the account after an allocate that was given a block
-abbrev pub got_one : Account → Account
-got_one a = record a { plan = after_took_one a.plan; phase = Between; entries = a.entries + 1; gots = a.gots + 1 }
-
--- the account after an allocate that was refused
-abbrev pub got_none : Account → Account
-got_none a = record a { plan = after_took_one a.plan; phase = Between; entries = a.entries + 1 }
-
--- the account after a free
-abbrev pub gave_back : Account → Account
-gave_back a = record a { plan = after_gave_one a.plan; phase = Between; entries = a.entries + 1; backs = a.backs + 1 }
 
 -- the ledger when the transfer is announced: its place is kept, and what a take of it finds is still open
 abbrev pub announced : ℕ → Ledger → Ledger
@@ -41,9 +22,13 @@ ended found ledger = record ledger {
 -- one step of a process that makes no entry leads from its ledger to the next
 pub data GoesOn (ledger : Ledger) : Ledger → Type 0 where
   -- a call begins, with a transfer or without
-  begins : (account : Account) → ledger.account.phase ≡ Between → Follows ledger.account account → GoesOn ledger (record ledger { account = account })
+  begins : (account : Account) → ledger.account.phase ≡ Between → Follows ledger.account account
+      → GoesOn ledger (record ledger { account = account })
   -- the first step of the transfer announces it
-  announces : (made : ℕ) → ledger.account.phase ≡ Moving made → ledger.account.plan.done ≡ 0 → 1 < ledger.account.plan.bound → GoesOn ledger (announced made ledger)
+  announces : (made : ℕ) → ledger.account.phase ≡ Moving made
+      → ledger.account.plan.done ≡ 0
+      → 1 < ledger.account.plan.bound
+      → GoesOn ledger (announced made ledger)
   -- a later step of the transfer, which goes on
   moves : (made : ℕ) → ledger.account.phase ≡ Moving made
       → IsAnnounced ledger.account
@@ -60,11 +45,16 @@ pub data GoesOn (ledger : Ledger) : Ledger → Type 0 where
 -- what an exchange of the state makes of a ledger: nothing, or its take has found nothing, at a moment when few blocks are unheld
 pub data Emptied (limits : Limits) (history : List Entry) (ledger : Ledger) : Ledger → Type 0 where
   stays : Emptied limits history ledger ledger
-  empties : unheld limits history (length history) ≤ slack limits → Emptied limits history ledger (record ledger { found_nothing = true })
+  empties : unheld limits history (length history) ≤ slack limits
+      → Emptied limits history ledger (record ledger { found_nothing = true })
 
 -- the process makes an entry, and so has seen the whole history
 abbrev pub entered : List Entry → Entry → Account → Ledger → Ledger
-entered history entry account ledger = record ledger { account = account; entries = ledger.entries ++ entry ∷ []; seen = history ++ entry ∷ [] }
+entered history entry account ledger = record ledger {
+  account = account;
+  entries = ledger.entries ++ entry ∷ [];
+  seen = history ++ entry ∷ [];
+}
 
 -- the ledger of process i becomes another, all others stay
 pub record Replaced (i : ℕ) (ledger : Ledger) (ledgers after : Ledgers) : Type 0 where

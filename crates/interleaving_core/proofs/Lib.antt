@@ -1,4 +1,5 @@
 pub mod FirstPlaces
+pub mod Exchanges
 pub mod Standing
 pub mod Begins
 pub mod Opens

@@ -1,19 +1,18 @@
 -- the invariant of the machine: its parts, gathered
 use Rattle.std.specs.Prelude.{◌≡◌, ℕ, ◌<◌, ◌==◌, Bool, true, if◌then◌else◌, Option, Some, List, Contains}
-use Rattle.word_layout.specs.Sizes.{Sizes, blocks, transfer_bound}
+use Rattle.word_layout.specs.Sizes.{Sizes, transfer_bound, limits_of}
 use Rattle.word_layout.specs.Names.{word_at}
 use Rattle.word_layout.specs.Packing.{reply_of}
 use Rattle.word_layout.specs.declared.name.WordName.TheVariants.{Data}
 use Rattle.word_layout.specs.declared.reply.Reply.TheVariants.{Nothing}
 use Rattle.pool_model.specs.declared.entry.Entry.{Entry}
-use Rattle.pool_model.specs.Limits.{Limits}
 use Rattle.pool_model.specs.History.{own, grip}
 use Rattle.transfer_machine.specs.States.{StackState}
 use Rattle.transfer_machine.specs.Tries.{is_take}
-use Rattle.transfer_machine.specs.declared.call.Call.{Call}
-use Rattle.transfer_machine.specs.declared.call.Call.TheVariants.{Allocate, Free, Read, Write}
+use Rattle.pool_machine.specs.declared.call.Call.{Call}
+use Rattle.pool_machine.specs.declared.call.Call.TheVariants.{Allocate, Free, Read, Write}
 use Rattle.transfer_machine.specs.declared.transfer.TransferView.{TransferView}
-use Rattle.transfer_machine.specs.declared.view.ProcessView.{ProcessView}
+use Rattle.pool_machine.specs.declared.view.ProcessView.{ProcessView}
 use Rattle.transfer_invariant.specs.Memory.{Words, States, state_tag}
 use Rattle.transfer_invariant.specs.Progress.{has_announced}
 use Rattle.stack_invariant.specs.Stack.{StackHolds}
@@ -38,13 +37,14 @@ pub record Ghosts : Type 0 where
 abbrev pub held_in : Ledgers → ℕ → List ℕ
 held_in ledgers i = grip (ledgers i).entries
 
--- the numbers by which a history of a shape is judged
-abbrev pub limits_of : Sizes → Limits
-limits_of sizes = record { processes = sizes.processes; blocks = blocks sizes; batch_length = sizes.length }
-
 -- Empty takes, of one process: where its pending take is applied and found nothing, its ledger says so
 abbrev pub KnowsOfNothing : StackState → ℕ → TransferView → Ledger → Type 0
-KnowsOfNothing s i v ledger = has_announced v.next ≡ true → s.applied i ≡ v.age → is_take v.wish ≡ true → reply_of (s.reply i) ≡ Nothing → ledger.found_nothing ≡ true
+KnowsOfNothing s i v ledger =
+    has_announced v.next ≡ true
+    → s.applied i ≡ v.age
+    → is_take v.wish ≡ true
+    → reply_of (s.reply i) ≡ Nothing
+    → ledger.found_nothing ≡ true
 
 -- the block that a call names is held
 abbrev pub BlockIsHeld : List ℕ → Call → Type 0

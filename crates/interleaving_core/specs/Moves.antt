@@ -1,18 +1,22 @@
 -- one turn of one process, on the words and views of all: a step of a transfer alone, or a step of a call
-use Rattle.std.specs.Prelude.{ℕ, ◌-◌, ◌^◌, ◌==◌, nat_lt, nat_le, Bool, true, false, not, ◌&&◌, ◌||◌, if◌then◌else◌, Option, None, Some, List, length, slice_index, slice_index_or, slice_set}
+use Rattle.std.specs.Prelude.{ℕ, ◌==◌, nat_lt, Bool, true, false, not, ◌&&◌, ◌||◌, if◌then◌else◌}
+use Rattle.std.specs.Prelude.{Option, None, Some, List, length, slice_index_or, slice_set}
 use Rattle.word_layout.specs.Sizes.{Sizes}
 use Rattle.word_layout.specs.declared.announced.Wish.{Wish}
 use Rattle.word_layout.specs.declared.announced.Wish.TheVariants.{Take, Give}
+use Rattle.transfer_schedule.specs.Beginning.{may_begin}
+use Rattle.transfer_schedule.specs.declared.pending.Pending.TheVariants.{Taking, Giving}
+use Rattle.word_layout.specs.Packing.{most_age}
 use Rattle.pool_model.specs.declared.entry.Entry.{Entry}
 use Rattle.pool_model.specs.declared.entry.Entry.TheVariants.{Got, Back, Dry}
-use Rattle.transfer_machine.specs.Phases.{is_rest}
-use Rattle.transfer_machine.specs.Pools.{opening_view}
+use Rattle.pool_machine.specs.Pools.{opening_view}
 use Rattle.transfer_machine.specs.Words.{acted, met_word}
-use Rattle.transfer_machine.specs.declared.call.Call.{Call}
-use Rattle.transfer_machine.specs.declared.call.Call.TheVariants.{Allocate, Free, Read, Write}
-use Rattle.transfer_machine.specs.declared.view.PoolView.{PoolView}
-use Rattle.transfer_machine.specs.declared.view.ProcessView.{ProcessView}
-use Rattle.pool_machine.specs.Beginning.{call_begun, alone_begun}
+use Rattle.transfer_machine.specs.Stages.{is_rest}
+use Rattle.pool_machine.specs.declared.call.Call.{Call}
+use Rattle.pool_machine.specs.declared.call.Call.TheVariants.{Allocate, Free, Read, Write}
+use Rattle.pool_machine.specs.declared.view.PoolView.{PoolView}
+use Rattle.pool_machine.specs.declared.view.ProcessView.{ProcessView}
+use Rattle.pool_machine.specs.Beginning.{newest, call_begun, alone_begun}
 use Rattle.pool_machine.specs.Conditions.{may_call, may_use_transfers}
 use Rattle.pool_machine.specs.declared.event.Happened.{Happened}
 use Rattle.pool_machine.specs.declared.event.Happened.TheVariants.{Step, Ended, Loaded, Stored, Ignored}
@@ -71,14 +75,15 @@ with_step process v s = record s {
   holders = holders_after (step_answer v s) s.holders;
 }
 
--- whether a wish is one that a pool may begin alone: a take with at most one spare, a give of the newest spare
+-- whether a transfer with this wish may begin: the plan has the spares for it, and what is given is the newest one
 abbrev pub may_wish : Wish → PoolView → Bool
-may_wish Take pool = nat_le pool.plan.spares 1
-may_wish (Give head) pool = nat_lt 0 (length pool.heads) && (slice_index pool.heads (length pool.heads - 1) == head)
+may_wish Take pool = may_begin Taking pool.plan.spares
+may_wish (Give head) pool = nat_lt 0 (length pool.heads) && (may_begin Giving pool.plan.spares && (newest pool == head))
 
 -- whether a process moves alone: it has begun no call, and it goes on with its transfer or may begin one with this wish
-abbrev pub may_move : Wish → ProcessView → Bool
-may_move wish v = may_use_transfers v.calls.way && (not (is_rest v.transfer.next) || (nat_lt v.transfer.age (2 ^ 32) && may_wish wish v.pool))
+abbrev pub may_go_alone : Wish → ProcessView → Bool
+may_go_alone wish v =
+    may_use_transfers v.calls.way && (not (is_rest v.transfer.next) || (nat_lt v.transfer.age most_age && may_wish wish v.pool))
 
 -- its view before that step: a process at rest first begins a transfer with this wish
 abbrev pub moving_view : Wish → ProcessView → ProcessView

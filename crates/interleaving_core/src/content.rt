@@ -1,7 +1,7 @@
 // The content of the shared stack, read off the words.
 ghost use Rattle.std.specs.Prelude.{◌≡◌, ◌<◌, ◌≤◌, ◌^◌, length, IfOk};
 ghost use Rattle.word_layout.specs.Names.{InRange, table_words, word_at};
-ghost use Rattle.word_layout.specs.Packing.{value_of};
+ghost use Rattle.word_layout.specs.Packing.{value_limit, value_of};
 ghost use Rattle.transfer_machine.specs.Words.{current_record, stack, stack_at, stack_base, stack_height, first_of};
 ghost use Rattle.interleaving_core.specs.Content.{SaysContent};
 
@@ -80,7 +80,7 @@ pub fn value_at(words: &[u64], shape: &Shape, name: WordName) -> u32
     requires whole { length words.now ≡ table_words shape.now }
     requires within { InRange shape.now name }
     ensures value { result ≡ value_of (word_at shape.now words.now name) }
-    ensures small { result < 2 ^ 24 }
+    ensures small { result < value_limit }
 {
     Tagged::value(words[shape.place(name) as usize])
 }

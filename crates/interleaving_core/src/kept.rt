@@ -6,7 +6,8 @@ ghost use Rattle.interleaving_core.specs.Content.{SaysContent};
 ghost use Rattle.interleaving_core.specs.Kept.{reply_value_at, given_batches, taken_batches, announced_batches, in_transit, kept_by, pends_at};
 
 use crate::content::{row_of, value_at, whole_at};
-use transfer_machine::{NextStep, ProcessView, TransferView};
+use pool_machine::ProcessView;
+use transfer_machine::{NextStep, TransferView};
 use word_layout::{Announced, Reply, Shape, Tagged, Wish, WordName};
 
 /// How many blocks a process keeps: its current list, its spares, and its batch in transit.
@@ -44,7 +45,7 @@ fn announced_batches(words: &[u64], wish: Wish, shape: &Shape, process: u32) -> 
     let value = reply_value_at(words, shape, process);
     let word = whole_at(words, shape, WordName::Announcement { process });
     let (odd, reply) = Reply::read(value);
-    if pends(word, odd) {
+    if is_pending(word, odd) {
         given_batches(wish)
     } else {
         taken_batches(wish, reply)
@@ -69,8 +70,8 @@ fn reply_value_at(words: &[u64], shape: &Shape, process: u32) -> u32
     )
 }
 
-/// Whether an announcement pends against a reply to a transfer with an odd or an even number.
-fn pends(word: u64, odd: bool) -> bool
+/// Whether an announcement is pending against a reply to a transfer with an odd or an even number.
+fn is_pending(word: u64, odd: bool) -> bool
     ensures { result ≡ (if is_odd_transfer word then not odd else odd) }
 {
     (Tagged::tag(word) % 2 == 1) != odd

@@ -2,6 +2,7 @@
 ghost use Rattle.std.specs.Prelude.{◌≡◌, ◌*◌, ◌<◌, ◌≤◌, ◌^◌, List, [], ◌∷◌, ◌++◌, IfOk, slice_index};
 ghost use Rattle.word_layout.specs.Sizes.{blocks};
 ghost use Rattle.word_layout.specs.Names.{table_words};
+ghost use Rattle.word_layout.specs.Packing.{most_age};
 ghost use Rattle.pool_model.specs.declared.entry.Entry.{Entry};
 ghost use Rattle.transfer_machine.specs.Words.{stack};
 ghost use Rattle.interleaving_core.specs.Invariant.{MeetsInvariant};
@@ -12,13 +13,13 @@ ghost use Rattle.interleaving_core.specs.Runs.{IsRun, Turn, Moves, Events, is_ma
 use crate::content::stack_of;
 use crate::kept::kept_by;
 use crate::turn::{
-    call_process, held_by, may_go, may_move, move_process, no_holders, note, opening_views,
+    call_process, held_by, may_go, may_go_alone, move_process, no_holders, note, opening_views,
 };
-use pool_machine::{Event, Happened};
+use pool_machine::{Event, Happened, ProcessView};
 use pool_model::NoMemory;
 use std::alloc::Global;
 use std::marker::Model;
-use transfer_machine::{ProcessView, opening_words};
+use transfer_machine::opening_words;
 use word_layout::{Shape, Wish};
 
 /// The words of a table, the views of all its processes and who holds each block, at the end of a run from the
@@ -64,7 +65,7 @@ impl CoreRun {
 
     /// One step of a transfer of process `by`, outside any call. Where the process is at rest, it first begins
     /// one with this wish; else the wish isn't looked at. Ignored exactly where no such process is in the shape,
-    /// where it has begun a call, or where it is at rest and can't begin that: its age is 2^32, or a take has two
+    /// where it has begun a call, or where it is at rest and can't begin that: its age is the last one, or a take has two
     /// spares or more, or the head of a give isn't the newest spare's; then nothing changes. It takes no memory.
     pub fn move_one(&mut self, by: u32, wish: Wish) -> Happened
         ensures answer { result ≡ turn_answer (Moves by wish) self.old }
@@ -86,7 +87,7 @@ impl CoreRun {
     /// a transfer outside any call, or where it is between two calls and the call names a block that it doesn't
     /// hold or an index that its blocks don't have; then nothing changes. It takes no memory.
     pub fn event(&mut self, event: &Event) -> Happened
-        requires { event.now.by < self.old.sizes.processes → (view_at self.old event.now.by).transfer.age < 2 ^ 32 }
+        requires { event.now.by < self.old.sizes.processes → (view_at self.old event.now.by).transfer.age < most_age }
         ensures answer { result ≡ turn_answer (Events event.now.by event.now.call) self.old }
         ensures state { self.new ≡ after_turn (Events event.now.by event.now.call) self.old }
         ensures run { (past : List Turn) (history : List Entry) → IsRun self.old.sizes past history self.old → IsRun self.new.sizes (past ++ Events event.now.by event.now.call ∷ []) (history ++ entries_of result) self.new }
@@ -105,7 +106,7 @@ impl CoreRun {
     fn can_move(&self, by: u32, wish: Wish) -> bool
         ensures { result ≡ is_made (Moves by wish) self.now }
     {
-        by < self.shape.processes() && may_move(&self.views[by as usize], wish)
+        by < self.shape.processes() && may_go_alone(&self.views[by as usize], wish)
     }
 
     /// Whether the process of an event is in the shape, and goes on with its call or may begin this one.

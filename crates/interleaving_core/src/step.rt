@@ -1,7 +1,7 @@
 // One step of one process, with the invariant of all.
 ghost use Rattle.std.specs.Prelude.{◌≡◌, true, false, List, ◌++◌, length};
 ghost use Rattle.word_layout.specs.Names.{table_words};
-ghost use Rattle.transfer_machine.specs.declared.call.CallStage.TheVariants.{Own};
+ghost use Rattle.pool_machine.specs.declared.call.CallStage.TheVariants.{Own};
 ghost use Rattle.pool_machine.specs.Ready.{CanOwn};
 ghost use Rattle.batch_invariant.specs.Batches.{ProcessViews};
 ghost use Rattle.transfer_machine.specs.Words.{acted, met_word};
@@ -10,8 +10,8 @@ ghost use Rattle.interleaving_core.specs.Runs.{entries_of};
 ghost use Rattle.interleaving_core.specs.Invariant.{IsAmong, MeetsInvariant, with_view};
 ghost use Rattle.interleaving_core.specs.Steps.{is_alone, is_busy, next_action, next_met, next_answer, next_kind};
 
-use pool_machine::{Happened, own_kind, step_call};
-use transfer_machine::{CallStage, Kind, ProcessView, Way, step_words};
+use pool_machine::{CallStage, Happened, ProcessView, Way, own_kind, step_call, step_words};
+use transfer_machine::Kind;
 use word_layout::Shape;
 
 /// Makes the next step of a process on the words, and answers its kind: a step of a transfer, or the own step of

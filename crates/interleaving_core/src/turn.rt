@@ -4,21 +4,25 @@ ghost use Rattle.word_layout.specs.Names.{table_words};
 ghost use Rattle.word_layout.specs.Packing.{FitsWish};
 ghost use Rattle.word_layout.specs.Sizes.{blocks};
 ghost use Rattle.transfer_schedule.specs.declared.pending.Pending.TheVariants.{Idle};
-ghost use Rattle.transfer_machine.specs.declared.call.CallStage.TheVariants.{Between};
+ghost use Rattle.pool_machine.specs.declared.call.CallStage.TheVariants.{Between};
 ghost use Rattle.transfer_machine.specs.declared.stage.NextStep.TheVariants.{Rest};
-ghost use Rattle.transfer_machine.specs.Pools.{opening_view, MayBegin};
+ghost use Rattle.pool_machine.specs.Pools.{opening_view, MayBegin};
 ghost use Rattle.pool_machine.specs.Ready.{CanBegin};
 ghost use Rattle.interleaving_core.specs.Invariant.{IsAmong, IsAmongHolding};
-ghost use Rattle.interleaving_core.specs.Moves.{moving_view, calling_view, may_move, may_go, may_wish, is_holder, holds_for, holders_after};
+ghost use Rattle.interleaving_core.specs.Moves.{moving_view, calling_view, may_go_alone, may_go, may_wish, is_holder, holds_for, holders_after};
 ghost use Rattle.interleaving_core.specs.Runs.{opening_views};
 ghost use Rattle.interleaving_core.specs.Turned.{Stepped, Turned};
 
 use crate::step::make_step;
-use pool_machine::{Event, Happened, begin_call, may_call, may_move as may_use_transfers};
+use pool_machine::{
+    Call, CallStage, Event, Happened, PoolView, ProcessView, begin_call, begin_transfer, may_call,
+    may_move, newest,
+};
 use pool_model::{Entry, NoMemory};
 use std::alloc::Global;
-use transfer_machine::{Call, CallStage, NextStep, PoolView, ProcessView, Way, begin_transfer};
-use word_layout::{Shape, Wish};
+use transfer_machine::NextStep;
+use transfer_schedule::Pending;
+use word_layout::{Announced, Shape, Wish};
 
 /// The views of all processes at the opening.
 pub fn opening_views(alloc: Global, shape: &Shape) -> Result<Vec<ProcessView>, NoMemory>
@@ -69,12 +73,12 @@ pub fn may_go(view: &ProcessView, shape: &Shape, event: &Event, holds: bool) -> 
 }
 
 /// Whether a process moves alone: it goes on with its transfer, or may begin one with this wish.
-pub fn may_move(view: &ProcessView, wish: Wish) -> bool
-    ensures { result ≡ may_move wish view.now }
+pub fn may_go_alone(view: &ProcessView, wish: Wish) -> bool
+    ensures { result ≡ may_go_alone wish view.now }
 {
-    may_use_transfers(view)
+    may_move(view)
         && (view.transfer.next != NextStep::Rest
-            || view.transfer.age < 1 << 32 && may_wish(&view.pool, wish))
+            || view.transfer.age < Announced::MOST_AGE && may_wish(&view.pool, wish))
 }
 
 /// Whether a pool may begin a transfer with this wish.
@@ -82,10 +86,9 @@ fn may_wish(pool: &PoolView, wish: Wish) -> bool
     ensures { result ≡ may_wish wish pool.now }
 {
     match wish {
-        Wish::Take => pool.plan.spares() <= 1,
+        Wish::Take => pool.plan.may_begin(Pending::Taking),
         Wish::Give(head) => {
-            let spares = pool.heads.len();
-            spares > 0 && pool.heads.get(spares - 1) == head
+            pool.heads.len() > 0 && pool.plan.may_begin(Pending::Giving) && newest(pool) == head
         }
     }
 }
@@ -99,7 +102,7 @@ pub fn move_process(
     wish: Wish,
 ) -> Happened
     requires low { by < length views.old.items }
-    requires moves { may_move wish (slice_index_or views.old.items by (opening_view shape.now by)) ≡ true }
+    requires moves { may_go_alone wish (slice_index_or views.old.items by (opening_view shape.now by)) ≡ true }
     requires whole { length words.old.items ≡ table_words shape.now }
     requires invariant { IsAmong shape.now words.old.items (slice_index_or views.old.items by (opening_view shape.now by)) }
     ensures { Turned shape.now by (moving_view wish (slice_index_or views.old.items by (opening_view shape.now by))) words.old.items views.old.items words.new.items views.new.items result }
@@ -110,7 +113,7 @@ pub fn move_process(
 
 /// One step of a process that moves alone. Where it is at rest it first begins a transfer with this wish.
 fn move_view(words: &mut [u64], view: &mut ProcessView, shape: &Shape, wish: Wish) -> Happened
-    requires moves { may_move wish view.old ≡ true }
+    requires moves { may_go_alone wish view.old ≡ true }
     requires whole { length words.old ≡ table_words shape.now }
     requires invariant { IsAmong shape.now words.old view.old }
     ensures { Stepped shape.now (moving_view wish view.old) words.old words.new view.new result }
@@ -122,14 +125,13 @@ fn move_view(words: &mut [u64], view: &mut ProcessView, shape: &Shape, wish: Wis
 
 /// Begins a transfer alone where the process is at rest.
 fn begin_at_rest(view: &mut ProcessView, wish: Wish)
-    requires moves { may_move wish view.old ≡ true }
+    requires moves { may_go_alone wish view.old ≡ true }
     requires idle { view.old.transfer.next ≡ Rest → view.old.pool.plan.pending ≡ Idle }
     requires fits { view.old.transfer.next ≡ Rest → may_wish wish view.old.pool ≡ true → FitsWish wish × MayBegin wish view.old.pool }
     ensures { view.new ≡ moving_view wish view.old }
 {
     if view.transfer.next == NextStep::Rest {
         begin_transfer(view, wish);
-        view.calls.way = Way::Alone;
     }
 }
 

@@ -1,9 +1,9 @@
 -- what an announcement makes of a plan
-use Rattle.std.proofs.Common.{◌≡◌, ◌≢◌, ℕ, ◌-◌, ◌^◌, ◌<◌, ◌≤◌, Bool, true, false, refl, ◌∙◌, ap, arith, length, get_or, get_or-set_same, get_or-set_other, length-set}
+use Rattle.std.proofs.Common.{◌≡◌, ◌≢◌, ℕ, ◌-◌, ◌<◌, ◌≤◌, Bool, true, false, refl, ◌∙◌, ap, arith, length, get_or, get_or-set_same, get_or-set_other, length-set}
 use Rattle.std.specs.Prelude.{if◌then◌else◌, nat_lt, not}
 use Rattle.std.proofs.lemmas.Bool.Decides.{nat_tests}
 use Rattle.word_layout.specs.Sizes.{Sizes, blocks}
-use Rattle.word_layout.specs.Packing.{reply_value, is_odd_reply, FitsReply}
+use Rattle.word_layout.specs.Packing.{value_limit, reply_value, is_odd_reply, FitsReply}
 use Rattle.word_layout.specs.declared.announced.Wish.{Wish}
 use Rattle.word_layout.specs.declared.announced.Wish.TheVariants.{Take, Give}
 use Rattle.word_layout.proofs.Packed.{reply_value_lt, is_odd_reply-reply_value}
@@ -21,7 +21,7 @@ pub record PlanIsFine (sizes : Sizes) (plan : TryPlan) : Type 0 where
   pub room_heads : length plan.heads ≡ 32
   pub room_replies : length plan.replies ≡ 32
   pub heads : (k : ℕ) → get_or plan.heads k 0 < blocks sizes
-  pub replies : (k : ℕ) → get_or plan.replies k 0 < 2 ^ 24
+  pub replies : (k : ℕ) → get_or plan.replies k 0 < value_limit
 
 -- a wish that is granted
 taken_fine : (sizes : Sizes) (plan : TryPlan) (b : Bool) → PlanIsFine sizes plan
@@ -43,12 +43,12 @@ granted_base Take plan = grind (arith, nat_tests)
 granted_base (Give head) plan = omega arith
 
 -- a reply that is noted
-replied_fine : (sizes : Sizes) (process reply : ℕ) (plan : TryPlan) → PlanIsFine sizes plan → process < 32 → reply < 2 ^ 24 → PlanIsFine sizes (replied process reply plan)
+replied_fine : (sizes : Sizes) (process reply : ℕ) (plan : TryPlan) → PlanIsFine sizes plan → process < 32 → reply < value_limit → PlanIsFine sizes (replied process reply plan)
 replied_fine sizes process reply plan h lt fits = record {
   room_heads = h.room_heads;
   room_replies = length-set plan.replies process reply ∙ h.room_replies;
   heads = h.heads;
-  replies = set_each (λ x. x < 2 ^ 24) plan.replies process reply (omega (arith, h.room_replies)) fits h.replies;
+  replies = set_each (λ x. x < value_limit) plan.replies process reply (omega (arith, h.room_replies)) fits h.replies;
 }
 
 -- the announcement of one more process

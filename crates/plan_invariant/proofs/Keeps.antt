@@ -1,5 +1,5 @@
 -- the opening meets the part, and beginnings and steps keep it
-use Rattle.std.proofs.Common.{◌≡◌, ℕ, ◌+◌, ◌<◌, ◌==◌, Bool, true, false, refl, sym, subst, inl, inr, arith, get_or}
+use Rattle.std.proofs.Common.{◌≡◌, ℕ, ◌+◌, ◌<◌, ◌==◌, Bool, false, refl, sym, subst, inl, inr, arith, get_or}
 use Rattle.std.specs.Prelude.{replicate}
 use Rattle.std.proofs.lemmas.Bool.{cases_eq, cases_lt}
 use Rattle.std.proofs.lemmas.List.{length-replicate, get_or-replicate, get_or_past}
@@ -14,7 +14,8 @@ use Rattle.transfer_machine.specs.Planned.{PlansLoaded}
 use Rattle.transfer_machine.specs.Words.{name_of}
 use Rattle.transfer_machine.specs.declared.transfer.TransferView.{TransferView}
 use Rattle.transfer_machine.specs.declared.stage.NextStep.{NextStep}
-use Rattle.transfer_machine.specs.declared.stage.NextStep.TheVariants.{ExchangeState}
+use Rattle.transfer_machine.specs.declared.stage.NextStep.TheVariants.{Try}
+use Rattle.transfer_machine.specs.declared.stage.TryStep.TheVariants.{ExchangeState}
 use Rattle.transfer_invariant.specs.Memory.{Words, Views, States, Acted, Moved}
 use Rattle.transfer_invariant.specs.Progress.{has_record}
 use Rattle.transfer_invariant.specs.Installing.{states_after}
@@ -22,7 +23,7 @@ use Rattle.transfer_invariant.specs.Invariant.{Invariant}
 use Rattle.plan_invariant.specs.Heads.{HeadsAreBlocks}
 use Rattle.plan_invariant.specs.Pops.{PopsHold}
 use Rattle.plan_invariant.specs.Holding.{ViewPlans, PlansHold, PlanPremises}
-use Rattle.plan_invariant.proofs.Lists.{either}
+use Rattle.plan_invariant.proofs.Lists.{either, not_both}
 use Rattle.plan_invariant.proofs.Wishes.{some_block, value_of_zero, announced_block}
 use Rattle.transfer_invariant.proofs.Loaded.{record_has, ended_has_none}
 use Rattle.plan_invariant.proofs.Views.{leaves}
@@ -38,11 +39,10 @@ pub moved_each : (P : TransferView → Type 0) (processes : ℕ) (views after : 
 moved_each P processes views after i x h moved here o lo = elim (cases_eq o i) [ inl e ↦ subst P (sym (rw e moved.here)) here | inr ne ↦ subst P (sym (moved.elsewhere o ne)) (h o lo) ]
 
 -- a view that made its exchange of the state, or failed, has left its try
-exchanged_none : (sizes : Sizes) (v : TransferView) (word : ℕ) (s : NextStep) → s ≡ ExchangeState → has_record (met_at sizes v word s).next ≡ false
-exchanged_none sizes v word s e = rw e (either TransferView (λ x. has_record x.next ≡ false) (word == v.loaded.state) (installed v) (try_ended v) refl (ended_has_none (v.turn == 1)))
-
-false_true : (b : Bool) → b ≡ false → b ≡ true → ⊥
-false_true b e h = grind arith
+exchanged_none : (sizes : Sizes) (v : TransferView) (word : ℕ) (second : Bool) (s : NextStep) → s ≡ Try second ExchangeState
+    → has_record (met_at sizes v word s).next ≡ false
+exchanged_none sizes v word second s e =
+    rw e (either TransferView (λ x. has_record x.next ≡ false) (word == v.loaded.state) (installed v) (try_ended second v) refl (ended_has_none second))
 
 -- a step
 pub steps_keep : (sizes : Sizes) (m n : Words) (views after : Views) (states : States) (i : ℕ) → IsShape sizes → i < sizes.processes → Invariant sizes m views states
@@ -57,14 +57,14 @@ steps_keep sizes m n views after states i shape li inv plans given a moved =
     let few = shape.few_processes in
     record {
       announcements = announcements_kept sizes v m n v.next refl a (λ e. announced_block sizes (v.age + 1) v.wish shape.few_blocks (given.fits_wish e))
-          (λ process e. rw e at view.among) plans.announcements;
+          (λ second process e. rw e at view.among) plans.announcements;
       each = moved_each (ViewPlans sizes) sizes.processes views after i x plans.each moved
           (plans_met sizes v word v.next refl (view_meets sizes m views states i shape li inv plans given) view);
       loaded = moved_each (PlansLoaded sizes) sizes.processes views after i x plans.loaded moved
           (loaded_met sizes v word v.next refl view.room (view_changes sizes m views states i shape li inv plans given) (plans.loaded i li));
       pops = moved_each (PopsHold sizes.processes n (states_after m v states)) sizes.processes views after i x
-          (λ o lo. pops_kept sizes m n states i v (views o) v.next few li own a (λ e has. (inv.records.loaded o lo).past (record_has (views o).next has)) (plans.pops o lo)) moved
-          (pops_kept sizes m n states i v x v.next few li own a (λ e has. absurd (false_true (has_record x.next) (exchanged_none sizes v word v.next e) has))
+          (λ o lo. pops_kept sizes m n states i v (views o) v.next few li own a (λ second e has. (inv.records.loaded o lo).past (record_has (views o).next has)) (plans.pops o lo)) moved
+          (pops_kept sizes m n states i v x v.next few li own a (λ second e has. absurd (not_both (has_record x.next) (exchanged_none sizes v word second v.next e) has))
           (pops_met sizes m states v word v.next refl few view.room view.among (plans.loaded i li) (view_pops sizes m views states i shape li inv plans given) (plans.pops i li)));
     }
 
@@ -97,7 +97,7 @@ opening_heads sizes i some = record {
 opening_view : (sizes : Sizes) (i : ℕ) → 0 < sizes.processes → 0 < blocks sizes → ViewPlans sizes (opening_transfer i)
 opening_view sizes i some block = record {
   room = record { record_words = length-replicate {A = ℕ} 66 0; announcements = length-replicate {A = ℕ} 32 0; popped = length-replicate {A = ℕ} 32 0; heads = length-replicate {A = ℕ} 32 0; replies = length-replicate {A = ℕ} 32 0 };
-  fits = λ h. absurd (false_true false refl h);
+  fits = λ h. absurd (not_both false refl h);
   replies = record { kept = λ o lt. absurd (omega arith); parity = λ o lt. absurd (omega arith) };
   heads = opening_heads sizes i block;
   among = some;

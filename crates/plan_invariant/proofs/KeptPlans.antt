@@ -1,16 +1,18 @@
 -- the kept plan is that of the loaded words, after every step
-use Rattle.std.proofs.Common.{◌≡◌, ℕ, ◌+◌, ◌<◌, ◌≤◌, ◌==◌, Bool, true, false, refl, subst, set}
+use Rattle.std.proofs.Common.{◌≡◌, ℕ, ◌+◌, ◌<◌, ◌==◌, Bool, true, false, refl, subst, set}
 use Rattle.std.specs.Prelude.{if◌then◌else◌, nat_lt}
 use Rattle.word_layout.specs.Sizes.{Sizes}
 use Rattle.word_layout.specs.Names.{records, record_words}
 use Rattle.word_layout.specs.Packing.{tag_of}
 use Rattle.transfer_machine.specs.Loads.{loaded_tag, overlay_length, loaded_record}
-use Rattle.transfer_machine.specs.Planned.{planned, SamePlan, HasRoom, PlansLoaded, PlansLoadedAt}
-use Rattle.transfer_machine.specs.Machine.{met_at, CanActAt, CanMeetAt, after_slot, try_ended, installed}
+use Rattle.transfer_machine.specs.Planned.{planned, SamePlan, HasRoom, PlansLoaded, PlansLoadedAt, PlansLoadedInTry}
+use Rattle.transfer_machine.specs.Machine.{met_at, met_in_try, CanActAt, CanMeetAt, CanActInTry, CanMeetInTry, after_slot, after_try, try_ended, installed}
 use Rattle.transfer_machine.specs.declared.loaded.Loaded.{Loaded}
 use Rattle.transfer_machine.specs.declared.transfer.TransferView.{TransferView}
 use Rattle.transfer_machine.specs.declared.stage.NextStep.{NextStep}
-use Rattle.transfer_machine.specs.declared.stage.NextStep.TheVariants.{Rest, Announce, LoadState, LoadRecordWord, LoadCoveredSlot, ExchangeSlot, LoadAnnouncement, LoadPoppedSlot, StoreRecordWord, ExchangeState, LoadFinalState, LoadReply}
+use Rattle.transfer_machine.specs.declared.stage.NextStep.TheVariants.{Rest, Announce, Try, LoadFinalState, LoadReply}
+use Rattle.transfer_machine.specs.declared.stage.TryStep.{TryStep}
+use Rattle.transfer_machine.specs.declared.stage.TryStep.TheVariants.{LoadState, LoadRecordWord, LoadCoveredSlot, ExchangeSlot, LoadAnnouncement, LoadPoppedSlot, StoreRecordWord, ExchangeState}
 use Rattle.transfer_machine.proofs.Plans.{steps_keep_plan, planned_reads}
 use Rattle.plan_invariant.proofs.Lists.{either}
 
@@ -28,21 +30,21 @@ kept_here sizes v word s e room =
 
 -- where the plan stays
 slot_after : (sizes : Sizes) (x : TransferView) (t : Bool) (offset : ℕ) → SamePlan 0 x.plan (planned sizes.processes x.loaded 0)
-    → PlansLoadedAt sizes x (if t then LoadAnnouncement 0 else LoadCoveredSlot offset)
+    → PlansLoadedInTry sizes x (if t then LoadAnnouncement 0 else LoadCoveredSlot offset)
 slot_after sizes x true offset h = h
 slot_after sizes x false offset h = h
 
 exchange_after : (sizes : Sizes) (x : TransferView) (loaded : Loaded) (t : Bool) (offset : ℕ) → SamePlan 0 x.plan (planned sizes.processes x.loaded 0)
-    → PlansLoadedAt sizes x (if t then ExchangeSlot offset else after_slot loaded offset)
+    → PlansLoadedInTry sizes x (if t then ExchangeSlot offset else after_slot loaded offset)
 exchange_after sizes x loaded true offset h = h
 exchange_after sizes x loaded false offset h = slot_after sizes x (offset + 1 == overlay_length loaded) (offset + 1) h
 
 stored_after : (sizes : Sizes) (x : TransferView) (t : Bool) (index : ℕ) → SamePlan sizes.processes x.plan (planned sizes.processes x.loaded sizes.processes)
-    → PlansLoadedAt sizes x (if t then ExchangeState else StoreRecordWord index)
+    → PlansLoadedInTry sizes x (if t then ExchangeState else StoreRecordWord index)
 stored_after sizes x true index h = h
 stored_after sizes x false index h = h
 
-ended_after : (sizes : Sizes) (x : TransferView) (t : Bool) → PlansLoadedAt sizes x (if t then LoadState else LoadFinalState)
+ended_after : (sizes : Sizes) (x : TransferView) (second : Bool) → PlansLoadedAt sizes x (after_try second)
 ended_after sizes x true = tt
 ended_after sizes x false = tt
 
@@ -52,27 +54,43 @@ same_none processes v loaded e a b h = subst (SamePlan 0 v.plan) (planned_stays 
 
 -- the numbers of the steps that change the plan are in range
 pub record PlanChanges (sizes : Sizes) (v : TransferView) (word : ℕ) : Type 0 where
-  pub row : (index : ℕ) → v.next ≡ LoadRecordWord index → loaded_record v.loaded < records sizes
-  pub index : (index : ℕ) → v.next ≡ LoadRecordWord index → index < record_words sizes
-  pub turn : (index : ℕ) → v.next ≡ LoadRecordWord index → v.turn ≤ 2
-  pub heard : (process : ℕ) → v.next ≡ LoadAnnouncement process → CanMeetAt sizes v word (LoadAnnouncement process)
-  pub popped_act : (process : ℕ) → v.next ≡ LoadPoppedSlot process → CanActAt sizes v (LoadPoppedSlot process)
-  pub popped : (process : ℕ) → v.next ≡ LoadPoppedSlot process → CanMeetAt sizes v word (LoadPoppedSlot process)
+  pub row : (second : Bool) (index : ℕ) → v.next ≡ Try second (LoadRecordWord index) → loaded_record v.loaded < records sizes
+  pub index : (second : Bool) (index : ℕ) → v.next ≡ Try second (LoadRecordWord index) → index < record_words sizes
+  pub heard : (second : Bool) (process : ℕ) → v.next ≡ Try second (LoadAnnouncement process)
+      → CanMeetInTry sizes v word (LoadAnnouncement process)
+  pub popped_act : (second : Bool) (process : ℕ) → v.next ≡ Try second (LoadPoppedSlot process)
+      → CanActInTry sizes v (LoadPoppedSlot process)
+  pub popped : (second : Bool) (process : ℕ) → v.next ≡ Try second (LoadPoppedSlot process)
+      → CanMeetInTry sizes v word (LoadPoppedSlot process)
 
-pub loaded_met : (sizes : Sizes) (v : TransferView) (word : ℕ) (s : NextStep) → v.next ≡ s → HasRoom v → PlanChanges sizes v word → PlansLoadedAt sizes v s
-    → PlansLoaded sizes (met_at sizes v word s)
+-- after each step of a try
+loaded_met_in_try : (sizes : Sizes) (v : TransferView) (word : ℕ) (second : Bool) (s : TryStep) → v.next ≡ Try second s → HasRoom v
+    → PlanChanges sizes v word → PlansLoadedInTry sizes v s → PlansLoaded sizes (met_in_try sizes v word second s)
+loaded_met_in_try sizes v word second LoadState e room c h = tt
+loaded_met_in_try sizes v word second (LoadRecordWord index) e room c h =
+    kept_here sizes v word (Try second (LoadRecordWord index)) e room (c.row second index e, c.index second index e) tt h
+loaded_met_in_try sizes v word second (LoadCoveredSlot offset) e room c h =
+    let loaded : Loaded = record v.loaded { slots = set v.loaded.slots offset word } in
+    let older = nat_lt (tag_of word) (loaded_tag v.loaded) in
+    exchange_after sizes (met_in_try sizes v word second (LoadCoveredSlot offset)) v.loaded older offset
+    (same_none sizes.processes v loaded refl refl refl h)
+loaded_met_in_try sizes v word second (ExchangeSlot offset) e room c h =
+    slot_after sizes (met_in_try sizes v word second (ExchangeSlot offset)) (offset + 1 == overlay_length v.loaded) (offset + 1) h
+loaded_met_in_try sizes v word second (LoadAnnouncement process) e room c h =
+    kept_here sizes v word (Try second (LoadAnnouncement process)) e room (c.heard second process e).among (c.heard second process e) h
+loaded_met_in_try sizes v word second (LoadPoppedSlot process) e room c h =
+    kept_here sizes v word (Try second (LoadPoppedSlot process)) e room (c.popped_act second process e) (c.popped second process e) h
+loaded_met_in_try sizes v word second (StoreRecordWord index) e room c h =
+    stored_after sizes (met_in_try sizes v word second (StoreRecordWord index)) (index + 1 == record_words sizes) (index + 1) h
+loaded_met_in_try sizes v word second ExchangeState e room c h =
+    either TransferView (PlansLoaded sizes) (word == v.loaded.state) (installed v) (try_ended second v) tt
+    (ended_after sizes (try_ended second v) second)
+
+-- after each step
+pub loaded_met : (sizes : Sizes) (v : TransferView) (word : ℕ) (s : NextStep) → v.next ≡ s → HasRoom v → PlanChanges sizes v word
+    → PlansLoadedAt sizes v s → PlansLoaded sizes (met_at sizes v word s)
 loaded_met sizes v word Rest e room c h = rw e tt
 loaded_met sizes v word Announce e room c h = tt
-loaded_met sizes v word LoadState e room c h = tt
-loaded_met sizes v word (LoadRecordWord index) e room c h = kept_here sizes v word (LoadRecordWord index) e room (c.row index e, c.index index e) (c.turn index e) h
-loaded_met sizes v word (LoadCoveredSlot offset) e room c h =
-    let loaded : Loaded = record v.loaded { slots = set v.loaded.slots offset word } in
-    exchange_after sizes (met_at sizes v word (LoadCoveredSlot offset)) v.loaded (nat_lt (tag_of word) (loaded_tag v.loaded)) offset (same_none sizes.processes v loaded refl refl refl h)
-loaded_met sizes v word (ExchangeSlot offset) e room c h = slot_after sizes (met_at sizes v word (ExchangeSlot offset)) (offset + 1 == overlay_length v.loaded) (offset + 1) h
-loaded_met sizes v word (LoadAnnouncement process) e room c h = kept_here sizes v word (LoadAnnouncement process) e room (c.heard process e).among (c.heard process e) h
-loaded_met sizes v word (LoadPoppedSlot process) e room c h = kept_here sizes v word (LoadPoppedSlot process) e room (c.popped_act process e) (c.popped process e) h
-loaded_met sizes v word (StoreRecordWord index) e room c h = stored_after sizes (met_at sizes v word (StoreRecordWord index)) (index + 1 == record_words sizes) (index + 1) h
-loaded_met sizes v word ExchangeState e room c h = either TransferView (PlansLoaded sizes) (word == v.loaded.state) (installed v) (try_ended v) tt
-    (ended_after sizes (try_ended v) (v.turn == 1))
+loaded_met sizes v word (Try second step) e room c h = loaded_met_in_try sizes v word second step e room c h
 loaded_met sizes v word LoadFinalState e room c h = tt
 loaded_met sizes v word LoadReply e room c h = tt

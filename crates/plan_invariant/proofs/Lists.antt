@@ -1,5 +1,5 @@
 -- lists of which one element is set, and either of two values
-use Rattle.std.proofs.Common.{ℕ, ◌<◌, Bool, true, false, sym, subst, inl, inr, List, length, get_or, set, get_or-set_same, get_or-set_other}
+use Rattle.std.proofs.Common.{◌≡◌, arith, ℕ, ◌<◌, Bool, true, false, sym, subst, inl, inr, List, length, get_or, set, get_or-set_same, get_or-set_other}
 use Rattle.std.specs.Prelude.{if◌then◌else◌}
 use Rattle.std.proofs.lemmas.Bool.{cases_eq}
 
@@ -14,3 +14,7 @@ set_each P xs i x lt here there k = elim (cases_eq k i) [
 pub either : (A : Type 0) (P : A → Type 0) (b : Bool) (x y : A) → P x → P y → P (if b then x else y)
 either A P true x y h k = h
 either A P false x y h k = k
+
+-- no truth value is both
+pub not_both : (b : Bool) → b ≡ false → b ≡ true → ⊥
+not_both b e h = grind arith

@@ -14,7 +14,8 @@ use Rattle.transfer_machine.specs.Planned.{planned, SamePlan}
 use Rattle.transfer_machine.specs.States.{StackState, put, next_of, with_wish, with_transfer}
 use Rattle.transfer_machine.specs.Tries.{is_pending}
 use Rattle.transfer_machine.specs.declared.transfer.TransferView.{TransferView}
-use Rattle.transfer_machine.specs.declared.stage.NextStep.TheVariants.{ExchangeState}
+use Rattle.transfer_machine.specs.declared.stage.NextStep.TheVariants.{Try}
+use Rattle.transfer_machine.specs.declared.stage.TryStep.TheVariants.{ExchangeState}
 use Rattle.transfer_machine.proofs.NextStates.{put_here, put_away, plans_are_next_states}
 use Rattle.transfer_invariant.specs.Memory.{Words, Views, States, state_tag}
 use Rattle.transfer_invariant.specs.Installing.{planned_state}
@@ -23,7 +24,6 @@ use Rattle.plan_invariant.specs.Holding.{PlansHold}
 use Rattle.plan_invariant.specs.NextState.{SameState}
 use Rattle.plan_invariant.proofs.Steps.{view_is}
 
--- the next state's replies and applied transfers of processes whose announcements aren't met yet
 -- an announcement changes the reply and the count of its process alone
 pub wish_reply_stays : (wish : Wish) (s : StackState) → (with_wish wish s).reply ≡ s.reply
 wish_reply_stays Take s = refl
@@ -97,11 +97,11 @@ planned_same s v processes few same is pops =
     }
 
 -- at the exchange
-pub installed_is_next : (sizes : Sizes) (words : Words) (views : Views) (states : States) (i : ℕ) → IsShape sizes → i < sizes.processes → Invariant sizes words views states
-    → PlansHold sizes words views states → (views i).next ≡ ExchangeState → words State ≡ (views i).loaded.state
+pub installed_is_next : (sizes : Sizes) (words : Words) (views : Views) (states : States) (i : ℕ) (second : Bool) → IsShape sizes → i < sizes.processes → Invariant sizes words views states
+    → PlansHold sizes words views states → (views i).next ≡ Try second ExchangeState → words State ≡ (views i).loaded.state
     → SameState sizes.processes (planned_state (states (state_tag words)) (views i)) (next_of sizes.processes (λ o. get_or (views i).loaded.announcements o 0) (states (state_tag words)))
 unfolding state_tag
-installed_is_next sizes words views states i shape li inv plans e same =
+installed_is_next sizes words views states i second shape li inv plans e same =
     let now : loaded_tag (views i).loaded ≡ tag_of (words State) = ap tag_of (sym same) in
     let is = view_is sizes words views states i shape li inv plans (rw e refl) in
     planned_same (states (tag_of (words State))) (views i) sizes.processes shape.few_processes (rw e at (plans.loaded i li)) (rw now at is)

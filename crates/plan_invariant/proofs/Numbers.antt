@@ -1,8 +1,9 @@
 -- the numbers of a view's next step are in range
-use Rattle.std.proofs.Common.{◌≡◌, ℕ, ◌+◌, ◌-◌, ◌^◌, ◌<◌, ◌≤◌, ◌==◌, Bool, true, arith, get_or}
+use Rattle.std.proofs.Common.{◌≡◌, ℕ, ◌+◌, ◌-◌, ◌<◌, ◌≤◌, ◌==◌, Bool, true, arith, get_or}
 use Rattle.std.specs.Prelude.{nat_lt, ◌&&◌}
 use Rattle.std.proofs.lemmas.Bool.Decides.{nat_tests}
-use Rattle.word_layout.specs.Sizes.{Sizes, blocks}
+use Rattle.word_layout.specs.Packing.{value_limit}
+use Rattle.word_layout.specs.Sizes.{Sizes, most_blocks, blocks}
 use Rattle.transfer_machine.specs.Loads.{loaded_tag, loaded_base, overlay_length, loaded_reply}
 use Rattle.transfer_machine.specs.NextStates.{IsLoaded}
 use Rattle.transfer_machine.specs.States.{StackState}
@@ -41,7 +42,7 @@ pub popped_below : (processes : ℕ) (loaded : Loaded) (process word : ℕ) (pla
 popped_below processes loaded process word plan e = slot_below (is_pending word (loaded_reply processes loaded process)) (is_take (announced_wish word)) (plan.overlay == 0) loaded plan e
 
 -- an announcement can be applied
-pub can_apply : (sizes : Sizes) (loaded : Loaded) (process word popped : ℕ) (plan : TryPlan) → sizes.processes ≤ 32 → blocks sizes ≤ 2 ^ 22 → process < sizes.processes
+pub can_apply : (sizes : Sizes) (loaded : Loaded) (process word popped : ℕ) (plan : TryPlan) → sizes.processes ≤ 32 → blocks sizes ≤ most_blocks → process < sizes.processes
     → plan.overlay ≤ process → LoadedFits sizes loaded → popped < blocks sizes
     → ((k : ℕ) → get_or plan.heads k 0 < blocks sizes) → plan.base ≤ loaded_base loaded + overlay_length loaded → CanApply sizes.processes loaded process word popped plan
 can_apply sizes loaded process word popped plan few small among over fits block heads low = record {
@@ -53,9 +54,9 @@ can_apply sizes loaded process word popped plan few small among over fits block 
 }
 
 -- what a plan makes a record of has values
-pub planned_value_lt : (sizes : Sizes) (plan : TryPlan) (index : ℕ) → sizes.batches < 2 ^ 22 + 1 → blocks sizes ≤ 2 ^ 22 → plan.base ≤ sizes.batches → plan.overlay ≤ 32
-    → ((k : ℕ) → get_or plan.heads k 0 < blocks sizes) → ((k : ℕ) → get_or plan.replies k 0 < 2 ^ 24)
-    → planned_value sizes.processes plan index < 2 ^ 24
+pub planned_value_lt : (sizes : Sizes) (plan : TryPlan) (index : ℕ) → sizes.batches < most_blocks + 1 → blocks sizes ≤ most_blocks → plan.base ≤ sizes.batches → plan.overlay ≤ 32
+    → ((k : ℕ) → get_or plan.heads k 0 < blocks sizes) → ((k : ℕ) → get_or plan.replies k 0 < value_limit)
+    → planned_value sizes.processes plan index < value_limit
 planned_value_lt sizes plan index few small base over heads replies =
     let head = heads (index - 2) in
     let reply = replies (index - (sizes.processes + 2)) in

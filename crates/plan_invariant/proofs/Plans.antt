@@ -1,21 +1,23 @@
 -- every step of a view keeps its plan in range
-use Rattle.std.proofs.Common.{◌≡◌, ℕ, ◌+◌, ◌^◌, ◌<◌, ◌≤◌, ◌==◌, Bool, true, false, refl, ◌∙◌, ap, arith, get_or, set, get_or-set_same, get_or-set_other, length-set}
+use Rattle.std.proofs.Common.{◌≡◌, ℕ, ◌+◌, ◌<◌, ◌≤◌, ◌==◌, Bool, true, false, refl, ◌∙◌, ap, arith, get_or, set, get_or-set_same, get_or-set_other, length-set}
 use Rattle.std.specs.Prelude.{if◌then◌else◌, nat_lt}
 use Rattle.std.proofs.lemmas.Bool.Decides.{nat_tests}
-use Rattle.word_layout.specs.Sizes.{Sizes, blocks}
+use Rattle.word_layout.specs.Sizes.{Sizes, blocks, most_blocks}
 use Rattle.word_layout.specs.Names.{record_words}
 use Rattle.word_layout.specs.Packing.{tag_of, value_of}
 use Rattle.transfer_machine.specs.Loads.{loaded_tag}
 use Rattle.transfer_machine.specs.Tries.{pops_slot, begun_plan}
-use Rattle.transfer_machine.specs.Machine.{met_at, try_ended, installed, after_slot, after_record, after_stored, record_word_loaded}
+use Rattle.transfer_machine.specs.Machine.{met_at, met_in_try, try_ended, installed, after_slot, after_record, after_stored, record_word_loaded}
 use Rattle.transfer_machine.specs.declared.loaded.Loaded.{Loaded}
 use Rattle.transfer_machine.specs.declared.transfer.TransferView.{TransferView}
 use Rattle.transfer_machine.specs.declared.stage.NextStep.{NextStep}
-use Rattle.transfer_machine.specs.declared.stage.NextStep.TheVariants.{Rest, Announce, LoadState, LoadRecordWord, LoadCoveredSlot, ExchangeSlot, LoadAnnouncement, LoadPoppedSlot, StoreRecordWord, ExchangeState, LoadFinalState, LoadReply}
-use Rattle.transfer_invariant.specs.Progress.{has_record, planned_announcements}
+use Rattle.transfer_machine.specs.declared.stage.NextStep.TheVariants.{Rest, Announce, Try, LoadFinalState, LoadReply}
+use Rattle.transfer_machine.specs.declared.stage.TryStep.{TryStep}
+use Rattle.transfer_machine.specs.declared.stage.TryStep.TheVariants.{LoadState, LoadRecordWord, LoadCoveredSlot, ExchangeSlot, LoadAnnouncement, LoadPoppedSlot, StoreRecordWord, ExchangeState}
+use Rattle.transfer_invariant.specs.Progress.{has_record, planned_in_try}
 use Rattle.transfer_invariant.specs.Plans.{OverlayFits}
 use Rattle.transfer_invariant.proofs.Loaded.{ended_has_none}
-use Rattle.plan_invariant.specs.Pops.{heard_process}
+use Rattle.plan_invariant.specs.Pops.{heard_process_in_try}
 use Rattle.plan_invariant.specs.Holding.{ViewPlans}
 use Rattle.plan_invariant.proofs.Lists.{set_each, either}
 use Rattle.plan_invariant.proofs.Wishes.{LoadedFits}
@@ -26,35 +28,35 @@ pub record Meets (sizes : Sizes) (v : TransferView) (word : ℕ) : Type 0 where
   pub some : 0 < sizes.processes
   pub few : sizes.processes ≤ 32
   pub block : 0 < blocks sizes
-  pub few_blocks : blocks sizes ≤ 2 ^ 22
+  pub few_blocks : blocks sizes ≤ most_blocks
   pub fits : has_record v.next ≡ true → LoadedFits sizes v.loaded
   pub overlay : OverlayFits sizes.processes v
-  pub heard : (process : ℕ) → v.next ≡ LoadAnnouncement process → value_of word ≤ blocks sizes
-  pub popped : (process : ℕ) → v.next ≡ LoadPoppedSlot process → value_of word < blocks sizes
+  pub heard : (second : Bool) (process : ℕ) → v.next ≡ Try second (LoadAnnouncement process) → value_of word ≤ blocks sizes
+  pub popped : (second : Bool) (process : ℕ) → v.next ≡ Try second (LoadPoppedSlot process) → value_of word < blocks sizes
 
 -- what follows
-pub record_planned : (processes : ℕ) (loaded : Loaded) → planned_announcements processes (after_record loaded) ≡ 0
+pub record_planned : (processes : ℕ) (loaded : Loaded) → planned_in_try processes (after_record loaded) ≡ 0
 record_planned processes loaded = grind (arith, nat_tests)
 
-pub record_process : (loaded : Loaded) → heard_process (after_record loaded) ≡ 0
+pub record_process : (loaded : Loaded) → heard_process_in_try (after_record loaded) ≡ 0
 record_process loaded = grind (arith, nat_tests)
 
-pub slot_planned : (processes : ℕ) (loaded : Loaded) (offset : ℕ) → planned_announcements processes (after_slot loaded offset) ≡ 0
+pub slot_planned : (processes : ℕ) (loaded : Loaded) (offset : ℕ) → planned_in_try processes (after_slot loaded offset) ≡ 0
 slot_planned processes loaded offset = grind (arith, nat_tests)
 
-pub slot_process : (loaded : Loaded) (offset : ℕ) → heard_process (after_slot loaded offset) ≡ 0
+pub slot_process : (loaded : Loaded) (offset : ℕ) → heard_process_in_try (after_slot loaded offset) ≡ 0
 slot_process loaded offset = grind (arith, nat_tests)
 
-pub exchange_planned : (processes : ℕ) (t : Bool) (loaded : Loaded) (offset : ℕ) → planned_announcements processes (if t then ExchangeSlot offset else after_slot loaded offset) ≡ 0
+pub exchange_planned : (processes : ℕ) (t : Bool) (loaded : Loaded) (offset : ℕ) → planned_in_try processes (if t then ExchangeSlot offset else after_slot loaded offset) ≡ 0
 exchange_planned processes t loaded offset = grind (arith, nat_tests)
 
-pub exchange_process : (t : Bool) (loaded : Loaded) (offset : ℕ) → heard_process (if t then ExchangeSlot offset else after_slot loaded offset) ≡ 0
+pub exchange_process : (t : Bool) (loaded : Loaded) (offset : ℕ) → heard_process_in_try (if t then ExchangeSlot offset else after_slot loaded offset) ≡ 0
 exchange_process t loaded offset = grind (arith, nat_tests)
 
-pub stored_planned : (sizes : Sizes) (index : ℕ) → planned_announcements sizes.processes (after_stored sizes index) ≡ sizes.processes
+pub stored_planned : (sizes : Sizes) (index : ℕ) → planned_in_try sizes.processes (after_stored sizes index) ≡ sizes.processes
 stored_planned sizes index = grind (arith, nat_tests)
 
-pub stored_process : (sizes : Sizes) (index : ℕ) → heard_process (after_stored sizes index) ≡ 0
+pub stored_process : (sizes : Sizes) (index : ℕ) → heard_process_in_try (after_stored sizes index) ≡ 0
 stored_process sizes index = grind (arith, nat_tests)
 
 -- a view that leaves the try
@@ -64,57 +66,83 @@ leaves_try sizes v x some h e r a p none =
     leaves sizes v x some h (record { record_words = rw r h.room.record_words; announcements = a; popped = p; heads = ap (λ plan. plan.heads) e; replies = ap (λ plan. plan.replies) e }) none
 
 -- a record word is loaded
-record_word_plans : (sizes : Sizes) (v : TransferView) (index word : ℕ) → 0 < sizes.processes → ViewPlans sizes v
-    → ViewPlans sizes (record_word_loaded sizes index (record v.loaded { record_words = set v.loaded.record_words index word }) v)
-record_word_plans sizes v index word some h =
+record_word_plans : (sizes : Sizes) (v : TransferView) (second : Bool) (index word : ℕ) → 0 < sizes.processes → ViewPlans sizes v
+    → ViewPlans sizes (record_word_loaded sizes second index (record v.loaded { record_words = set v.loaded.record_words index word }) v)
+record_word_plans sizes v second index word some h =
     let loaded : Loaded = record v.loaded { record_words = set v.loaded.record_words index word } in
-    let last : TransferView = record v { loaded = loaded; next = after_record loaded; plan = begun_plan loaded v.plan } in
-    let more : TransferView = record v { loaded = loaded; next = LoadRecordWord (index + 1) } in
+    let last : TransferView = record v { loaded = loaded; next = Try second (after_record loaded); plan = begun_plan loaded v.plan } in
+    let more : TransferView = record v { loaded = loaded; next = Try second (LoadRecordWord (index + 1)) } in
+    let room = length-set v.loaded.record_words index word ∙ h.room.record_words in
     either TransferView (ViewPlans sizes) (index + 1 == record_words sizes) last more
-    (begins sizes v last some h (record { record_words = length-set v.loaded.record_words index word ∙ h.room.record_words; announcements = refl; popped = refl; heads = refl; replies = refl }) (record_planned sizes.processes loaded) (record_process loaded) refl)
-    (leaves sizes v more some h (record { record_words = length-set v.loaded.record_words index word ∙ h.room.record_words; announcements = refl; popped = refl; heads = refl; replies = refl }) refl)
+    (begins sizes v last some h (record { record_words = room; announcements = refl; popped = refl; heads = refl; replies = refl })
+    (record_planned sizes.processes loaded) (record_process loaded) refl)
+    (leaves sizes v more some h (record { record_words = room; announcements = refl; popped = refl; heads = refl; replies = refl }) refl)
 
--- the plan after each step
-pub plans_met : (sizes : Sizes) (v : TransferView) (word : ℕ) (s : NextStep) → v.next ≡ s → Meets sizes v word → ViewPlans sizes v → ViewPlans sizes (met_at sizes v word s)
-plans_met sizes v word Rest e m h = h
-plans_met sizes v word Announce e m h = leaves_try sizes v _ m.some h refl refl refl refl refl
-plans_met sizes v word LoadState e m h = leaves_try sizes v _ m.some h refl refl refl refl refl
-plans_met sizes v word (LoadRecordWord index) e m h =
-    either TransferView (ViewPlans sizes) (nat_lt (loaded_tag v.loaded) (tag_of word)) (try_ended v) _
-    (leaves_try sizes v (try_ended v) m.some h refl refl refl refl (ended_has_none (v.turn == 1))) (record_word_plans sizes v index word m.some h)
-plans_met sizes v word (LoadCoveredSlot offset) e m h =
-    let t = nat_lt (tag_of word) (loaded_tag v.loaded) in
-    goes_on sizes v (met_at sizes v word (LoadCoveredSlot offset)) h refl refl refl refl (rw e refl)
-    (rw (exchange_planned sizes.processes t v.loaded offset) (omega arith)) (rw (exchange_process t v.loaded offset) m.some)
-plans_met sizes v word (ExchangeSlot offset) e m h =
-    goes_on sizes v (met_at sizes v word (ExchangeSlot offset)) h refl refl refl refl (rw e refl) (rw (slot_planned sizes.processes v.loaded offset) (omega arith))
-    (rw (slot_process v.loaded offset) m.some)
-plans_met sizes v word (LoadAnnouncement process) e m h =
+-- a try ends
+ended_plans : (sizes : Sizes) (v : TransferView) (second : Bool) → 0 < sizes.processes → ViewPlans sizes v → ViewPlans sizes (try_ended second v)
+ended_plans sizes v second some h = leaves_try sizes v (try_ended second v) some h refl refl refl refl (ended_has_none second)
+
+-- an announcement is loaded
+heard_plans : (sizes : Sizes) (v : TransferView) (second : Bool) (process word : ℕ) → v.next ≡ Try second (LoadAnnouncement process)
+    → Meets sizes v word → ViewPlans sizes v → ViewPlans sizes (met_in_try sizes v word second (LoadAnnouncement process))
+heard_plans sizes v second process word e m h =
     let among : process < sizes.processes = rw e at h.among in
     let few = m.few in
     let over : v.plan.overlay ≤ process = rw e at m.overlay in
     let loaded : Loaded = record v.loaded { announcements = set v.loaded.announcements process word } in
-    let value = m.heard process e in
-    either TransferView (ViewPlans sizes) (pops_slot sizes.processes v.loaded process word v.plan) _ _ (waits sizes v process word few h e value)
-    (applies sizes v loaded process word 0 few m.few_blocks h (rw e refl) (rw e refl) among over (m.fits (rw e refl)) m.block value refl (length-set v.loaded.announcements process word ∙ h.room.announcements) h.room.popped
-    (set_each (λ y. value_of y ≤ blocks sizes) v.loaded.announcements process word (omega (arith, h.room.announcements)) value h.heads.announcements) h.heads.popped
+    let value = m.heard second process e in
+    let room = length-set v.loaded.announcements process word ∙ h.room.announcements in
+    let blocks_heard = set_each (λ y. value_of y ≤ blocks sizes) v.loaded.announcements process word (omega (arith, h.room.announcements)) value
+    h.heads.announcements in
+    either TransferView (ViewPlans sizes) (pops_slot sizes.processes v.loaded process word v.plan) _ _ (waits sizes v second process word few h e value)
+    (applies sizes v second loaded process word 0 few m.few_blocks h (rw e refl) (rw e refl) among over (m.fits (rw e refl)) m.block value refl room
+    h.room.popped blocks_heard h.heads.popped
     (λ o lt. get_or-set_other v.loaded.announcements process o word 0 (below_apart o process lt))
     (get_or-set_same v.loaded.announcements process word 0 (omega (arith, h.room.announcements))))
-plans_met sizes v word (LoadPoppedSlot process) e m h =
+
+-- the slot of a taken batch is loaded
+popped_plans : (sizes : Sizes) (v : TransferView) (second : Bool) (process word : ℕ) → v.next ≡ Try second (LoadPoppedSlot process)
+    → Meets sizes v word → ViewPlans sizes v → ViewPlans sizes (met_in_try sizes v word second (LoadPoppedSlot process))
+popped_plans sizes v second process word e m h =
     let among : process < sizes.processes = rw e at h.among in
     let few = m.few in
     let over : v.plan.overlay ≤ process = rw e at m.overlay in
     let loaded : Loaded = record v.loaded { popped = set v.loaded.popped process word } in
-    let value = m.popped process e in
-    applies sizes v loaded process (get_or v.loaded.announcements process 0) (value_of word) few m.few_blocks h (rw e refl) (rw e refl) among over
-    (m.fits (rw e refl)) value (h.heads.announcements process) refl h.room.announcements (length-set v.loaded.popped process word ∙ h.room.popped)
-    h.heads.announcements (set_each (λ y. value_of y < blocks sizes) v.loaded.popped process word (omega (arith, h.room.popped)) value h.heads.popped)
+    let value = m.popped second process e in
+    let room = length-set v.loaded.popped process word ∙ h.room.popped in
+    let blocks_popped = set_each (λ y. value_of y < blocks sizes) v.loaded.popped process word (omega (arith, h.room.popped)) value h.heads.popped in
+    applies sizes v second loaded process (get_or v.loaded.announcements process 0) (value_of word) few m.few_blocks h (rw e refl) (rw e refl) among over
+    (m.fits (rw e refl)) value (h.heads.announcements process) refl h.room.announcements room h.heads.announcements blocks_popped
     (λ o lt. refl) refl
-plans_met sizes v word (StoreRecordWord index) e m h =
-    goes_on sizes v (met_at sizes v word (StoreRecordWord index)) h refl refl refl refl (rw e refl) (rw (stored_planned sizes index, e) (omega arith))
-    (rw (stored_process sizes index) m.some)
-plans_met sizes v word ExchangeState e m h =
-    either TransferView (ViewPlans sizes) (word == v.loaded.state) (installed v) (try_ended v) (leaves_try sizes v (installed v) m.some h refl refl refl refl refl)
-    (leaves_try sizes v (try_ended v) m.some h refl refl refl refl (ended_has_none (v.turn == 1)))
+
+-- the plan after each step of a try
+plans_met_in_try : (sizes : Sizes) (v : TransferView) (word : ℕ) (second : Bool) (s : TryStep) → v.next ≡ Try second s → Meets sizes v word
+    → ViewPlans sizes v → ViewPlans sizes (met_in_try sizes v word second s)
+plans_met_in_try sizes v word second LoadState e m h = leaves_try sizes v _ m.some h refl refl refl refl refl
+plans_met_in_try sizes v word second (LoadRecordWord index) e m h =
+    either TransferView (ViewPlans sizes) (nat_lt (loaded_tag v.loaded) (tag_of word)) (try_ended second v) _ (ended_plans sizes v second m.some h)
+    (record_word_plans sizes v second index word m.some h)
+plans_met_in_try sizes v word second (LoadCoveredSlot offset) e m h =
+    let t = nat_lt (tag_of word) (loaded_tag v.loaded) in
+    goes_on sizes v (met_in_try sizes v word second (LoadCoveredSlot offset)) h refl refl refl refl (rw e refl)
+    (rw (exchange_planned sizes.processes t v.loaded offset) (omega arith)) (rw (exchange_process t v.loaded offset) m.some)
+plans_met_in_try sizes v word second (ExchangeSlot offset) e m h =
+    goes_on sizes v (met_in_try sizes v word second (ExchangeSlot offset)) h refl refl refl refl (rw e refl)
+    (rw (slot_planned sizes.processes v.loaded offset) (omega arith)) (rw (slot_process v.loaded offset) m.some)
+plans_met_in_try sizes v word second (LoadAnnouncement process) e m h = heard_plans sizes v second process word e m h
+plans_met_in_try sizes v word second (LoadPoppedSlot process) e m h = popped_plans sizes v second process word e m h
+plans_met_in_try sizes v word second (StoreRecordWord index) e m h =
+    goes_on sizes v (met_in_try sizes v word second (StoreRecordWord index)) h refl refl refl refl (rw e refl)
+    (rw (stored_planned sizes index, e) (omega arith)) (rw (stored_process sizes index) m.some)
+plans_met_in_try sizes v word second ExchangeState e m h =
+    either TransferView (ViewPlans sizes) (word == v.loaded.state) (installed v) (try_ended second v)
+    (leaves_try sizes v (installed v) m.some h refl refl refl refl refl) (ended_plans sizes v second m.some h)
+
+-- the plan after each step
+pub plans_met : (sizes : Sizes) (v : TransferView) (word : ℕ) (s : NextStep) → v.next ≡ s → Meets sizes v word → ViewPlans sizes v
+    → ViewPlans sizes (met_at sizes v word s)
+plans_met sizes v word Rest e m h = h
+plans_met sizes v word Announce e m h = leaves_try sizes v _ m.some h refl refl refl refl refl
+plans_met sizes v word (Try second step) e m h = plans_met_in_try sizes v word second step e m h
 plans_met sizes v word LoadFinalState e m h = leaves_try sizes v _ m.some h refl refl refl refl refl
 plans_met sizes v word LoadReply e m h = leaves_try sizes v _ m.some h refl refl refl refl refl

@@ -1,16 +1,18 @@
 -- what the invariant gives for the next step of a view
-use Rattle.std.proofs.Common.{◌≡◌, ℕ, ◌+◌, ◌-◌, ◌^◌, ◌<◌, ◌≤◌, true, refl, arith, get_or}
+use Rattle.std.proofs.Common.{◌≡◌, Bool, ℕ, ◌+◌, ◌-◌, ◌*◌, ◌<◌, ◌≤◌, true, refl, arith, get_or}
 use Rattle.word_layout.specs.Sizes.{Sizes, IsShape, blocks}
-use Rattle.word_layout.specs.Names.{records}
-use Rattle.word_layout.specs.Packing.{value_of}
+use Rattle.word_layout.specs.Names.{records, record_words}
+use Rattle.word_layout.specs.Packing.{value_of, value_limit, tag_limit, most_age}
 use Rattle.word_layout.specs.declared.name.WordName.TheVariants.{Slot}
-use Rattle.transfer_machine.specs.Loads.{loaded_tag, loaded_base}
+use Rattle.transfer_machine.specs.Loads.{loaded_tag, loaded_base, overlay_length}
 use Rattle.transfer_machine.specs.NextStates.{IsLoaded}
 use Rattle.transfer_machine.specs.Tries.{planned_value}
-use Rattle.transfer_machine.specs.Machine.{action_of, CanActAt, CanMeetAt}
+use Rattle.transfer_machine.specs.Machine.{action_of, CanActAt, CanMeetAt, CanActInTry, CanMeetInTry}
 use Rattle.transfer_machine.specs.Words.{name_of}
 use Rattle.transfer_machine.specs.declared.stage.NextStep.{NextStep}
-use Rattle.transfer_machine.specs.declared.stage.NextStep.TheVariants.{Rest, Announce, LoadState, LoadRecordWord, LoadCoveredSlot, ExchangeSlot, LoadAnnouncement, LoadPoppedSlot, StoreRecordWord, ExchangeState, LoadFinalState, LoadReply}
+use Rattle.transfer_machine.specs.declared.stage.NextStep.TheVariants.{Rest, Announce, Try, LoadFinalState, LoadReply}
+use Rattle.transfer_machine.specs.declared.stage.TryStep.{TryStep}
+use Rattle.transfer_machine.specs.declared.stage.TryStep.TheVariants.{LoadState, LoadRecordWord, LoadCoveredSlot, ExchangeSlot, LoadAnnouncement, LoadPoppedSlot, StoreRecordWord, ExchangeState}
 use Rattle.transfer_invariant.specs.Memory.{Words, Views, States, state_tag, slot_value}
 use Rattle.transfer_invariant.specs.Progress.{has_record, has_loaded}
 use Rattle.transfer_invariant.specs.Invariant.{Invariant}
@@ -35,13 +37,13 @@ module _ (sizes : Sizes) (words : Words) (views : Views) (states : States) (i : 
   base_within has = let fits = view_fits has in let low = (plans.each i li).fits has in omega (arith, fits.within)
 
   -- the slot of a taken batch
-  pub taken_slot : (process : ℕ) → (views i).next ≡ LoadPoppedSlot process → IsSlotBelow (views i).loaded (views i).plan
-  taken_slot process e = popped_below sizes.processes (views i).loaded process (get_or (views i).loaded.announcements process 0) (views i).plan
+  pub taken_slot : (second : Bool) (process : ℕ) → (views i).next ≡ Try second (LoadPoppedSlot process) → IsSlotBelow (views i).loaded (views i).plan
+  taken_slot second process e = popped_below sizes.processes (views i).loaded process (get_or (views i).loaded.announcements process 0) (views i).plan
       (rw e at ((plans.pops i li).popping (rw e refl)))
 
   -- what is stored
-  pub stored_fits : (index : ℕ) → (views i).next ≡ StoreRecordWord index → planned_value sizes.processes (views i).plan index < 2 ^ 24
-  stored_fits index e =
+  pub stored_fits : (second : Bool) (index : ℕ) → (views i).next ≡ Try second (StoreRecordWord index) → planned_value sizes.processes (views i).plan index < value_limit
+  stored_fits second index e =
       let view = plans.each i li in
       let over : (views i).plan.overlay ≤ sizes.processes = rw e at (inv.plans i li) in
       planned_value_lt sizes (views i).plan index (few_batches sizes shape) shape.few_blocks (base_within (rw e refl))
@@ -49,18 +51,18 @@ module _ (sizes : Sizes) (words : Words) (views : Views) (states : States) (i : 
 
   module _ (given : PlanPremises sizes words states (views i)) where
     -- the word that is met
-    popped_block : (process : ℕ) → (views i).next ≡ LoadPoppedSlot process → value_of (words (Slot ((views i).plan.base - 1))) < blocks sizes
+    popped_block : (second : Bool) (process : ℕ) → (views i).next ≡ Try second (LoadPoppedSlot process) → value_of (words (Slot ((views i).plan.base - 1))) < blocks sizes
     unfolding slot_value
-    popped_block process e =
-        let slot = taken_slot process e in
+    popped_block second process e =
+        let slot = taken_slot second process e in
         let low = base_within (rw e refl) in
         given.slots ((views i).plan.base - 1) (omega (arith, slot.some))
 
-    popped_content : (process : ℕ) → (views i).next ≡ LoadPoppedSlot process → loaded_tag (views i).loaded ≡ state_tag words
+    popped_content : (second : Bool) (process : ℕ) → (views i).next ≡ Try second (LoadPoppedSlot process) → loaded_tag (views i).loaded ≡ state_tag words
         → value_of (words (Slot ((views i).plan.base - 1))) ≡ (states (state_tag words)).content ((views i).plan.base - 1)
     unfolding slot_value
-    popped_content process e now =
-        let slot = taken_slot process e in
+    popped_content second process e now =
+        let slot = taken_slot second process e in
         let base : loaded_base (views i).loaded ≡ (states (loaded_tag (views i).loaded)).base = (view_is (rw e refl)).base in
         let here : loaded_base (views i).loaded ≡ (states (state_tag words)).base = rw now at base in
         given.below ((views i).plan.base - 1) (omega (arith, slot.below))
@@ -73,74 +75,87 @@ module _ (sizes : Sizes) (words : Words) (views : Views) (states : States) (i : 
       few_blocks = shape.few_blocks;
       fits = view_fits;
       overlay = inv.plans i li;
-      heard = λ process e. rw e (plans.announcements process (rw e at (plans.each i li).among));
-      popped = λ process e. rw e (popped_block process e);
+      heard = λ second process e. rw e (plans.announcements process (rw e at (plans.each i li).among));
+      popped = λ second process e. rw e (popped_block second process e);
     }
 
-    pub view_pops : (process : ℕ) → (views i).next ≡ LoadPoppedSlot process → loaded_tag (views i).loaded ≡ state_tag words
+    pub view_pops : (second : Bool) (process : ℕ) → (views i).next ≡ Try second (LoadPoppedSlot process) → loaded_tag (views i).loaded ≡ state_tag words
         → value_of (words (name_of (action_of sizes (views i)))) ≡ (states (state_tag words)).content ((views i).plan.base - 1)
-    view_pops process e now = rw e (popped_content process e now)
+    view_pops second process e now = rw e (popped_content second process e now)
 
     -- an announcement can be applied
-    heard_can : (process : ℕ) → (views i).next ≡ LoadAnnouncement process → CanMeetAt sizes (views i) (words (name_of (action_of sizes (views i)))) (LoadAnnouncement process)
-    heard_can process e =
+    heard_can : (second : Bool) (process : ℕ) → (views i).next ≡ Try second (LoadAnnouncement process) → CanMeetInTry sizes (views i) (words (name_of (action_of sizes (views i)))) (LoadAnnouncement process)
+    heard_can second process e =
         let over : (views i).plan.overlay ≤ process = rw e at (inv.plans i li) in
         can_apply sizes (views i).loaded process _ 0 (views i).plan shape.few_processes shape.few_blocks (rw e at (plans.each i li).among) over
         (view_fits (rw e refl)) (some_block sizes shape) (plans.each i li).heads.heads ((plans.each i li).fits (rw e refl))
 
-    popped_act : (process : ℕ) → (views i).next ≡ LoadPoppedSlot process → CanActAt sizes (views i) (LoadPoppedSlot process)
-    popped_act process e = (rw e at (plans.each i li).among, (taken_slot process e).some, base_within (rw e refl))
+    popped_act : (second : Bool) (process : ℕ) → (views i).next ≡ Try second (LoadPoppedSlot process) → CanActInTry sizes (views i) (LoadPoppedSlot process)
+    popped_act second process e = (rw e at (plans.each i li).among, (taken_slot second process e).some, base_within (rw e refl))
 
-    popped_can : (process : ℕ) → (views i).next ≡ LoadPoppedSlot process → CanMeetAt sizes (views i) (words (name_of (action_of sizes (views i)))) (LoadPoppedSlot process)
-    popped_can process e =
+    popped_can : (second : Bool) (process : ℕ) → (views i).next ≡ Try second (LoadPoppedSlot process) → CanMeetInTry sizes (views i) (words (name_of (action_of sizes (views i)))) (LoadPoppedSlot process)
+    popped_can second process e =
         let over : (views i).plan.overlay ≤ process = rw e at (inv.plans i li) in
         can_apply sizes (views i).loaded process _ _ (views i).plan shape.few_processes shape.few_blocks (rw e at (plans.each i li).among) over
-        (view_fits (rw e refl)) (view_meets.popped process e) (plans.each i li).heads.heads ((plans.each i li).fits (rw e refl))
+        (view_fits (rw e refl)) (view_meets.popped second process e) (plans.each i li).heads.heads ((plans.each i li).fits (rw e refl))
 
     pub view_changes : PlanChanges sizes (views i) (words (name_of (action_of sizes (views i))))
     view_changes = record {
-      row = λ index e. (inv.records.loaded i li).row (rw e refl);
-      index = λ index e. rw e at (inv.records.own i li).index;
-      turn = λ index e. (inv.tags.order i li).try_last (rw e refl);
+      row = λ second index e. (inv.records.loaded i li).row (rw e refl);
+      index = λ second index e. rw e at (inv.records.own i li).index;
       heard = heard_can;
       popped_act = popped_act;
       popped = popped_can;
     }
 
     -- the step can be made
+    can_meet_in_try : (second : Bool) (s : TryStep) → (views i).next ≡ Try second s
+        → CanMeetInTry sizes (views i) (words (name_of (action_of sizes (views i)))) s
+    can_meet_in_try second LoadState e = tt
+    can_meet_in_try second (LoadRecordWord index) e = tt
+    can_meet_in_try second (LoadCoveredSlot offset) e = tt
+    can_meet_in_try second (ExchangeSlot offset) e = tt
+    can_meet_in_try second (LoadAnnouncement process) e = heard_can second process e
+    can_meet_in_try second (LoadPoppedSlot process) e = popped_can second process e
+    can_meet_in_try second (StoreRecordWord index) e = tt
+    can_meet_in_try second ExchangeState e = tt
+
     pub can_meet : (s : NextStep) → (views i).next ≡ s → CanMeetAt sizes (views i) (words (name_of (action_of sizes (views i)))) s
     can_meet Rest e = tt
     can_meet Announce e = tt
-    can_meet LoadState e = tt
-    can_meet (LoadRecordWord index) e = view_changes.turn index e
-    can_meet (LoadCoveredSlot offset) e = tt
-    can_meet (ExchangeSlot offset) e = tt
-    can_meet (LoadAnnouncement process) e = heard_can process e
-    can_meet (LoadPoppedSlot process) e = popped_can process e
-    can_meet (StoreRecordWord index) e = tt
-    can_meet ExchangeState e = (inv.tags.order i li).try_last (rw e refl)
+    can_meet (Try second step) e = can_meet_in_try second step e
     can_meet LoadFinalState e = tt
     can_meet LoadReply e = tt
 
-    module _ (covers : CoversWithin (views i)) (few : state_tag words ≤ 2 ^ 37 + 1) where
-      tag_low : has_loaded (views i).next ≡ true → loaded_tag (views i).loaded + 1 < 2 ^ 40
+    module _ (covers : CoversWithin (views i)) (few : state_tag words ≤ 32 * most_age + 1) where
+      tag_low : has_loaded (views i).next ≡ true → loaded_tag (views i).loaded + 1 < tag_limit
       tag_low has = let past = (inv.records.loaded i li).past has in omega arith
 
       row_low : (views i).next_record < records sizes
       row_low = next_low sizes.processes i (views i).next_record li (inv.records.own i li).next
 
+      covered_act : (offset : ℕ) → has_record (views i).next ≡ true → offset < overlay_length (views i).loaded
+          → CanActInTry sizes (views i) (LoadCoveredSlot offset)
+      covered_act offset has low =
+          let fits = view_fits has in
+          (omega (arith, fits.few, shape.few_processes), omega (arith, fits.within))
+
+      can_act_in_try : (second : Bool) (s : TryStep) → (views i).next ≡ Try second s → CanActInTry sizes (views i) s
+      can_act_in_try second LoadState e = tt
+      can_act_in_try second (LoadRecordWord index) e = ((inv.records.loaded i li).row (rw e refl), rw e at (inv.records.own i li).index)
+      can_act_in_try second (LoadCoveredSlot offset) e = covered_act offset (rw e refl) (covers.load second offset e)
+      can_act_in_try second (ExchangeSlot offset) e = covered_act offset (rw e refl) (covers.exchange second offset e)
+      can_act_in_try second (LoadAnnouncement process) e = rw e at (plans.each i li).among
+      can_act_in_try second (LoadPoppedSlot process) e = popped_act second process e
+      can_act_in_try second (StoreRecordWord index) e =
+          let over : (views i).plan.overlay ≤ sizes.processes = rw e at (inv.plans i li) in
+          let low : index < record_words sizes = rw e at (inv.records.own i li).index in
+          (row_low, low, omega (arith, shape.few_processes), tag_low (rw e refl), stored_fits second index e)
+      can_act_in_try second ExchangeState e = (row_low, tag_low (rw e refl))
+
       pub can_act : (s : NextStep) → (views i).next ≡ s → CanActAt sizes (views i) s
       can_act Rest e = tt
       can_act Announce e = (given.number, given.age e, wish_fits sizes (views i).wish shape.few_blocks (given.fits_wish e))
-      can_act LoadState e = tt
-      can_act (LoadRecordWord index) e = ((inv.records.loaded i li).row (rw e refl), rw e at (inv.records.own i li).index)
-      can_act (LoadCoveredSlot offset) e = let fits = view_fits (rw e refl) in let low = covers.load offset e in (omega (arith, fits.few, shape.few_processes), omega (arith, fits.within))
-      can_act (ExchangeSlot offset) e = let fits = view_fits (rw e refl) in let low = covers.exchange offset e in (omega (arith, fits.few, shape.few_processes), omega (arith, fits.within))
-      can_act (LoadAnnouncement process) e = rw e at (plans.each i li).among
-      can_act (LoadPoppedSlot process) e = popped_act process e
-      can_act (StoreRecordWord index) e =
-          let over : (views i).plan.overlay ≤ sizes.processes = rw e at (inv.plans i li) in
-          (row_low, rw e at (inv.records.own i li).index, omega (arith, shape.few_processes), tag_low (rw e refl), stored_fits index e)
-      can_act ExchangeState e = (row_low, tag_low (rw e refl))
+      can_act (Try second step) e = can_act_in_try second step e
       can_act LoadFinalState e = tt
       can_act LoadReply e = ((inv.records.loaded i li).row (rw e refl), given.number)

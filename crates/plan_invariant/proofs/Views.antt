@@ -1,8 +1,8 @@
 -- what a view keeps of its plan when it leaves a try, begins a plan, goes on, waits for a slot, or applies an announcement
-use Rattle.std.proofs.Common.{◌≡◌, ◌≢◌, ℕ, ◌+◌, ◌^◌, ◌<◌, ◌≤◌, ◌==◌, Bool, true, false, refl, sym, ◌∙◌, ap, inl, inr, arith, length, get_or, set, get_or-set_other, length-set}
+use Rattle.std.proofs.Common.{◌≡◌, ◌≢◌, ℕ, ◌+◌, ◌<◌, ◌≤◌, ◌==◌, Bool, true, false, refl, sym, ◌∙◌, ap, inl, inr, arith, length, get_or, set, get_or-set_other, length-set}
 use Rattle.std.proofs.lemmas.Bool.{cases_eq}
 use Rattle.std.proofs.lemmas.Bool.Decides.{nat_tests}
-use Rattle.word_layout.specs.Sizes.{Sizes, blocks}
+use Rattle.word_layout.specs.Sizes.{Sizes, blocks, most_blocks}
 use Rattle.word_layout.specs.Packing.{value_of, FitsReply, is_odd_reply}
 use Rattle.transfer_machine.specs.Loads.{loaded_base, overlay_length, loaded_reply}
 use Rattle.transfer_machine.specs.Planned.{HasRoom}
@@ -12,13 +12,14 @@ use Rattle.transfer_machine.specs.declared.loaded.Loaded.{Loaded}
 use Rattle.transfer_machine.specs.declared.try_plan.TryPlan.{TryPlan}
 use Rattle.transfer_machine.specs.declared.transfer.TransferView.{TransferView}
 use Rattle.transfer_machine.specs.declared.stage.NextStep.{NextStep}
-use Rattle.transfer_machine.specs.declared.stage.NextStep.TheVariants.{LoadAnnouncement, LoadPoppedSlot}
-use Rattle.transfer_invariant.specs.Progress.{has_record, planned_announcements}
+use Rattle.transfer_machine.specs.declared.stage.NextStep.TheVariants.{Try}
+use Rattle.transfer_machine.specs.declared.stage.TryStep.TheVariants.{LoadAnnouncement, LoadPoppedSlot}
+use Rattle.transfer_invariant.specs.Progress.{has_record, planned_announcements, planned_in_try}
 use Rattle.transfer_invariant.specs.Plans.{RepliesPlanned}
 use Rattle.plan_invariant.specs.Heads.{HeadsAreBlocks}
-use Rattle.plan_invariant.specs.Pops.{heard_process}
+use Rattle.plan_invariant.specs.Pops.{heard_process, heard_process_in_try}
 use Rattle.plan_invariant.specs.Holding.{ViewPlans}
-use Rattle.plan_invariant.proofs.Lists.{set_each}
+use Rattle.plan_invariant.proofs.Lists.{set_each, not_both}
 use Rattle.plan_invariant.proofs.Wishes.{LoadedFits, answer_fits, wish_of_block}
 use Rattle.plan_invariant.proofs.Announcements.{PlanIsFine, announced_fine, announced_base, announced_others, announced_kept, announced_parity}
 
@@ -57,14 +58,11 @@ no_process s e = grind arith
 no_replies : (processes : ℕ) (x : TransferView) → planned_announcements processes x.next ≡ 0 → RepliesPlanned processes x
 no_replies processes x e = record { kept = λ o lt. absurd (omega arith); parity = λ o lt. absurd (omega arith) }
 
-false_true : (b : Bool) → b ≡ false → b ≡ true → ⊥
-false_true b e h = grind arith
-
 -- a view outside of a try's plan
 pub leaves : (sizes : Sizes) (v x : TransferView) → 0 < sizes.processes → ViewPlans sizes v → KeepsArrays v x → has_record x.next ≡ false → ViewPlans sizes x
 leaves sizes v x some h k e = record {
   room = keeps_room v x h.room k;
-  fits = λ has. absurd (false_true (has_record x.next) e has);
+  fits = λ has. absurd (not_both (has_record x.next) e has);
   replies = no_replies sizes.processes x (no_record sizes.processes x.next e);
   heads = keeps_heads sizes v x h.heads k;
   among = rw (no_process x.next e) some;
@@ -108,11 +106,12 @@ goes_on sizes v x h e r a p has le among =
 pub below_apart : (j n : ℕ) → j < n → j ≢ n
 below_apart j n lt e = absurd (omega arith)
 
-pub waits : (sizes : Sizes) (v : TransferView) (process word : ℕ) → sizes.processes ≤ 32 → ViewPlans sizes v → v.next ≡ LoadAnnouncement process → value_of word ≤ blocks sizes
-    → ViewPlans sizes (record v { loaded = record v.loaded { announcements = set v.loaded.announcements process word }; next = LoadPoppedSlot process })
-waits sizes v process word few h e block =
+pub waits : (sizes : Sizes) (v : TransferView) (second : Bool) (process word : ℕ) → sizes.processes ≤ 32 → ViewPlans sizes v
+    → v.next ≡ Try second (LoadAnnouncement process) → value_of word ≤ blocks sizes
+    → ViewPlans sizes (record v { loaded = record v.loaded { announcements = set v.loaded.announcements process word }; next = Try second (LoadPoppedSlot process) })
+waits sizes v second process word few h e block =
     let among : process < sizes.processes = rw e at h.among in
-    let x : TransferView = record v { loaded = record v.loaded { announcements = set v.loaded.announcements process word }; next = LoadPoppedSlot process } in
+    let x : TransferView = record v { loaded = record v.loaded { announcements = set v.loaded.announcements process word }; next = Try second (LoadPoppedSlot process) } in
     record {
       room = record { record_words = h.room.record_words; announcements = length-set v.loaded.announcements process word ∙ h.room.announcements; popped = h.room.popped; heads = h.room.heads; replies = h.room.replies };
       fits = λ now. h.fits (rw e refl);
@@ -127,13 +126,13 @@ waits sizes v process word few h e block =
     }
 
 -- what follows an announcement
-pub after_planned : (sizes : Sizes) (process : ℕ) → planned_announcements sizes.processes (after_heard sizes process) ≡ process + 1
+pub after_planned : (sizes : Sizes) (process : ℕ) → planned_in_try sizes.processes (after_heard sizes process) ≡ process + 1
 after_planned sizes process = elim (cases_eq (process + 1) sizes.processes) [
   | inl last ↦ (let test : (process + 1 == sizes.processes) ≡ true = grind (arith, nat_tests) in rw test (sym last))
   | inr more ↦ (let test : (process + 1 == sizes.processes) ≡ false = grind (arith, nat_tests) in rw test refl)
 ]
 
-after_among : (sizes : Sizes) (process : ℕ) → process < sizes.processes → heard_process (after_heard sizes process) < sizes.processes
+after_among : (sizes : Sizes) (process : ℕ) → process < sizes.processes → heard_process_in_try (after_heard sizes process) < sizes.processes
 after_among sizes process lt = elim (cases_eq (process + 1) sizes.processes) [
   | inl last ↦ (let test : (process + 1 == sizes.processes) ≡ true = grind (arith, nat_tests) in rw test (omega arith))
   | inr more ↦ (let test : (process + 1 == sizes.processes) ≡ false = grind (arith, nat_tests) in rw test (omega arith))
@@ -160,15 +159,15 @@ applied_replies processes loaded process word popped n plan x room low en ep e r
 }
 
 -- a view that applies an announcement
-pub applies : (sizes : Sizes) (v : TransferView) (loaded : Loaded) (process word popped : ℕ) → sizes.processes ≤ 32 → blocks sizes ≤ 2 ^ 22 → ViewPlans sizes v
+pub applies : (sizes : Sizes) (v : TransferView) (second : Bool) (loaded : Loaded) (process word popped : ℕ) → sizes.processes ≤ 32 → blocks sizes ≤ most_blocks → ViewPlans sizes v
     → has_record v.next ≡ true → planned_announcements sizes.processes v.next ≡ process → process < sizes.processes → v.plan.overlay ≤ process
     → LoadedFits sizes v.loaded → popped < blocks sizes → value_of word ≤ blocks sizes → loaded.record_words ≡ v.loaded.record_words → length loaded.announcements ≡ 32
     → length loaded.popped ≡ 32
     → ((k : ℕ) → value_of (get_or loaded.announcements k 0) ≤ blocks sizes) → ((k : ℕ) → value_of (get_or loaded.popped k 0) < blocks sizes)
     → ((o : ℕ) → o < process → get_or loaded.announcements o 0 ≡ get_or v.loaded.announcements o 0) → get_or loaded.announcements process 0 ≡ word
-    → ViewPlans sizes (record v { loaded = loaded; next = after_heard sizes process; plan = after_announcement sizes.processes v.loaded process word popped v.plan })
-applies sizes v loaded process word popped few small h has met among over fits block value r ra rp ha hp same here =
-    let x : TransferView = record v { loaded = loaded; next = after_heard sizes process; plan = after_announcement sizes.processes v.loaded process word popped v.plan } in
+    → ViewPlans sizes (record v { loaded = loaded; next = Try second (after_heard sizes process); plan = after_announcement sizes.processes v.loaded process word popped v.plan })
+applies sizes v second loaded process word popped few small h has met among over fits block value r ra rp ha hp same here =
+    let x : TransferView = record v { loaded = loaded; next = Try second (after_heard sizes process); plan = after_announcement sizes.processes v.loaded process word popped v.plan } in
     let low = h.fits has in
     let answer = answer_fits sizes v.loaded popped v.plan (announced_wish word) small fits block h.heads.heads low in
     let fine : PlanIsFine sizes x.plan = announced_fine sizes sizes.processes v.loaded process word popped v.plan

@@ -1,10 +1,10 @@
 -- wishes of blocks, and answers that fit a reply
-use Rattle.std.proofs.Common.{◌≡◌, ℕ, zero, suc, ◌+◌, ◌-◌, ◌^◌, ◌<◌, ◌≤◌, ◌==◌, true, false, inl, inr, arith, get_or}
+use Rattle.std.proofs.Common.{◌≡◌, ℕ, zero, suc, ◌+◌, ◌-◌, ◌<◌, ◌≤◌, ◌==◌, true, false, inl, inr, arith, get_or}
 use Rattle.std.specs.Prelude.{nat_lt}
 use Rattle.std.proofs.lemmas.Bool.{cases_eq, cases_lt}
 use Rattle.std.proofs.lemmas.Bool.Decides.{nat_tests}
-use Rattle.word_layout.specs.Sizes.{Sizes, IsShape, blocks}
-use Rattle.word_layout.specs.Packing.{value_of, tagged, wish_of, wish_code, FitsWish, FitsReply}
+use Rattle.word_layout.specs.Sizes.{Sizes, most_blocks, IsShape, blocks}
+use Rattle.word_layout.specs.Packing.{value_limit, value_of, tagged, wish_of, wish_code, FitsWish, FitsReply}
 use Rattle.word_layout.specs.declared.announced.Wish.{Wish}
 use Rattle.word_layout.specs.declared.announced.Wish.TheVariants.{Take, Give}
 use Rattle.word_layout.proofs.Limits.{batches_le_blocks}
@@ -16,7 +16,7 @@ use Rattle.transfer_machine.specs.declared.try_plan.TryPlan.{TryPlan}
 use Rattle.plan_invariant.specs.Heads.{WishIsBlock}
 
 -- a value has 24 bits
-pub value_of_lt : (word : ℕ) → value_of word < 2 ^ 24
+pub value_of_lt : (word : ℕ) → value_of word < value_limit
 unfolding value_of
 value_of_lt word = omega arith
 
@@ -28,7 +28,7 @@ value_of_zero = omega arith
 pub some_block : (sizes : Sizes) → IsShape sizes → 0 < blocks sizes
 some_block sizes shape = omega (arith, batches_le_blocks sizes shape, shape.a_process, shape.two_batches_each)
 
-pub few_batches : (sizes : Sizes) → IsShape sizes → sizes.batches < 2 ^ 22 + 1
+pub few_batches : (sizes : Sizes) → IsShape sizes → sizes.batches < most_blocks + 1
 few_batches sizes shape = omega (arith, batches_le_blocks sizes shape, shape.few_blocks)
 
 -- a value of at most the number of blocks is a wish of a block, and the other way round
@@ -36,7 +36,7 @@ pub wish_of_block : (sizes : Sizes) (value : ℕ) → value ≤ blocks sizes →
 wish_of_block sizes zero h = tt
 wish_of_block sizes (suc head) h = omega arith
 
-pub wish_fits : (sizes : Sizes) (wish : Wish) → blocks sizes ≤ 2 ^ 22 → WishIsBlock sizes wish → FitsWish wish
+pub wish_fits : (sizes : Sizes) (wish : Wish) → blocks sizes ≤ most_blocks → WishIsBlock sizes wish → FitsWish wish
 wish_fits sizes Take few h = tt
 wish_fits sizes (Give head) few h = omega arith
 
@@ -44,7 +44,7 @@ pub code_of_block : (sizes : Sizes) (wish : Wish) → WishIsBlock sizes wish →
 code_of_block sizes Take h = omega arith
 code_of_block sizes (Give head) h = omega arith
 
-pub announced_block : (sizes : Sizes) (number : ℕ) (wish : Wish) → blocks sizes ≤ 2 ^ 22 → WishIsBlock sizes wish → value_of (tagged number (wish_code wish)) ≤ blocks sizes
+pub announced_block : (sizes : Sizes) (number : ℕ) (wish : Wish) → blocks sizes ≤ most_blocks → WishIsBlock sizes wish → value_of (tagged number (wish_code wish)) ≤ blocks sizes
 announced_block sizes number wish few h = rw (value_of-tagged number (wish_code wish) (wish_code_lt wish (wish_fits sizes wish few h))) (code_of_block sizes wish h)
 
 -- a loaded record says places that are slots and heads that are blocks
@@ -61,7 +61,7 @@ below_is_block sizes loaded popped plan fits pops some low = elim (cases_lt (pla
   | inr over ↦ (let test : nat_lt (plan.base - 1) (loaded_base loaded) ≡ false = grind (arith, nat_tests) in rw test (fits.heads (plan.base - 1 - loaded_base loaded) (omega arith)))
 ]
 
-take_fits : (sizes : Sizes) (loaded : Loaded) (popped : ℕ) (plan : TryPlan) → blocks sizes ≤ 2 ^ 22 → LoadedFits sizes loaded → popped < blocks sizes
+take_fits : (sizes : Sizes) (loaded : Loaded) (popped : ℕ) (plan : TryPlan) → blocks sizes ≤ most_blocks → LoadedFits sizes loaded → popped < blocks sizes
     → ((k : ℕ) → get_or plan.heads k 0 < blocks sizes) → plan.base ≤ loaded_base loaded + overlay_length loaded
     → FitsReply (take_reply loaded popped plan)
 take_fits sizes loaded popped plan few fits pops heads low = elim (cases_lt 0 plan.overlay) [
@@ -72,7 +72,7 @@ take_fits sizes loaded popped plan few fits pops heads low = elim (cases_lt 0 pl
   ])
 ]
 
-pub answer_fits : (sizes : Sizes) (loaded : Loaded) (popped : ℕ) (plan : TryPlan) (wish : Wish) → blocks sizes ≤ 2 ^ 22 → LoadedFits sizes loaded → popped < blocks sizes
+pub answer_fits : (sizes : Sizes) (loaded : Loaded) (popped : ℕ) (plan : TryPlan) (wish : Wish) → blocks sizes ≤ most_blocks → LoadedFits sizes loaded → popped < blocks sizes
     → ((k : ℕ) → get_or plan.heads k 0 < blocks sizes) → plan.base ≤ loaded_base loaded + overlay_length loaded
     → FitsReply (wish_reply loaded popped plan wish)
 answer_fits sizes loaded popped plan Take few fits pops heads low = take_fits sizes loaded popped plan few fits pops heads low

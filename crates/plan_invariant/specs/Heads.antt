@@ -1,7 +1,7 @@
 -- the heads that announcements and views name are blocks
-use Rattle.std.specs.Prelude.{ℕ, ◌^◌, ◌<◌, ◌≤◌, slice_index}
+use Rattle.std.specs.Prelude.{ℕ, ◌<◌, ◌≤◌, slice_index}
 use Rattle.word_layout.specs.Sizes.{Sizes, blocks}
-use Rattle.word_layout.specs.Packing.{value_of}
+use Rattle.word_layout.specs.Packing.{value_of, value_limit}
 use Rattle.word_layout.specs.declared.announced.Wish.{Wish}
 use Rattle.word_layout.specs.declared.announced.Wish.TheVariants.{Take, Give}
 use Rattle.word_layout.specs.declared.name.WordName.TheVariants.{Announcement}
@@ -17,9 +17,10 @@ WishIsBlock sizes (Give head) = head < blocks sizes
 abbrev pub AnnouncementsAreBlocks : Sizes → Words → Type 0
 AnnouncementsAreBlocks sizes words = (process : ℕ) → process < sizes.processes → value_of (words (Announcement process)) ≤ blocks sizes
 
--- Plan of a try, of one view: the heads of its announcements, of the slots that it loaded for takes and of its plan are blocks, and its planned replies are values
+-- Plan of a try, of one view: the heads of its announcements, of the slots that it loaded for takes and of its plan are blocks, and
+-- its planned replies are values
 pub record HeadsAreBlocks (sizes : Sizes) (v : TransferView) : Type 0 where
   pub announcements : (k : ℕ) → value_of (slice_index v.loaded.announcements k) ≤ blocks sizes
   pub popped : (k : ℕ) → value_of (slice_index v.loaded.popped k) < blocks sizes
   pub heads : (k : ℕ) → slice_index v.plan.heads k < blocks sizes
-  pub replies : (k : ℕ) → slice_index v.plan.replies k < 2 ^ 24
+  pub replies : (k : ℕ) → slice_index v.plan.replies k < value_limit

@@ -1,7 +1,8 @@
 -- the opening meets the part plan of a try, steps keep it, and what it gives
-use Rattle.std.specs.Prelude.{◌≡◌, ℕ, ◌+◌, ◌<◌, ◌≤◌, ◌^◌, slice_index}
+use Rattle.std.specs.Prelude.{◌≡◌, ℕ, ◌+◌, ◌*◌, ◌<◌, ◌≤◌, Bool, slice_index}
 use Rattle.word_layout.specs.Sizes.{Sizes, IsShape, blocks}
 use Rattle.word_layout.specs.Names.{InRange}
+use Rattle.word_layout.specs.Packing.{most_age, value_limit}
 use Rattle.word_layout.specs.declared.announced.Wish.{Wish}
 use Rattle.word_layout.specs.declared.name.WordName.{WordName}
 use Rattle.word_layout.specs.declared.name.WordName.TheVariants.{State}
@@ -12,7 +13,8 @@ use Rattle.transfer_machine.specs.States.{next_of}
 use Rattle.transfer_machine.specs.Tries.{planned_value}
 use Rattle.transfer_machine.specs.Words.{name_of}
 use Rattle.transfer_machine.specs.declared.transfer.TransferView.{TransferView}
-use Rattle.transfer_machine.specs.declared.stage.NextStep.TheVariants.{Rest, LoadCoveredSlot, ExchangeSlot, StoreRecordWord, ExchangeState}
+use Rattle.transfer_machine.specs.declared.stage.NextStep.TheVariants.{Rest, Try}
+use Rattle.transfer_machine.specs.declared.stage.TryStep.TheVariants.{LoadCoveredSlot, ExchangeSlot, StoreRecordWord, ExchangeState}
 use Rattle.transfer_invariant.specs.Memory.{Words, Views, States, Acted, Moved, state_tag}
 use Rattle.transfer_invariant.specs.Installing.{planned_state, states_after}
 use Rattle.transfer_invariant.specs.Invariant.{Invariant}
@@ -47,8 +49,8 @@ BeginningsKeepPlans = (sizes : Sizes) (words : Words) (views after : Views) (sta
 
 -- the covered slot that the next step is about lies in the loaded overlay
 pub record CoversWithin (v : TransferView) : Type 0 where
-  pub load : (offset : ℕ) → v.next ≡ LoadCoveredSlot offset → offset < overlay_length v.loaded
-  pub exchange : (offset : ℕ) → v.next ≡ ExchangeSlot offset → offset < overlay_length v.loaded
+  pub load : (second : Bool) (offset : ℕ) → v.next ≡ Try second (LoadCoveredSlot offset) → offset < overlay_length v.loaded
+  pub exchange : (second : Bool) (offset : ℕ) → v.next ≡ Try second (ExchangeSlot offset) → offset < overlay_length v.loaded
 
 -- every view can make its next step, whose numbers are then all in range
 abbrev pub StepsCanBeMade : Type 0
@@ -57,25 +59,26 @@ StepsCanBeMade = (sizes : Sizes) (words : Words) (views : Views) (states : State
     → PlansHold sizes words views states
     → PlanPremises sizes words states (views i)
     → CoversWithin (views i)
-    → state_tag words ≤ 2 ^ 37 + 1
+    → state_tag words ≤ 32 * most_age + 1
     → CanAct sizes (views i) × CanMeet sizes (views i) (words (name_of (action_of sizes (views i))))
 
 -- what a view stores in its next record fits a value
 abbrev pub StoredWordsFit : Type 0
-StoredWordsFit = (sizes : Sizes) (words : Words) (views : Views) (states : States) (i index : ℕ) → IsShape sizes → i < sizes.processes
+StoredWordsFit = (sizes : Sizes) (words : Words) (views : Views) (states : States) (i : ℕ) (second : Bool) (index : ℕ) → IsShape sizes → i < sizes.processes
     → Invariant sizes words views states
     → PlansHold sizes words views states
-    → (views i).next ≡ StoreRecordWord index
-    → planned_value sizes.processes (views i).plan index < 2 ^ 24
+    → (views i).next ≡ Try second (StoreRecordWord index)
+    → planned_value sizes.processes (views i).plan index < value_limit
 
 -- the state that a view plans is, where its exchange installs it, what the loaded announcements make of the present one
 abbrev pub PlannedIsNext : Type 0
-PlannedIsNext = (sizes : Sizes) (words : Words) (views : Views) (states : States) (i : ℕ) → IsShape sizes → i < sizes.processes
+PlannedIsNext = (sizes : Sizes) (words : Words) (views : Views) (states : States) (i : ℕ) (second : Bool) → IsShape sizes → i < sizes.processes
     → Invariant sizes words views states
     → PlansHold sizes words views states
-    → (views i).next ≡ ExchangeState
+    → (views i).next ≡ Try second ExchangeState
     → words State ≡ (views i).loaded.state
-    → SameState sizes.processes (planned_state (states (state_tag words)) (views i)) (next_of sizes.processes (λ o. slice_index (views i).loaded.announcements o) (states (state_tag words)))
+    → SameState sizes.processes (planned_state (states (state_tag words)) (views i))
+    (next_of sizes.processes (λ o. slice_index (views i).loaded.announcements o) (states (state_tag words)))
 
 -- the heads that a view plans are blocks
 abbrev pub PlannedHeadsAreBlocks : Type 0
@@ -85,9 +88,9 @@ PlannedHeadsAreBlocks = (sizes : Sizes) (words : Words) (views : Views) (states 
 
 -- the base that a view plans is at most the height of the state that it loaded, when it is about to install the plan
 abbrev pub PlannedBaseIsLow : Type 0
-PlannedBaseIsLow = (sizes : Sizes) (words : Words) (views : Views) (states : States) (i : ℕ) → i < sizes.processes
+PlannedBaseIsLow = (sizes : Sizes) (words : Words) (views : Views) (states : States) (i : ℕ) (second : Bool) → i < sizes.processes
     → PlansHold sizes words views states
-    → (views i).next ≡ ExchangeState
+    → (views i).next ≡ Try second ExchangeState
     → (views i).plan.base ≤ loaded_base (views i).loaded + overlay_length (views i).loaded
 
 -- what a view writes fits, where all places of a plan that it installs are slots
@@ -95,5 +98,6 @@ abbrev pub PlansGiveWrites : Type 0
 PlansGiveWrites = (sizes : Sizes) (words : Words) (views : Views) (states : States) (i : ℕ) → IsShape sizes → i < sizes.processes
     → Invariant sizes words views states
     → PlansHold sizes words views states
-    → ((views i).next ≡ ExchangeState → words State ≡ (views i).loaded.state → (views i).plan.base + (views i).plan.overlay ≤ sizes.batches)
+    → ((second : Bool) → (views i).next ≡ Try second ExchangeState → words State ≡ (views i).loaded.state
+    → (views i).plan.base + (views i).plan.overlay ≤ sizes.batches)
     → WritesFit sizes words (views i)

@@ -2,7 +2,8 @@
 use Rattle.std.specs.Prelude.{◌≡◌, ℕ, ◌<◌}
 use Rattle.transfer_machine.specs.States.{StackState}
 
--- two states with the same content, and the same replies and applied transfers of these processes; past the height and the processes nothing is said
+-- two states with the same content, and the same replies and applied transfers of these processes; past the height and the processes
+-- nothing is said
 pub record SameState (processes : ℕ) (s t : StackState) : Type 0 where
   pub base : s.base ≡ t.base
   pub height : s.height ≡ t.height

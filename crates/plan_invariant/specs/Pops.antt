@@ -5,37 +5,47 @@ use Rattle.transfer_machine.specs.Tries.{pops_slot}
 use Rattle.transfer_machine.specs.Planned.{planned}
 use Rattle.transfer_machine.specs.declared.transfer.TransferView.{TransferView}
 use Rattle.transfer_machine.specs.declared.stage.NextStep.{NextStep}
-use Rattle.transfer_machine.specs.declared.stage.NextStep.TheVariants.{Rest, Announce, LoadState, LoadRecordWord, LoadCoveredSlot, ExchangeSlot, LoadAnnouncement, LoadPoppedSlot, StoreRecordWord, ExchangeState, LoadFinalState, LoadReply}
+use Rattle.transfer_machine.specs.declared.stage.NextStep.TheVariants.{Rest, Announce, Try, LoadFinalState, LoadReply}
+use Rattle.transfer_machine.specs.declared.stage.TryStep.{TryStep}
+use Rattle.transfer_machine.specs.declared.stage.TryStep.TheVariants.{LoadState, LoadRecordWord, LoadCoveredSlot, ExchangeSlot, LoadAnnouncement, LoadPoppedSlot, StoreRecordWord, ExchangeState}
 use Rattle.transfer_invariant.specs.Memory.{Words, States, state_tag}
 use Rattle.transfer_invariant.specs.Progress.{has_record, planned_announcements}
+
+-- the process whose announcement that step of a try is about
+abbrev pub heard_process_in_try : TryStep → ℕ
+heard_process_in_try LoadState = 0
+heard_process_in_try (LoadRecordWord index) = 0
+heard_process_in_try (LoadCoveredSlot offset) = 0
+heard_process_in_try (ExchangeSlot offset) = 0
+heard_process_in_try (LoadAnnouncement process) = process
+heard_process_in_try (LoadPoppedSlot process) = process
+heard_process_in_try (StoreRecordWord index) = 0
+heard_process_in_try ExchangeState = 0
 
 -- the process whose announcement the next step is about
 abbrev pub heard_process : NextStep → ℕ
 heard_process Rest = 0
 heard_process Announce = 0
-heard_process LoadState = 0
-heard_process (LoadRecordWord index) = 0
-heard_process (LoadCoveredSlot offset) = 0
-heard_process (ExchangeSlot offset) = 0
-heard_process (LoadAnnouncement process) = process
-heard_process (LoadPoppedSlot process) = process
-heard_process (StoreRecordWord index) = 0
-heard_process ExchangeState = 0
+heard_process (Try second step) = heard_process_in_try step
 heard_process LoadFinalState = 0
 heard_process LoadReply = 0
+
+-- that step of a try loads the slot of a taken batch
+abbrev pub popped_in_try : TryStep → Bool
+popped_in_try LoadState = false
+popped_in_try (LoadRecordWord index) = false
+popped_in_try (LoadCoveredSlot offset) = false
+popped_in_try (ExchangeSlot offset) = false
+popped_in_try (LoadAnnouncement process) = false
+popped_in_try (LoadPoppedSlot process) = true
+popped_in_try (StoreRecordWord index) = false
+popped_in_try ExchangeState = false
 
 -- the next step loads the slot of a taken batch
 abbrev pub loads_popped : NextStep → Bool
 loads_popped Rest = false
 loads_popped Announce = false
-loads_popped LoadState = false
-loads_popped (LoadRecordWord index) = false
-loads_popped (LoadCoveredSlot offset) = false
-loads_popped (ExchangeSlot offset) = false
-loads_popped (LoadAnnouncement process) = false
-loads_popped (LoadPoppedSlot process) = true
-loads_popped (StoreRecordWord index) = false
-loads_popped ExchangeState = false
+loads_popped (Try second step) = popped_in_try step
 loads_popped LoadFinalState = false
 loads_popped LoadReply = false
 
@@ -43,9 +53,11 @@ loads_popped LoadReply = false
 abbrev pub PlanFitsLoaded : TransferView → Type 0
 PlanFitsLoaded v = has_record v.next ≡ true → v.plan.base ≤ loaded_base v.loaded + overlay_length v.loaded
 
--- Plan of a try, of one view: it loads a slot only for an announcement that takes its batch from there, and while the loaded state is the present one, what it loaded so is the state's content
+-- Plan of a try, of one view: it loads a slot only for an announcement that takes its batch from there, and while the loaded state is
+-- the present one, what it loaded so is the state's content
 pub record PopsHold (processes : ℕ) (words : Words) (states : States) (v : TransferView) : Type 0 where
-  pub popping : loads_popped v.next ≡ true → pops_slot processes v.loaded (heard_process v.next) (slice_index v.loaded.announcements (heard_process v.next)) v.plan ≡ true
+  pub popping : loads_popped v.next ≡ true
+      → pops_slot processes v.loaded (heard_process v.next) (slice_index v.loaded.announcements (heard_process v.next)) v.plan ≡ true
   pub popped : has_record v.next ≡ true → loaded_tag v.loaded ≡ state_tag words → (j : ℕ) → j < planned_announcements processes v.next
       → pops_slot processes v.loaded j (slice_index v.loaded.announcements j) (planned processes v.loaded j) ≡ true
       → popped_head v.loaded j ≡ (states (state_tag words)).content ((planned processes v.loaded j).base - 1)

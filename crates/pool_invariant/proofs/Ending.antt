@@ -19,7 +19,7 @@ moving_unless_rest s ne = grind arith
 
 -- there is a step left
 pub step_left : (sizes : Sizes) (v : TransferView) (s : NextStep) → IndexFitsAt sizes v.loaded s → (has_record s ≡ true → overlay_length v.loaded ≤ sizes.processes)
-    → steps_before_at sizes.processes v.turn s + 1 ≤ transfer_bound sizes
+    → steps_before_at sizes.processes s + 1 ≤ transfer_bound sizes
 step_left sizes v s index few = grind (arith, nat_tests)
 
 -- after k steps the view names a place, and if its transfer hasn't ended it has made at most as many as come before the next one

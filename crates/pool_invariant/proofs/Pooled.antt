@@ -7,10 +7,10 @@ use Rattle.word_layout.specs.declared.announced.Wish.TheVariants.{Take, Give}
 use Rattle.word_layout.specs.declared.reply.Reply.{Reply}
 use Rattle.word_layout.specs.declared.reply.Reply.TheVariants.{Nothing, Took, Gave}
 use Rattle.transfer_schedule.proofs.Operations.{one_more_few}
-use Rattle.transfer_machine.specs.Pools.{pending_of, step_counted, pool_ended}
+use Rattle.pool_machine.specs.Pools.{pending_of, step_counted, pool_ended}
 use Rattle.transfer_machine.specs.declared.transfer.TransferView.{TransferView}
-use Rattle.transfer_machine.specs.declared.view.PoolView.{PoolView}
-use Rattle.transfer_machine.specs.declared.view.ProcessView.{ProcessView}
+use Rattle.pool_machine.specs.declared.view.PoolView.{PoolView}
+use Rattle.pool_machine.specs.declared.view.ProcessView.{ProcessView}
 use Rattle.pool_invariant.specs.Stages.{is_moving, is_announcing}
 use Rattle.pool_invariant.specs.Kept.{PoolKept, SparesKept, KeptAlone, Answers}
 

@@ -1,16 +1,16 @@
 -- every step keeps the facts of the pool
-use Rattle.std.proofs.Common.{◌≡◌, ℕ, ◌+◌, ◌≤◌, ◌^◌, true, false, refl, arith}
+use Rattle.std.proofs.Common.{◌≡◌, ℕ, ◌+◌, ◌≤◌, true, false, refl, arith}
 use Rattle.word_layout.specs.Sizes.{Sizes}
-use Rattle.word_layout.specs.Packing.{value_of, reply_of}
+use Rattle.word_layout.specs.Packing.{most_age, value_of, reply_of}
 use Rattle.word_layout.specs.declared.announced.Wish.{Wish}
 use Rattle.transfer_machine.specs.Loads.{overlay_length}
 use Rattle.transfer_machine.specs.Machine.{met_at}
-use Rattle.transfer_machine.specs.Pools.{pool_met_at, step_counted, pending_of}
+use Rattle.pool_machine.specs.Pools.{pool_met_at, step_counted, pending_of}
 use Rattle.transfer_machine.specs.declared.transfer.TransferView.{TransferView}
-use Rattle.transfer_machine.specs.declared.view.PoolView.{PoolView}
-use Rattle.transfer_machine.specs.declared.view.ProcessView.{ProcessView}
+use Rattle.pool_machine.specs.declared.view.PoolView.{PoolView}
+use Rattle.pool_machine.specs.declared.view.ProcessView.{ProcessView}
 use Rattle.transfer_machine.specs.declared.stage.NextStep.{NextStep}
-use Rattle.transfer_machine.specs.declared.stage.NextStep.TheVariants.{Rest, Announce, LoadState, LoadRecordWord, LoadCoveredSlot, ExchangeSlot, LoadAnnouncement, LoadPoppedSlot, StoreRecordWord, ExchangeState, LoadFinalState, LoadReply}
+use Rattle.transfer_machine.specs.declared.stage.NextStep.TheVariants.{Rest, Announce, Try, LoadFinalState, LoadReply}
 use Rattle.transfer_invariant.specs.Progress.{has_record}
 use Rattle.pool_invariant.specs.Stages.{is_moving, is_announcing}
 use Rattle.pool_invariant.specs.StepCount.{steps_before_at}
@@ -45,7 +45,7 @@ going_runs sizes v word s e going some h few =
     let stays = step_stays sizes v.transfer word s going in
     let moving = going_moving s going in
     let index = rw e at h.index in
-    let counted : v.pool.plan.done ≤ steps_before_at sizes.processes v.transfer.turn s = rw e at h.counted moving in
+    let counted : v.pool.plan.done ≤ steps_before_at sizes.processes s = rw e at h.counted moving in
     let none : v.pool.giving ≡ 0 = h.kept.settled (rw e (going_announced s going)) in
     rw (going_pool v.pool word s going) (record {
       kept = step_kept sizes v x v.pool.giving h.kept (rw e moving) stays.moving stays.announced stays.wish none;
@@ -58,7 +58,7 @@ going_alone : (sizes : Sizes) (i : ℕ) (pool : PoolView) (word : ℕ) (s : Next
 going_alone sizes i pool word s going h = rw (going_pool pool word s going) (record { spares = step_spares pool pool.giving h.spares; full = step_alone sizes i pool pool.giving h.full })
 
 -- the announcement
-announced_age : (v : TransferView) → AgeFits v → v.next ≡ Announce → v.age + 1 ≤ 2 ^ 32
+announced_age : (v : TransferView) → AgeFits v → v.next ≡ Announce → v.age + 1 ≤ most_age
 announced_age v h e = let below = h.below (rw e refl) in omega arith
 
 announced_runs : (sizes : Sizes) (v : ProcessView) (word : ℕ) → v.transfer.next ≡ Announce → PoolRuns sizes v
@@ -88,14 +88,7 @@ pub step_runs : (sizes : Sizes) (v : ProcessView) (word : ℕ) (s : NextStep) �
     → PoolRuns sizes (record v { transfer = met_at sizes v.transfer word s; pool = pool_met_at word v.pool s })
 step_runs sizes v word Rest e some h few = h
 step_runs sizes v word Announce e some h few = announced_runs sizes v word e h
-step_runs sizes v word LoadState e some h few = going_runs sizes v word LoadState e refl some h few
-step_runs sizes v word (LoadRecordWord index) e some h few = going_runs sizes v word (LoadRecordWord index) e refl some h few
-step_runs sizes v word (LoadCoveredSlot offset) e some h few = going_runs sizes v word (LoadCoveredSlot offset) e refl some h few
-step_runs sizes v word (ExchangeSlot offset) e some h few = going_runs sizes v word (ExchangeSlot offset) e refl some h few
-step_runs sizes v word (LoadAnnouncement process) e some h few = going_runs sizes v word (LoadAnnouncement process) e refl some h few
-step_runs sizes v word (LoadPoppedSlot process) e some h few = going_runs sizes v word (LoadPoppedSlot process) e refl some h few
-step_runs sizes v word (StoreRecordWord index) e some h few = going_runs sizes v word (StoreRecordWord index) e refl some h few
-step_runs sizes v word ExchangeState e some h few = going_runs sizes v word ExchangeState e refl some h few
+step_runs sizes v word (Try second step) e some h few = going_runs sizes v word (Try second step) e refl some h few
 step_runs sizes v word LoadFinalState e some h few = going_runs sizes v word LoadFinalState e refl some h few
 step_runs sizes v word LoadReply e some h few = ended_runs sizes v word e h
 
@@ -111,14 +104,7 @@ alone_at : (sizes : Sizes) (i : ℕ) (pool : PoolView) (wish : Wish) (word : ℕ
     → PoolAlone sizes i (pool_met_at word pool s)
 alone_at sizes i pool wish word Rest pending answers h = h
 alone_at sizes i pool wish word Announce pending answers h = record { spares = step_spares pool 0 h.spares; full = step_alone sizes i pool 0 h.full }
-alone_at sizes i pool wish word LoadState pending answers h = going_alone sizes i pool word LoadState refl h
-alone_at sizes i pool wish word (LoadRecordWord index) pending answers h = going_alone sizes i pool word (LoadRecordWord index) refl h
-alone_at sizes i pool wish word (LoadCoveredSlot offset) pending answers h = going_alone sizes i pool word (LoadCoveredSlot offset) refl h
-alone_at sizes i pool wish word (ExchangeSlot offset) pending answers h = going_alone sizes i pool word (ExchangeSlot offset) refl h
-alone_at sizes i pool wish word (LoadAnnouncement process) pending answers h = going_alone sizes i pool word (LoadAnnouncement process) refl h
-alone_at sizes i pool wish word (LoadPoppedSlot process) pending answers h = going_alone sizes i pool word (LoadPoppedSlot process) refl h
-alone_at sizes i pool wish word (StoreRecordWord index) pending answers h = going_alone sizes i pool word (StoreRecordWord index) refl h
-alone_at sizes i pool wish word ExchangeState pending answers h = going_alone sizes i pool word ExchangeState refl h
+alone_at sizes i pool wish word (Try second step) pending answers h = going_alone sizes i pool word (Try second step) refl h
 alone_at sizes i pool wish word LoadFinalState pending answers h = going_alone sizes i pool word LoadFinalState refl h
 alone_at sizes i pool wish word LoadReply pending answers h = ended_alone sizes i pool wish word (pending refl) (answers refl) h
 

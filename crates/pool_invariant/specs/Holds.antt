@@ -1,8 +1,8 @@
 -- the pool's part of the invariant: its facts, gathered, all of one process
 use Rattle.std.specs.Prelude.{ℕ}
 use Rattle.word_layout.specs.Sizes.{Sizes}
-use Rattle.transfer_machine.specs.declared.view.PoolView.{PoolView}
-use Rattle.transfer_machine.specs.declared.view.ProcessView.{ProcessView}
+use Rattle.pool_machine.specs.declared.view.PoolView.{PoolView}
+use Rattle.pool_machine.specs.declared.view.ProcessView.{ProcessView}
 use Rattle.pool_invariant.specs.Stages.{IndexFits}
 use Rattle.pool_invariant.specs.StepCount.{StepsCounted}
 use Rattle.pool_invariant.specs.Kept.{PoolKept, SparesKept, KeptAlone, AgeFits}

@@ -1,22 +1,23 @@
 -- what a process keeps for its pool, and what of it stays while it makes transfers alone, outside any call
-use Rattle.std.specs.Prelude.{◌≡◌, ℕ, ◌+◌, ◌*◌, ◌^◌, ◌<◌, ◌≤◌, true, false, length}
+use Rattle.std.specs.Prelude.{◌≡◌, ℕ, ◌+◌, ◌*◌, ◌<◌, ◌≤◌, true, false, length}
 use Rattle.word_layout.specs.Sizes.{Sizes, transfer_bound}
-use Rattle.word_layout.specs.Packing.{wish_code, value_of, reply_of}
+use Rattle.word_layout.specs.Packing.{most_age, wish_code, value_of, reply_of}
 use Rattle.word_layout.specs.declared.announced.Wish.{Wish}
 use Rattle.word_layout.specs.declared.announced.Wish.TheVariants.{Take, Give}
 use Rattle.word_layout.specs.declared.reply.Reply.{Reply}
 use Rattle.word_layout.specs.declared.reply.Reply.TheVariants.{Nothing, Took, Gave}
 use Rattle.transfer_schedule.specs.Numbers.{is_idle}
 use Rattle.transfer_schedule.specs.declared.pending.Pending.TheVariants.{Idle, Taking, Giving}
-use Rattle.transfer_machine.specs.Pools.{pending_of}
+use Rattle.pool_machine.specs.Pools.{pending_of}
 use Rattle.transfer_machine.specs.declared.transfer.TransferView.{TransferView}
-use Rattle.transfer_machine.specs.declared.view.PoolView.{PoolView}
-use Rattle.transfer_machine.specs.declared.view.ProcessView.{ProcessView}
+use Rattle.pool_machine.specs.declared.view.PoolView.{PoolView}
+use Rattle.pool_machine.specs.declared.view.ProcessView.{ProcessView}
 use Rattle.transfer_machine.specs.declared.stage.NextStep.TheVariants.{LoadReply}
 use Rattle.pool_invariant.specs.Stages.{is_moving, is_announcing}
 use Rattle.pool_invariant.specs.StepCount.{OverlayIsFew}
 
--- the plan has the sizes of the shape; it counts steps only of the pending transfer, which is what the process wishes; the head of a begun give is kept until its announcement
+-- the plan has the sizes of the shape; it counts steps only of the pending transfer, which is what the process wishes; the head of a
+-- begun give is kept until its announcement
 pub record PoolKept (sizes : Sizes) (v : ProcessView) : Type 0 where
   pub batch : v.pool.plan.length ≡ sizes.length
   pub bound : v.pool.plan.bound ≡ transfer_bound sizes
@@ -35,7 +36,8 @@ pub record SparesKept (pool : PoolView) : Type 0 where
   pub taking : pool.plan.pending ≡ Taking → pool.plan.spares ≤ 2
   pub giving : pool.plan.pending ≡ Giving → pool.plan.spares ≤ 2
 
--- of transfers alone: the current list is the full one of the opening; there are at most two spares, and at most one while a transfer is pending
+-- of transfers alone: the current list is the full one of the opening; there are at most two spares, and at most one while a transfer
+-- is pending
 pub record KeptAlone (sizes : Sizes) (process : ℕ) (pool : PoolView) : Type 0 where
   pub full : pool.plan.current ≡ sizes.length
   pub first : pool.head ≡ 2 * process * sizes.length + 1
@@ -44,8 +46,8 @@ pub record KeptAlone (sizes : Sizes) (process : ℕ) (pool : PoolView) : Type 0 
 
 -- the age is within its limit, and a transfer is begun only below it
 pub record AgeFits (v : TransferView) : Type 0 where
-  pub most : v.age ≤ 2 ^ 32
-  pub below : is_announcing v.next ≡ true → v.age < 2 ^ 32
+  pub most : v.age ≤ most_age
+  pub below : is_announcing v.next ≡ true → v.age < most_age
 
 -- a reply that answers a wish: a take gets nothing or a batch, a give is always made
 abbrev pub Answers : Wish → Reply → Type 0
@@ -56,7 +58,8 @@ Answers (Give head) Nothing = ⊥
 Answers (Give head) (Took batch) = ⊥
 Answers (Give head) Gave = Unit {0}
 
--- what the other parts of the machine give a step that meets this word: an overlay has at most a head a process, and the own reply answers the own wish
+-- what the other parts of the machine give a step that meets this word: an overlay has at most a head a process, and the own reply
+-- answers the own wish
 pub record GivenToPool (sizes : Sizes) (v : TransferView) (word : ℕ) : Type 0 where
   pub few : OverlayIsFew sizes v
   pub answers : v.next ≡ LoadReply → Answers v.wish (reply_of (value_of word))

@@ -1,13 +1,13 @@
 -- the pool's part holds at the opening, and beginnings and steps keep it; what follows from it
-use Rattle.std.specs.Prelude.{◌≡◌, ◌≢◌, ℕ, ◌+◌, ◌^◌, ◌<◌, ◌≤◌}
+use Rattle.std.specs.Prelude.{◌≡◌, ◌≢◌, ℕ, ◌+◌, ◌<◌, ◌≤◌}
 use Rattle.word_layout.specs.Sizes.{Sizes, IsShape, transfer_bound}
-use Rattle.word_layout.specs.Packing.{value_of, reply_of}
+use Rattle.word_layout.specs.Packing.{most_age, value_of, reply_of}
 use Rattle.word_layout.specs.declared.announced.Wish.{Wish}
 use Rattle.transfer_schedule.specs.Table.{InTable}
 use Rattle.transfer_machine.specs.Machine.{met_of}
-use Rattle.transfer_machine.specs.Pools.{opening_view, view_begun, view_met, MayBegin, CanCount, CanMeetPool}
+use Rattle.pool_machine.specs.Pools.{opening_view, view_begun, view_met, MayBegin, CanCount, CanMeetPool}
 use Rattle.transfer_machine.specs.declared.transfer.TransferView.{TransferView}
-use Rattle.transfer_machine.specs.declared.view.ProcessView.{ProcessView}
+use Rattle.pool_machine.specs.declared.view.ProcessView.{ProcessView}
 use Rattle.transfer_machine.specs.declared.stage.NextStep.TheVariants.{Rest, LoadReply}
 use Rattle.transfer_invariant.specs.Memory.{Words, Views, States}
 use Rattle.transfer_invariant.specs.Invariant.{RecordsHold}
@@ -25,7 +25,7 @@ abbrev pub BeginningsKeepPool : Type 0
 BeginningsKeepPool = (sizes : Sizes) (i : ℕ) (v : ProcessView) (wish : Wish) → PoolHolds sizes i v
     → v.transfer.next ≡ Rest
     → MayBegin wish v.pool
-    → v.transfer.age < 2 ^ 32
+    → v.transfer.age < most_age
     → PoolHolds sizes i (view_begun wish v)
 
 -- each step keeps it, whatever word it meets

@@ -6,20 +6,15 @@ use Rattle.transfer_machine.specs.Loads.{overlay_length}
 use Rattle.transfer_machine.specs.declared.loaded.Loaded.{Loaded}
 use Rattle.transfer_machine.specs.declared.transfer.TransferView.{TransferView}
 use Rattle.transfer_machine.specs.declared.stage.NextStep.{NextStep}
-use Rattle.transfer_machine.specs.declared.stage.NextStep.TheVariants.{Rest, Announce, LoadState, LoadRecordWord, LoadCoveredSlot, ExchangeSlot, LoadAnnouncement, LoadPoppedSlot, StoreRecordWord, ExchangeState, LoadFinalState, LoadReply}
+use Rattle.transfer_machine.specs.declared.stage.NextStep.TheVariants.{Rest, Announce, Try, LoadFinalState, LoadReply}
+use Rattle.transfer_machine.specs.declared.stage.TryStep.{TryStep}
+use Rattle.transfer_machine.specs.declared.stage.TryStep.TheVariants.{LoadState, LoadRecordWord, LoadCoveredSlot, ExchangeSlot, LoadAnnouncement, LoadPoppedSlot, StoreRecordWord, ExchangeState}
 
 -- in a transfer that is begun and hasn't ended
 abbrev pub is_moving : NextStep → Bool
 is_moving Rest = false
 is_moving Announce = true
-is_moving LoadState = true
-is_moving (LoadRecordWord index) = true
-is_moving (LoadCoveredSlot offset) = true
-is_moving (ExchangeSlot offset) = true
-is_moving (LoadAnnouncement process) = true
-is_moving (LoadPoppedSlot process) = true
-is_moving (StoreRecordWord index) = true
-is_moving ExchangeState = true
+is_moving (Try second step) = true
 is_moving LoadFinalState = true
 is_moving LoadReply = true
 
@@ -27,29 +22,26 @@ is_moving LoadReply = true
 abbrev pub is_announcing : NextStep → Bool
 is_announcing Rest = false
 is_announcing Announce = true
-is_announcing LoadState = false
-is_announcing (LoadRecordWord index) = false
-is_announcing (LoadCoveredSlot offset) = false
-is_announcing (ExchangeSlot offset) = false
-is_announcing (LoadAnnouncement process) = false
-is_announcing (LoadPoppedSlot process) = false
-is_announcing (StoreRecordWord index) = false
-is_announcing ExchangeState = false
+is_announcing (Try second step) = false
 is_announcing LoadFinalState = false
 is_announcing LoadReply = false
 
--- the record word, the covered slot or the process that the step names is one of them
+-- the record word, the covered slot or the process that a step of a try names is one of them
+abbrev pub IndexFitsInTry : Sizes → Loaded → TryStep → Type 0
+IndexFitsInTry sizes loaded LoadState = Unit {0}
+IndexFitsInTry sizes loaded (LoadRecordWord index) = index < record_words sizes
+IndexFitsInTry sizes loaded (LoadCoveredSlot offset) = offset < overlay_length loaded
+IndexFitsInTry sizes loaded (ExchangeSlot offset) = offset < overlay_length loaded
+IndexFitsInTry sizes loaded (LoadAnnouncement process) = process < sizes.processes
+IndexFitsInTry sizes loaded (LoadPoppedSlot process) = process < sizes.processes
+IndexFitsInTry sizes loaded (StoreRecordWord index) = index < record_words sizes
+IndexFitsInTry sizes loaded ExchangeState = Unit {0}
+
+-- and so is the one that any step names
 abbrev pub IndexFitsAt : Sizes → Loaded → NextStep → Type 0
 IndexFitsAt sizes loaded Rest = Unit {0}
 IndexFitsAt sizes loaded Announce = Unit {0}
-IndexFitsAt sizes loaded LoadState = Unit {0}
-IndexFitsAt sizes loaded (LoadRecordWord index) = index < record_words sizes
-IndexFitsAt sizes loaded (LoadCoveredSlot offset) = offset < overlay_length loaded
-IndexFitsAt sizes loaded (ExchangeSlot offset) = offset < overlay_length loaded
-IndexFitsAt sizes loaded (LoadAnnouncement process) = process < sizes.processes
-IndexFitsAt sizes loaded (LoadPoppedSlot process) = process < sizes.processes
-IndexFitsAt sizes loaded (StoreRecordWord index) = index < record_words sizes
-IndexFitsAt sizes loaded ExchangeState = Unit {0}
+IndexFitsAt sizes loaded (Try second step) = IndexFitsInTry sizes loaded step
 IndexFitsAt sizes loaded LoadFinalState = Unit {0}
 IndexFitsAt sizes loaded LoadReply = Unit {0}
 

@@ -1,41 +1,48 @@
 -- how many steps a transfer can have made
-use Rattle.std.specs.Prelude.{◌≡◌, ◌≢◌, ℕ, ◌+◌, ◌*◌, ◌<◌, ◌≤◌, ◌==◌, true, if◌then◌else◌}
+use Rattle.std.specs.Prelude.{◌≡◌, ◌≢◌, ℕ, ◌+◌, ◌*◌, ◌<◌, ◌≤◌, Bool, true, if◌then◌else◌}
 use Rattle.word_layout.specs.Sizes.{Sizes}
 use Rattle.transfer_machine.specs.Loads.{overlay_length}
 use Rattle.transfer_machine.specs.Machine.{met_of}
 use Rattle.transfer_machine.specs.declared.transfer.TransferView.{TransferView}
-use Rattle.transfer_machine.specs.declared.view.ProcessView.{ProcessView}
+use Rattle.pool_machine.specs.declared.view.ProcessView.{ProcessView}
 use Rattle.transfer_machine.specs.declared.stage.NextStep.{NextStep}
-use Rattle.transfer_machine.specs.declared.stage.NextStep.TheVariants.{Rest, Announce, LoadState, LoadRecordWord, LoadCoveredSlot, ExchangeSlot, LoadAnnouncement, LoadPoppedSlot, StoreRecordWord, ExchangeState, LoadFinalState, LoadReply}
+use Rattle.transfer_machine.specs.declared.stage.NextStep.TheVariants.{Rest, Announce, Try, LoadFinalState, LoadReply}
+use Rattle.transfer_machine.specs.declared.stage.TryStep.{TryStep}
+use Rattle.transfer_machine.specs.declared.stage.TryStep.TheVariants.{LoadState, LoadRecordWord, LoadCoveredSlot, ExchangeSlot, LoadAnnouncement, LoadPoppedSlot, StoreRecordWord, ExchangeState}
 use Rattle.transfer_invariant.specs.Progress.{has_record}
 use Rattle.pool_invariant.specs.Stages.{is_moving}
 
--- a try takes at most so many steps: the state is loaded and exchanged, each of 2p + 2 record words is loaded and stored, and each process has at most two steps at a covered slot and two at its announcement
+-- a try takes at most so many steps: the state is loaded and exchanged, each of 2p + 2 record words is loaded and stored, and each
+-- process has at most two steps at a covered slot and two at its announcement
 abbrev pub try_steps : ℕ → ℕ
 try_steps processes = 8 * processes + 6
 
--- so many steps come before a try of this turn at most: the announcement, and the first try before the second
-abbrev pub before_try : ℕ → ℕ → ℕ
-before_try processes turn = if turn == 1 then 1 else 1 + try_steps processes
+-- so many steps come before a try at most: the announcement, and the first try before the second
+abbrev pub before_try : ℕ → Bool → ℕ
+before_try processes second = if second then 1 + try_steps processes else 1
 
--- so many steps come at most before that one, in a try of this turn or outside any
-abbrev pub steps_before_at : ℕ → ℕ → NextStep → ℕ
-steps_before_at processes turn Rest = 0
-steps_before_at processes turn Announce = 0
-steps_before_at processes turn LoadState = before_try processes turn
-steps_before_at processes turn (LoadRecordWord index) = before_try processes turn + 1 + index
-steps_before_at processes turn (LoadCoveredSlot offset) = before_try processes turn + (2 * processes + 3) + 2 * offset
-steps_before_at processes turn (ExchangeSlot offset) = before_try processes turn + (2 * processes + 3) + 2 * offset + 1
-steps_before_at processes turn (LoadAnnouncement process) = before_try processes turn + (4 * processes + 3) + 2 * process
-steps_before_at processes turn (LoadPoppedSlot process) = before_try processes turn + (4 * processes + 3) + 2 * process + 1
-steps_before_at processes turn (StoreRecordWord index) = before_try processes turn + (6 * processes + 3) + index
-steps_before_at processes turn ExchangeState = before_try processes turn + (8 * processes + 5)
-steps_before_at processes turn LoadFinalState = 1 + 2 * try_steps processes
-steps_before_at processes turn LoadReply = 2 + 2 * try_steps processes
+-- so many steps of a try come at most before that one
+abbrev pub steps_in_try : ℕ → TryStep → ℕ
+steps_in_try processes LoadState = 0
+steps_in_try processes (LoadRecordWord index) = 1 + index
+steps_in_try processes (LoadCoveredSlot offset) = 2 * processes + 3 + 2 * offset
+steps_in_try processes (ExchangeSlot offset) = 2 * processes + 3 + 2 * offset + 1
+steps_in_try processes (LoadAnnouncement process) = 4 * processes + 3 + 2 * process
+steps_in_try processes (LoadPoppedSlot process) = 4 * processes + 3 + 2 * process + 1
+steps_in_try processes (StoreRecordWord index) = 6 * processes + 3 + index
+steps_in_try processes ExchangeState = 8 * processes + 5
+
+-- so many steps of a transfer come at most before that one
+abbrev pub steps_before_at : ℕ → NextStep → ℕ
+steps_before_at processes Rest = 0
+steps_before_at processes Announce = 0
+steps_before_at processes (Try second step) = before_try processes second + steps_in_try processes step
+steps_before_at processes LoadFinalState = 1 + 2 * try_steps processes
+steps_before_at processes LoadReply = 2 + 2 * try_steps processes
 
 -- the pending transfer has made at most so many steps before its next one
 abbrev pub steps_before : Sizes → TransferView → ℕ
-steps_before sizes v = steps_before_at sizes.processes v.turn v.next
+steps_before sizes v = steps_before_at sizes.processes v.next
 
 -- a pending transfer has made no more steps than that
 abbrev pub StepsCounted : Sizes → ProcessView → Type 0

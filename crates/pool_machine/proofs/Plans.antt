@@ -8,28 +8,35 @@ use Rattle.word_layout.specs.declared.reply.Reply.TheVariants as reply
 use Rattle.word_layout.specs.declared.announced.Wish.{Wish}
 use Rattle.word_layout.specs.declared.announced.Wish.TheVariants.{Take, Give}
 use Rattle.transfer_schedule.specs.Numbers as schedule
+use Rattle.transfer_schedule.specs.declared.pending.Pending.{Pending}
+use Rattle.transfer_schedule.specs.declared.pending.Pending.TheVariants.{Idle, Taking, Giving}
 use Rattle.transfer_schedule.specs.declared.own_step.Source.{Source}
 use Rattle.transfer_schedule.specs.declared.own_step.Target.{Target}
 use Rattle.transfer_schedule.specs.declared.own_step.Source.TheVariants as source
 use Rattle.transfer_schedule.specs.declared.own_step.Target.TheVariants as target
-use Rattle.transfer_machine.specs.Pools.{pool_met_at, pool_ended, step_counted, opening_view}
-use Rattle.transfer_machine.specs.declared.call.Call.{Call}
-use Rattle.transfer_machine.specs.declared.call.Call.TheVariants.{Allocate, Free, Read, Write}
-use Rattle.transfer_machine.specs.declared.call.CallStage.{CallStage}
-use Rattle.transfer_machine.specs.declared.call.CallStage.TheVariants.{Between, Moving, Own}
+use Rattle.pool_machine.specs.Pools.{pool_met_at, pool_ended, step_counted, opening_view}
+use Rattle.pool_machine.specs.declared.call.Call.{Call}
+use Rattle.pool_machine.specs.declared.call.Call.TheVariants.{Allocate, Free, Read, Write}
+use Rattle.pool_machine.specs.declared.call.CallStage.{CallStage}
+use Rattle.pool_machine.specs.declared.call.CallStage.TheVariants.{Between, Moving, Own}
 use Rattle.transfer_machine.specs.declared.stage.NextStep.{NextStep}
-use Rattle.transfer_machine.specs.declared.stage.NextStep.TheVariants.{Rest, Announce, LoadState, LoadRecordWord, LoadCoveredSlot, ExchangeSlot, LoadAnnouncement, LoadPoppedSlot, StoreRecordWord, ExchangeState, LoadFinalState, LoadReply}
-use Rattle.transfer_machine.specs.declared.view.PoolView.{PoolView}
-use Rattle.transfer_machine.specs.declared.view.ProcessView.{ProcessView}
-use Rattle.pool_machine.specs.Beginning.{due, before_call, call_begun}
+use Rattle.transfer_machine.specs.declared.stage.NextStep.TheVariants.{Rest, Announce, Try, LoadFinalState, LoadReply}
+use Rattle.pool_machine.specs.declared.view.PoolView.{PoolView}
+use Rattle.pool_machine.specs.declared.view.ProcessView.{ProcessView}
+use Rattle.pool_machine.specs.Beginning.{wish_of, due, begun_if_due, before_call, call_begun}
 use Rattle.pool_machine.specs.OwnSteps.{allocated, freed, pool_own_met}
 use Rattle.pool_machine.specs.Steps.{call_met, call_met_at}
 use Rattle.pool_machine.specs.Ready.{PlanFits, CanBegin}
 use Rattle.pool_machine.specs.Laws.{plan_after, CanBeginWish}
 
 -- the transfer that is due is the plan's choice
+begun_as_due : (v : ProcessView) (p : Pending) → (begun_if_due (wish_of v.pool p) v).pool.plan ≡ schedule.after_begin p v.pool.plan
+begun_as_due v Idle = refl
+begun_as_due v Taking = refl
+begun_as_due v Giving = refl
+
 pub choice_is_the_plans : (v : ProcessView) → (before_call v).pool.plan ≡ schedule.after_choice v.pool.plan
-choice_is_the_plans v = grind (arith, nat_tests)
+choice_is_the_plans v = begun_as_due v (schedule.due v.pool.plan)
 
 -- a transfer that is due can begin
 pub due_begins : (v : ProcessView) (wish : Wish) → CanBegin v → due v.pool ≡ Some wish → CanBeginWish v wish
@@ -94,14 +101,7 @@ counted_fits sizes x h = record { length = h.length; bound = h.bound; quantum = 
 moved_fits : (sizes : Sizes) (word : ℕ) (pool : PoolView) (s : NextStep) → PlanFits sizes pool.plan → PlanFits sizes (pool_met_at word pool s).plan
 moved_fits sizes word pool Rest h = h
 moved_fits sizes word pool Announce h = counted_fits sizes pool.plan h
-moved_fits sizes word pool LoadState h = counted_fits sizes pool.plan h
-moved_fits sizes word pool (LoadRecordWord index) h = counted_fits sizes pool.plan h
-moved_fits sizes word pool (LoadCoveredSlot offset) h = counted_fits sizes pool.plan h
-moved_fits sizes word pool (ExchangeSlot offset) h = counted_fits sizes pool.plan h
-moved_fits sizes word pool (LoadAnnouncement process) h = counted_fits sizes pool.plan h
-moved_fits sizes word pool (LoadPoppedSlot process) h = counted_fits sizes pool.plan h
-moved_fits sizes word pool (StoreRecordWord index) h = counted_fits sizes pool.plan h
-moved_fits sizes word pool ExchangeState h = counted_fits sizes pool.plan h
+moved_fits sizes word pool (Try second step) h = counted_fits sizes pool.plan h
 moved_fits sizes word pool LoadFinalState h = counted_fits sizes pool.plan h
 moved_fits sizes word pool LoadReply h = ended_fits sizes (reply_of (value_of word)) (step_counted pool) (counted_fits sizes pool.plan h)
 

@@ -1,24 +1,32 @@
 -- what a process knows once it has begun a call
-use Rattle.std.specs.Prelude.{ℕ, ◌-◌, ◌==◌, nat_lt, if◌then◌else◌, Option, None, Some, length, slice_index}
+use Rattle.std.specs.Prelude.{ℕ, ◌-◌, if◌then◌else◌, Option, None, Some, length, slice_index}
 use Rattle.word_layout.specs.declared.announced.Wish.{Wish}
 use Rattle.word_layout.specs.declared.announced.Wish.TheVariants.{Take, Give}
-use Rattle.transfer_schedule.specs.Numbers.{is_idle}
-use Rattle.transfer_machine.specs.Pools.{view_begun}
-use Rattle.transfer_machine.specs.declared.call.Call.{Call}
-use Rattle.transfer_machine.specs.declared.call.Call.TheVariants.{Allocate, Free, Read, Write}
-use Rattle.transfer_machine.specs.declared.call.CallStage.{CallStage}
-use Rattle.transfer_machine.specs.declared.call.CallStage.TheVariants.{Moving, Own}
-use Rattle.transfer_machine.specs.declared.call.Way.TheVariants.{Alone, Calls}
-use Rattle.transfer_machine.specs.declared.view.PoolView.{PoolView}
-use Rattle.transfer_machine.specs.declared.view.ProcessView.{ProcessView}
+use Rattle.transfer_schedule.specs.Numbers as schedule
+use Rattle.transfer_schedule.specs.declared.pending.Pending.{Pending}
+use Rattle.transfer_schedule.specs.declared.pending.Pending.TheVariants.{Idle, Taking, Giving}
+use Rattle.pool_machine.specs.Pools.{view_begun}
+use Rattle.pool_machine.specs.declared.call.Call.{Call}
+use Rattle.pool_machine.specs.declared.call.Call.TheVariants.{Allocate, Free, Read, Write}
+use Rattle.pool_machine.specs.declared.call.CallStage.{CallStage}
+use Rattle.pool_machine.specs.declared.call.CallStage.TheVariants.{Moving, Own}
+use Rattle.pool_machine.specs.declared.call.Way.TheVariants.{Alone, Calls}
+use Rattle.pool_machine.specs.declared.view.PoolView.{PoolView}
+use Rattle.pool_machine.specs.declared.view.ProcessView.{ProcessView}
 
 -- the head of the newest spare
 abbrev pub newest : PoolView → ℕ
 newest pool = slice_index pool.heads (length pool.heads - 1)
 
--- the transfer that is due as a call begins: where nothing is pending, a take with at most one spare, and a give of the newest spare with three
+-- the wish of a transfer that the plan begins: a give is one of the newest spare
+abbrev pub wish_of : PoolView → Pending → Option Wish
+wish_of pool Idle = None
+wish_of pool Taking = Some Take
+wish_of pool Giving = Some (Give (newest pool))
+
+-- the transfer that is due as a call begins, by the plan
 abbrev pub due : PoolView → Option Wish
-due pool = if is_idle pool.plan.pending then (if nat_lt pool.plan.spares 2 then Some Take else (if pool.plan.spares == 3 then Some (Give (newest pool)) else None)) else None
+due pool = wish_of pool (schedule.due pool.plan)
 
 -- a transfer is begun where one is due
 abbrev pub begun_if_due : Option Wish → ProcessView → ProcessView
@@ -31,7 +39,7 @@ before_call v = begun_if_due (due v.pool) v
 
 -- where an allocate or a free stands as it begins: at the steps of the pending transfer, if any
 abbrev pub first_stage : ProcessView → CallStage
-first_stage v = if is_idle v.pool.plan.pending then Own else Moving
+first_stage v = if schedule.is_idle v.pool.plan.pending then Own else Moving
 
 -- a call begins at that stage
 abbrev pub entered : Call → CallStage → ProcessView → ProcessView

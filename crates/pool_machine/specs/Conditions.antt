@@ -1,11 +1,12 @@
 -- when a process may begin a call, or a transfer alone
-use Rattle.std.specs.Prelude.{◌≢◌, ◌^◌, ◌<◌, Bool, IsTrue, true, false, ◌&&◌, nat_lt}
+use Rattle.std.specs.Prelude.{◌≢◌, ◌<◌, Bool, IsTrue, true, false, ◌&&◌, nat_lt}
 use Rattle.word_layout.specs.Sizes.{Sizes}
-use Rattle.transfer_machine.specs.declared.call.Call.{Call}
-use Rattle.transfer_machine.specs.declared.call.Call.TheVariants.{Allocate, Free, Read, Write}
-use Rattle.transfer_machine.specs.declared.call.Way.{Way}
-use Rattle.transfer_machine.specs.declared.call.Way.TheVariants.{Fresh, Alone, Calls}
-use Rattle.transfer_machine.specs.declared.view.ProcessView.{ProcessView}
+use Rattle.word_layout.specs.Packing.{most_age}
+use Rattle.pool_machine.specs.declared.call.Call.{Call}
+use Rattle.pool_machine.specs.declared.call.Call.TheVariants.{Allocate, Free, Read, Write}
+use Rattle.pool_machine.specs.declared.call.Way.{Way}
+use Rattle.pool_machine.specs.declared.call.Way.TheVariants.{Fresh, Alone, Calls}
+use Rattle.pool_machine.specs.declared.view.ProcessView.{ProcessView}
 
 -- the block of a call is held, and its index is one of the block's data words; `holds` says whether the process holds the block
 abbrev pub NamesFit : Sizes → Bool → Call → Type 0
@@ -17,32 +18,36 @@ NamesFit sizes holds (Write block index value) = IsTrue holds × (index < sizes.
 -- a process may begin a call: it has begun no transfer alone, its age is below the limit, and what the call names fits
 pub record MayCall (sizes : Sizes) (holds : Bool) (call : Call) (v : ProcessView) : Type 0 where
   pub way : v.calls.way ≢ Alone
-  pub age : v.transfer.age < 2 ^ 32
+  pub age : v.transfer.age < most_age
   pub names : NamesFit sizes holds call
 
--- a process may begin a transfer alone only where it has begun no call: it could give its batches away, and then be refused with a full stack
+-- a process may begin a transfer alone where it has begun no call: it could give its batches away, and then be refused with a full stack
 abbrev pub MayMove : ProcessView → Type 0
 MayMove v = v.calls.way ≢ Calls
 
--- the same conditions as tests
+-- what a call names fits, as a test
 abbrev pub names_fit : Sizes → Bool → Call → Bool
 names_fit sizes holds Allocate = true
 names_fit sizes holds (Free block) = holds
 names_fit sizes holds (Read block index) = holds && nat_lt index sizes.words
 names_fit sizes holds (Write block index value) = holds && nat_lt index sizes.words
 
+-- a process that has begun a transfer alone makes no calls
 abbrev pub may_use_calls : Way → Bool
 may_use_calls Fresh = true
 may_use_calls Alone = false
 may_use_calls Calls = true
 
+-- a process may begin a call, as a test
 abbrev pub may_call : Sizes → Bool → Call → ProcessView → Bool
-may_call sizes holds call v = may_use_calls v.calls.way && (nat_lt v.transfer.age (2 ^ 32) && names_fit sizes holds call)
+may_call sizes holds call v = may_use_calls v.calls.way && (nat_lt v.transfer.age most_age && names_fit sizes holds call)
 
+-- a process that has begun a call begins no transfer alone
 abbrev pub may_use_transfers : Way → Bool
 may_use_transfers Fresh = true
 may_use_transfers Alone = true
 may_use_transfers Calls = false
 
+-- a process may begin a transfer alone, as a test
 abbrev pub may_move : ProcessView → Bool
 may_move v = may_use_transfers v.calls.way

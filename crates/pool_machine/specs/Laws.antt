@@ -5,22 +5,24 @@ use Rattle.word_layout.specs.Packing.{FitsWish}
 use Rattle.word_layout.specs.declared.announced.Wish.{Wish}
 use Rattle.transfer_schedule.specs.Numbers as schedule
 use Rattle.transfer_schedule.specs.declared.pending.Pending.TheVariants.{Idle}
-use Rattle.transfer_machine.specs.Pools.{opening_view, MayBegin}
-use Rattle.transfer_machine.specs.declared.call.Call.{Call}
-use Rattle.transfer_machine.specs.declared.call.Call.TheVariants.{Allocate, Free, Read, Write}
-use Rattle.transfer_machine.specs.declared.call.CallStage.TheVariants.{Between}
+use Rattle.pool_machine.specs.Pools.{opening_view, MayBegin}
+use Rattle.pool_machine.specs.declared.call.Call.{Call}
+use Rattle.pool_machine.specs.declared.call.Call.TheVariants.{Allocate, Free, Read, Write}
+use Rattle.pool_machine.specs.declared.call.CallStage.TheVariants.{Between}
 use Rattle.transfer_machine.specs.declared.stage.NextStep.TheVariants.{Rest}
-use Rattle.transfer_machine.specs.declared.view.ProcessView.{ProcessView}
+use Rattle.pool_machine.specs.declared.view.ProcessView.{ProcessView}
 use Rattle.pool_machine.specs.Beginning.{due, before_call, call_begun}
 use Rattle.pool_machine.specs.Conditions.{MayCall, MayMove, may_call, may_move}
 use Rattle.pool_machine.specs.OwnSteps.{own_met}
 use Rattle.pool_machine.specs.Steps.{call_met}
 use Rattle.pool_machine.specs.Ready.{PlanFits, CanBegin}
 
--- the tests of the conditions are these conditions
+-- the test of the condition on a call is this condition
 abbrev pub ConditionsAreTests : Type 0
-ConditionsAreTests = (sizes : Sizes) (holds : Bool) (call : Call) (v : ProcessView) → IsTrue (may_call sizes holds call v) ↔ MayCall sizes holds call v
+ConditionsAreTests =
+    (sizes : Sizes) (holds : Bool) (call : Call) (v : ProcessView) → IsTrue (may_call sizes holds call v) ↔ MayCall sizes holds call v
 
+-- and so is that of the condition on a transfer alone
 abbrev pub MovesAreTests : Type 0
 MovesAreTests = (v : ProcessView) → IsTrue (may_move v) ↔ MayMove v
 
@@ -51,15 +53,19 @@ plan_after (Some (Write block index value)) plan = plan
 abbrev pub OwnStepsAreThePlans : Type 0
 OwnStepsAreThePlans = (v : ProcessView) (word : ℕ) → (own_met v word).pool.plan ≡ plan_after v.calls.call v.pool.plan
 
--- the plan has the shape's sizes at the opening, and keeps them
+-- the plan has the shape's sizes at the opening
 abbrev pub OpeningFits : Type 0
 OpeningFits = (sizes : Sizes) (process : ℕ) → PlanFits sizes (opening_view sizes process).pool.plan
 
+-- a call that begins keeps them
 abbrev pub BeginningsKeepSizes : Type 0
-BeginningsKeepSizes = (sizes : Sizes) (call : Call) (v : ProcessView) → PlanFits sizes v.pool.plan → PlanFits sizes (call_begun call v).pool.plan
+BeginningsKeepSizes =
+    (sizes : Sizes) (call : Call) (v : ProcessView) → PlanFits sizes v.pool.plan → PlanFits sizes (call_begun call v).pool.plan
 
+-- and so does each step
 abbrev pub StepsKeepSizes : Type 0
-StepsKeepSizes = (sizes : Sizes) (v : ProcessView) (word : ℕ) → PlanFits sizes v.pool.plan → PlanFits sizes (call_met sizes v word).pool.plan
+StepsKeepSizes =
+    (sizes : Sizes) (v : ProcessView) (word : ℕ) → PlanFits sizes v.pool.plan → PlanFits sizes (call_met sizes v word).pool.plan
 
 -- the first n steps of a call: the view before each of them, and the words that they meet
 pub record CallSteps (sizes : Sizes) (call : Call) (n : ℕ) (views : ℕ → ProcessView) (words : ℕ → ℕ) : Type 0 where
@@ -77,6 +83,8 @@ most_moves sizes (Write block index value) = 0
 
 -- a call takes at most so many steps and its own one
 abbrev pub CallsEnd : Type 0
-CallsEnd = (sizes : Sizes) (call : Call) (n : ℕ) (views : ℕ → ProcessView) (words : ℕ → ℕ) → 1 ≤ sizes.quantum
+CallsEnd =
+    (sizes : Sizes) (call : Call) (n : ℕ) (views : ℕ → ProcessView) (words : ℕ → ℕ)
+    → 1 ≤ sizes.quantum
     → CallSteps sizes call n views words
     → n ≤ most_moves sizes call + 1

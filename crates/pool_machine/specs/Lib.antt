@@ -1,3 +1,5 @@
+pub mod Pools
+pub mod Phases
 pub mod Beginning
 pub mod Conditions
 pub mod OwnSteps

@@ -11,22 +11,23 @@ use Rattle.transfer_machine.specs.declared.action.Action.{Action}
 use Rattle.transfer_machine.specs.declared.action.Action.TheVariants.{Load, Store}
 use Rattle.transfer_machine.specs.declared.kind.Kind.{Kind}
 use Rattle.transfer_machine.specs.declared.kind.Kind.TheVariants.{K12, K13, K14, K15, K16, K19}
-use Rattle.transfer_machine.specs.declared.call.Call.{Call}
-use Rattle.transfer_machine.specs.declared.call.Call.TheVariants.{Allocate, Free, Read, Write}
-use Rattle.transfer_machine.specs.declared.call.CallStage.TheVariants.{Between}
-use Rattle.transfer_machine.specs.declared.call.CallView.{CallView}
-use Rattle.transfer_machine.specs.declared.view.PoolView.{PoolView}
-use Rattle.transfer_machine.specs.declared.view.ProcessView.{ProcessView}
+use Rattle.pool_machine.specs.declared.call.Call.{Call}
+use Rattle.pool_machine.specs.declared.call.Call.TheVariants.{Allocate, Free, Read, Write}
+use Rattle.pool_machine.specs.declared.call.CallStage.TheVariants.{Between}
+use Rattle.pool_machine.specs.declared.call.CallView.{CallView}
+use Rattle.pool_machine.specs.declared.view.PoolView.{PoolView}
+use Rattle.pool_machine.specs.declared.view.ProcessView.{ProcessView}
 use Rattle.pool_machine.specs.declared.answer.OwnAnswer.{OwnAnswer}
 use Rattle.pool_machine.specs.declared.answer.OwnAnswer.TheVariants.{Recorded, Loaded, Stored}
 use Rattle.pool_machine.specs.Beginning.{newest}
 
--- the block that an allocate gets: the first of the current list, or of the newest spare where that list is empty
+-- the first block of the current list, or of the newest spare, by where an allocate's block comes from
 abbrev pub block_from : PoolView → Source → Option ℕ
 block_from pool source.Current = Some (pool.head - 1)
 block_from pool source.Spare = Some (newest pool)
 block_from pool source.Nothing = None
 
+-- the block that an allocate gets: the first of the current list, or of the newest spare where that list is empty
 abbrev pub next_block : PoolView → Option ℕ
 next_block pool = block_from pool (schedule.source_of pool.plan)
 
@@ -52,16 +53,24 @@ own_action_for pool (Some (Write block index value)) = Store (Data block index) 
 abbrev pub own_action : ProcessView → Action
 own_action v = own_action_for v.pool v.calls.call
 
--- the pool after an allocate that loaded this next word: it names the new head; the list of the newest spare becomes the current one where that was empty
-abbrev pub allocated : ℕ → PoolView → Source → PoolView
-allocated word pool source.Current = record pool { plan = schedule.after_took_one pool.plan; head = word }
-allocated word pool source.Spare = record pool { plan = schedule.after_took_one pool.plan; head = word; heads = take (length pool.heads - 1) pool.heads }
-allocated word pool source.Nothing = record pool { plan = schedule.after_took_one pool.plan }
+-- a list's first block is taken off, and its next word names the new head; where the block is a spare's, that list becomes the current one
+abbrev pub head_taken : ℕ → PoolView → Source → PoolView
+head_taken word pool source.Current = record pool { head = word }
+head_taken word pool source.Spare = record pool { head = word; heads = take (length pool.heads - 1) pool.heads }
+head_taken word pool source.Nothing = pool
 
--- the pool after a free: the block is the head; a full current list becomes the newest spare
+-- the pool after an allocate that loaded this next word
+abbrev pub allocated : ℕ → PoolView → Source → PoolView
+allocated word pool source = head_taken word (record pool { plan = schedule.after_took_one pool.plan }) source
+
+-- a block is put before the current list; a full one becomes the newest spare first
+abbrev pub block_put : ℕ → PoolView → Target → PoolView
+block_put block pool target.Current = record pool { head = block + 1 }
+block_put block pool target.Fresh = record pool { head = block + 1; heads = pool.heads ++ (pool.head - 1) ∷ [] }
+
+-- the pool after a free
 abbrev pub freed : ℕ → PoolView → Target → PoolView
-freed block pool target.Current = record pool { plan = schedule.after_gave_one pool.plan; head = block + 1 }
-freed block pool target.Fresh = record pool { plan = schedule.after_gave_one pool.plan; head = block + 1; heads = pool.heads ++ (pool.head - 1) ∷ [] }
+freed block pool target = block_put block (record pool { plan = schedule.after_gave_one pool.plan }) target
 
 -- the pool after the own step of a call met this word
 abbrev pub pool_own_met : ℕ → PoolView → Option Call → PoolView

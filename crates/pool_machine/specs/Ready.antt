@@ -1,6 +1,7 @@
 -- the numbers that the next step of a call names are in their ranges
 use Rattle.std.specs.Prelude.{◌≡◌, ◌≢◌, ℕ, ◌^◌, ◌<◌, ◌≤◌, Option, None, Some, List, length}
-use Rattle.word_layout.specs.Sizes.{Sizes, blocks, transfer_bound}
+use Rattle.word_layout.specs.Sizes.{Sizes, blocks, most_blocks, transfer_bound}
+use Rattle.word_layout.specs.Packing.{most_age}
 use Rattle.word_layout.specs.Names.{table_words}
 use Rattle.transfer_schedule.specs.Numbers as schedule
 use Rattle.transfer_schedule.specs.declared.pending.Pending.TheVariants.{Idle}
@@ -9,15 +10,15 @@ use Rattle.transfer_schedule.specs.declared.own_step.Target.{Target}
 use Rattle.transfer_schedule.specs.declared.own_step.Source.TheVariants as source
 use Rattle.transfer_schedule.specs.declared.own_step.Target.TheVariants as target
 use Rattle.transfer_machine.specs.Machine.{CanAct, CanMeet}
-use Rattle.transfer_machine.specs.Pools.{CanCount, CanMeetPool}
+use Rattle.pool_machine.specs.Pools.{CanCount, CanMeetPool}
 use Rattle.transfer_machine.specs.Words.{met_word}
-use Rattle.transfer_machine.specs.declared.call.Call.{Call}
-use Rattle.transfer_machine.specs.declared.call.Call.TheVariants.{Allocate, Free, Read, Write}
-use Rattle.transfer_machine.specs.declared.call.CallStage.{CallStage}
-use Rattle.transfer_machine.specs.declared.call.CallStage.TheVariants.{Between, Moving, Own}
+use Rattle.pool_machine.specs.declared.call.Call.{Call}
+use Rattle.pool_machine.specs.declared.call.Call.TheVariants.{Allocate, Free, Read, Write}
+use Rattle.pool_machine.specs.declared.call.CallStage.{CallStage}
+use Rattle.pool_machine.specs.declared.call.CallStage.TheVariants.{Between, Moving, Own}
 use Rattle.transfer_machine.specs.declared.stage.NextStep.TheVariants.{Rest}
-use Rattle.transfer_machine.specs.declared.view.PoolView.{PoolView}
-use Rattle.transfer_machine.specs.declared.view.ProcessView.{ProcessView}
+use Rattle.pool_machine.specs.declared.view.PoolView.{PoolView}
+use Rattle.pool_machine.specs.declared.view.ProcessView.{ProcessView}
 use Rattle.pool_machine.specs.Beginning.{newest}
 use Rattle.pool_machine.specs.Steps.{call_action}
 
@@ -30,9 +31,9 @@ pub record PlanFits (sizes : Sizes) (plan : schedule.Numbers) : Type 0 where
 -- a transfer can begin with a call: none is begun where none is pending, each spare has its head, and the head that is given is a block
 pub record CanBegin (v : ProcessView) : Type 0 where
   pub rest : v.pool.plan.pending ≡ Idle → v.transfer.next ≡ Rest
-  pub age : v.transfer.age < 2 ^ 32
+  pub age : v.transfer.age < most_age
   pub heads : length v.pool.heads ≡ v.pool.plan.spares
-  pub fits : v.pool.plan.spares ≡ 3 → newest v.pool < 2 ^ 22
+  pub fits : v.pool.plan.spares ≡ 3 → newest v.pool < most_blocks
 
 -- a call can make one more step of its transfer
 pub record CanMove (sizes : Sizes) (v : ProcessView) : Type 0 where
@@ -69,7 +70,7 @@ CanOwnFor sizes pool (Some (Write block index value)) = (block < blocks sizes) �
 abbrev pub CanOwn : Sizes → ProcessView → Type 0
 CanOwn sizes v = CanOwnFor sizes v.pool v.calls.call
 
--- the next word of an allocated block names a block
+-- the next word of an allocated block can name a block: it fits a head
 abbrev pub CanFollow : ℕ → Source → Type 0
 CanFollow word source.Current = word < 2 ^ 32
 CanFollow word source.Spare = word < 2 ^ 32

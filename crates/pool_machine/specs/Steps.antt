@@ -3,16 +3,16 @@ use Rattle.std.specs.Prelude.{ℕ, ◌+◌, ◌==◌, ◌||◌, if◌then◌else
 use Rattle.word_layout.specs.Sizes.{Sizes}
 use Rattle.word_layout.specs.declared.name.WordName.TheVariants.{State}
 use Rattle.transfer_machine.specs.Machine.{action_of}
-use Rattle.transfer_machine.specs.Pools.{view_met}
-use Rattle.transfer_machine.specs.Phases.{is_rest}
+use Rattle.pool_machine.specs.Pools.{view_met}
+use Rattle.transfer_machine.specs.Stages.{is_rest}
 use Rattle.transfer_machine.specs.Stages.{kind_of}
 use Rattle.transfer_machine.specs.declared.action.Action.{Action}
 use Rattle.transfer_machine.specs.declared.action.Action.TheVariants.{Load}
 use Rattle.transfer_machine.specs.declared.kind.Kind.{Kind}
 use Rattle.transfer_machine.specs.declared.stage.NextStep.{NextStep}
-use Rattle.transfer_machine.specs.declared.call.CallStage.{CallStage}
-use Rattle.transfer_machine.specs.declared.call.CallStage.TheVariants.{Between, Moving, Own}
-use Rattle.transfer_machine.specs.declared.view.ProcessView.{ProcessView}
+use Rattle.pool_machine.specs.declared.call.CallStage.{CallStage}
+use Rattle.pool_machine.specs.declared.call.CallStage.TheVariants.{Between, Moving, Own}
+use Rattle.pool_machine.specs.declared.view.ProcessView.{ProcessView}
 use Rattle.pool_machine.specs.declared.answer.OwnAnswer.{OwnAnswer}
 use Rattle.pool_machine.specs.declared.answer.OwnAnswer.TheVariants as answer
 use Rattle.pool_machine.specs.declared.event.Happened.{Happened}
@@ -35,7 +35,9 @@ after_move quantum steps next = if is_rest next || (steps == quantum) then Own e
 
 -- the call has made one step more of its transfer
 abbrev pub move_counted : Sizes → ProcessView → ProcessView
-move_counted sizes v = record v { calls = record v.calls { stage = after_move sizes.quantum (v.calls.steps + 1) v.transfer.next; steps = v.calls.steps + 1 } }
+move_counted sizes v =
+    let steps = v.calls.steps + 1 in
+    record v { calls = record v.calls { stage = after_move sizes.quantum steps v.transfer.next; steps = steps } }
 
 -- the view after its next step at that stage met this word
 abbrev pub call_met_at : Sizes → ProcessView → ℕ → CallStage → ProcessView

@@ -1,17 +1,19 @@
 // The beginning of a call.
-ghost use Rattle.std.specs.Prelude.{◌≡◌, ◌<◌, ◌≤◌, ◌^◌, length};
-ghost use Rattle.word_layout.specs.Packing.{FitsWish};
+ghost use Rattle.std.specs.Prelude.{◌≡◌, ◌<◌, ◌≤◌, length};
+ghost use Rattle.word_layout.specs.Packing.{most_age, FitsWish};
 ghost use Rattle.transfer_schedule.specs.declared.pending.Pending.TheVariants.{Idle};
 ghost use Rattle.transfer_machine.specs.declared.stage.NextStep.TheVariants.{Rest};
-ghost use Rattle.transfer_machine.specs.Pools.{MayBegin};
+ghost use Rattle.pool_machine.specs.Pools.{MayBegin};
 ghost use Rattle.pool_machine.specs.Beginning.{newest, due, before_call, first_stage, entered, call_begun, alone_begun};
 ghost use Rattle.pool_machine.specs.Ready.{CanBegin};
 
-use transfer_machine::{Call, CallStage, CallView, PoolView, ProcessView, Way, begin_transfer};
+use crate::call::{Call, CallStage, CallView, Way};
+use crate::view::{PoolView, ProcessView};
 use transfer_schedule::Pending;
 use word_layout::Wish;
 
 /// The head of the newest spare.
+#[inline]
 pub fn newest(pool: &PoolView) -> u32
     requires { 1 ≤ length pool.now.heads }
     ensures { result ≡ newest pool.now }
@@ -19,16 +21,12 @@ pub fn newest(pool: &PoolView) -> u32
     pool.heads.get(pool.heads.len() - 1)
 }
 
-/// The transfer that is due as a call begins: what the plan chooses, where nothing is pending.
+/// The transfer that is due as a call begins, by the plan. A give is one of the newest spare.
 fn due(pool: &PoolView) -> Option<Wish>
     requires { length pool.now.heads ≡ pool.now.plan.spares }
     ensures { result ≡ due pool.now }
 {
-    if pool.plan.pending() != Pending::Idle {
-        return None;
-    }
-    let mut plan = pool.plan;
-    match plan.before_call() {
+    match pool.plan.due() {
         Pending::Idle => None,
         Pending::Taking => Some(Wish::Take),
         Pending::Giving => Some(Wish::Give(newest(pool))),
@@ -41,7 +39,7 @@ pub fn before_call(view: &mut ProcessView)
     ensures { view.new ≡ before_call view.old }
 {
     if let Some(wish) = due(&view.pool) {
-        begin_transfer(view, wish);
+        view.begin(wish);
     }
 }
 
@@ -72,16 +70,18 @@ fn first_stage(view: &ProcessView) -> CallStage
     }
 }
 
-/// Begins a transfer alone, outside any call. Its steps are those of `transfer_machine`.
-pub fn begin_alone(view: &mut ProcessView, wish: Wish)
+/// Begins a transfer alone, outside any call: a take with at most one spare, or a give of the newest spare,
+/// which leaves the spares at once. Its first step is the announcement; the process makes no calls from then
+/// on.
+pub fn begin_transfer(view: &mut ProcessView, wish: Wish)
     requires rest { view.old.transfer.next ≡ Rest }
     requires idle { view.old.pool.plan.pending ≡ Idle }
-    requires age { view.old.transfer.age < 2 ^ 32 }
+    requires age { view.old.transfer.age < most_age }
     requires fits { FitsWish wish }
     requires may { MayBegin wish view.old.pool }
     ensures { view.new ≡ alone_begun wish view.old }
 {
-    begin_transfer(view, wish);
+    view.begin(wish);
     view.calls.way = Way::Alone;
 }
 

@@ -2,15 +2,18 @@
 ghost use Rattle.std.specs.Prelude.{◌≡◌, ◌↔◌, IsTrue};
 ghost use Rattle.pool_machine.specs.Conditions.{MayCall, MayMove, NamesFit, may_call, may_move, names_fit};
 
-use transfer_machine::{Call, ProcessView, Way};
-use word_layout::Shape;
+use crate::call::{Call, Way};
+use crate::view::ProcessView;
+use word_layout::{Announced, Shape};
 
 /// Whether a process may begin this call. `holds` says whether it holds the block that the call names.
 pub fn may_call(view: &ProcessView, shape: &Shape, call: Call, holds: bool) -> bool
     ensures test { result ≡ may_call shape.now holds call view.now }
     ensures fact { IsTrue result ↔ MayCall shape.now holds call view.now }
 {
-    view.calls.way != Way::Alone && view.transfer.age < 1 << 32 && names_fit(shape, call, holds)
+    view.calls.way != Way::Alone
+        && view.transfer.age < Announced::MOST_AGE
+        && names_fit(shape, call, holds)
 }
 
 /// Whether a process may begin a transfer alone, outside any call.

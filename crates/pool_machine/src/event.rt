@@ -1,5 +1,6 @@
+use crate::call::Call;
 use pool_model::Entry;
-use transfer_machine::{Call, Kind};
+use transfer_machine::Kind;
 
 /// One step of a process: the next one of its call, or the first of this call where it is in none.
 #[derive(Clone, Copy, Debug, PartialEq, Eq, Hash)]

@@ -1,6 +1,8 @@
 //! What holds of every view, every call and every word. Each law is the contract of a call that does
 //! nothing.
-ghost use Rattle.pool_machine.specs.Laws.{ConditionsAreTests, MovesAreTests, ChoicesAreThePlans, DueTransfersCanBegin, OwnStepsAreThePlans, OpeningFits, BeginningsKeepSizes, StepsKeepSizes, CallsEnd};
+ghost use Rattle.pool_machine.specs.Laws.{ConditionsAreTests, MovesAreTests, CallsEnd};
+ghost use Rattle.pool_machine.specs.Laws.{ChoicesAreThePlans, DueTransfersCanBegin, OwnStepsAreThePlans};
+ghost use Rattle.pool_machine.specs.Laws.{OpeningFits, BeginningsKeepSizes, StepsKeepSizes};
 
 /// The tests of the conditions on a beginning are these conditions.
 pub fn conditions()

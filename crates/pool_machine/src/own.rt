@@ -1,16 +1,19 @@
 // The own step of a call.
-ghost use Rattle.std.specs.Prelude.{◌≡◌, ◌<◌, ◌^◌, IfSome};
-ghost use Rattle.word_layout.specs.Sizes.{blocks};
+ghost use Rattle.std.specs.Prelude.{◌≡◌, ◌<◌, IfSome};
+ghost use Rattle.word_layout.specs.Sizes.{blocks, most_blocks};
 ghost use Rattle.word_layout.specs.Names.{InRange};
 ghost use Rattle.transfer_schedule.specs.Numbers.{source_of, target_of};
 ghost use Rattle.transfer_machine.specs.Words.{name_of};
-ghost use Rattle.pool_machine.specs.OwnSteps.{next_block, follower, own_action, allocated, freed, call_left, own_met, own_answer, own_kind};
+ghost use Rattle.pool_machine.specs.OwnSteps.{block_from, next_block, follower, own_action, own_answer, own_kind};
+ghost use Rattle.pool_machine.specs.OwnSteps.{head_taken, block_put, allocated, freed, call_left, own_met};
 ghost use Rattle.pool_machine.specs.Ready.{CanAllocate, CanFree, CanFollow, CanOwn, CanMeetOwn};
 
 use crate::answer::OwnAnswer;
 use crate::begin::newest;
+use crate::call::{Call, CallStage, CallView};
+use crate::view::{PoolView, ProcessView};
 use pool_model::Entry;
-use transfer_machine::{Action, Call, CallStage, CallView, Kind, PoolView, ProcessView};
+use transfer_machine::{Action, Kind};
 use transfer_schedule::{Plan, Source, Target};
 use word_layout::{Shape, WordName};
 
@@ -30,6 +33,20 @@ pub fn target_of(plan: &Plan) -> Target
     after.gave_one()
 }
 
+/// The first block of the current list, or of the newest spare, by where an allocate's block comes from.
+#[inline]
+pub fn first_block(pool: &PoolView, shape: &Shape, source: Source) -> Option<u32>
+    requires { CanAllocate shape.now pool.now source }
+    ensures block { result ≡ block_from pool.now source }
+    ensures within { IfSome result (λ block. block < blocks shape.now) }
+{
+    match source {
+        Source::Current => Some(pool.head - 1),
+        Source::Spare => Some(newest(pool)),
+        Source::Nothing => None,
+    }
+}
+
 /// The block that an allocate gets: the first of the current list, or of the newest spare where that list is
 /// empty.
 pub fn next_block(pool: &PoolView, shape: &Shape) -> Option<u32>
@@ -37,26 +54,28 @@ pub fn next_block(pool: &PoolView, shape: &Shape) -> Option<u32>
     ensures block { result ≡ next_block pool.now }
     ensures within { IfSome result (λ block. block < blocks shape.now) }
 {
-    match source_of(&pool.plan) {
-        Source::Current => Some(pool.head - 1),
-        Source::Spare => Some(newest(pool)),
-        Source::Nothing => None,
-    }
+    first_block(pool, shape, source_of(&pool.plan))
 }
 
-/// What the own step of the present call does, and to which word.
-pub fn own_action(view: &ProcessView, shape: &Shape) -> Action
-    requires { CanOwn shape.now view.now }
+/// What the own step of the present call does, and to which word. The call is an argument, so that a caller
+/// can have code for each.
+#[inline(always)]
+pub fn own_action(view: &ProcessView, call: Option<Call>, shape: &Shape) -> Action
+    requires call { call ≡ view.now.calls.call }
+    requires can { CanOwn shape.now view.now }
     ensures action { result ≡ own_action view.now }
     ensures within { InRange shape.now (name_of result) }
 {
-    match view.calls.call {
+    match call {
         None => load(WordName::State),
         Some(Call::Allocate) => match next_block(&view.pool, shape) {
             None => load(WordName::State),
             Some(block) => load(WordName::Next { block }),
         },
-        Some(Call::Free { block }) => store(WordName::Next { block }, follower(&view.pool)),
+        Some(Call::Free { block }) => {
+            let target = target_of(&view.pool.plan);
+            store(WordName::Next { block }, follower(&view.pool, target))
+        }
         Some(Call::Read { block, index }) => load(WordName::Data { block, index }),
         Some(
             Call::Write {
@@ -83,23 +102,26 @@ fn store(name: WordName, word: u64) -> Action
 }
 
 /// The next word of a freed block: the current list follows it, or nothing where that list is full.
-fn follower(pool: &PoolView) -> u64
-    ensures { result ≡ follower pool.now (target_of pool.now.plan) }
+#[inline]
+pub fn follower(pool: &PoolView, target: Target) -> u64
+    ensures { result ≡ follower pool.now target }
 {
-    match target_of(&pool.plan) {
+    match target {
         Target::Current => u64::from(pool.head),
         Target::Fresh => 0,
     }
 }
 
 /// What the view becomes once the own step of its call met this word. The call has ended then.
-pub fn own_meet(view: &mut ProcessView, shape: &Shape, word: u64)
+#[inline(always)]
+pub fn own_meet(view: &mut ProcessView, call: Option<Call>, shape: &Shape, word: u64)
+    requires call { call ≡ view.old.calls.call }
     requires act { CanOwn shape.now view.old }
     requires meet { CanMeetOwn view.old word }
     ensures { view.new ≡ own_met view.old word }
 {
-    prove!(shape.blocks() <= 4194304);
-    match view.calls.call {
+    prove!(shape.blocks() <= Shape::MOST_BLOCKS);
+    match call {
         Some(Call::Allocate) => allocate(&mut view.pool, shape, word),
         Some(Call::Free { block }) => free(&mut view.pool, block),
         Some(Call::Read { .. } | Call::Write { .. }) | None => {}
@@ -107,14 +129,25 @@ pub fn own_meet(view: &mut ProcessView, shape: &Shape, word: u64)
     leave(&mut view.calls);
 }
 
-/// Takes a block off the current list, which becomes that of the newest spare where it is empty. The block's
-/// next word names the new head.
+/// Takes a block off the plan and off its list.
 fn allocate(pool: &mut PoolView, shape: &Shape, word: u64)
     requires act { CanAllocate shape.now pool.old (source_of pool.old.plan) }
     requires meet { CanFollow word (source_of pool.old.plan) }
     ensures { pool.new ≡ allocated word pool.old (source_of pool.old.plan) }
 {
-    match pool.plan.took_one() {
+    let source = pool.plan.took_one();
+    take_head(pool, shape, source, word);
+}
+
+/// Takes the first block off the current list, which becomes that of the newest spare where it is empty. The
+/// block's next word names the new head.
+#[inline]
+pub fn take_head(pool: &mut PoolView, shape: &Shape, source: Source, word: u64)
+    requires act { CanAllocate shape.now pool.old source }
+    requires meet { CanFollow word source }
+    ensures { pool.new ≡ head_taken word pool.old source }
+{
+    match source {
         Source::Current => pool.head = word as u32,
         Source::Spare => {
             pool.heads.pop();
@@ -124,13 +157,24 @@ fn allocate(pool: &mut PoolView, shape: &Shape, word: u64)
     }
 }
 
-/// Puts a block before the current list. A full list becomes the newest spare first.
+/// Puts a block on the plan and before the current list.
 fn free(pool: &mut PoolView, block: u32)
-    requires block { block < 2 ^ 22 }
+    requires block { block < most_blocks }
     requires room { CanFree pool.old (target_of pool.old.plan) }
     ensures { pool.new ≡ freed block pool.old (target_of pool.old.plan) }
 {
-    match pool.plan.gave_one() {
+    let target = pool.plan.gave_one();
+    put_block(pool, block, target);
+}
+
+/// Puts a block before the current list. A full list becomes the newest spare first.
+#[inline]
+pub fn put_block(pool: &mut PoolView, block: u32, target: Target)
+    requires block { block < most_blocks }
+    requires room { CanFree pool.old target }
+    ensures { pool.new ≡ block_put block pool.old target }
+{
+    match target {
         Target::Current => {}
         Target::Fresh => pool.heads.push(pool.head - 1),
     }
@@ -147,12 +191,14 @@ fn leave(calls: &mut CallView)
 }
 
 /// How the own step of the present call answers where it met this word.
-pub fn own_answer(view: &ProcessView, shape: &Shape, word: u64) -> OwnAnswer
-    requires { CanOwn shape.now view.now }
+#[inline(always)]
+pub fn own_answer(view: &ProcessView, call: Option<Call>, shape: &Shape, word: u64) -> OwnAnswer
+    requires call { call ≡ view.now.calls.call }
+    requires can { CanOwn shape.now view.now }
     ensures { result ≡ own_answer view.now word }
 {
     let by = view.transfer.number;
-    match view.calls.call {
+    match call {
         Some(Call::Allocate) => OwnAnswer::Recorded(match next_block(&view.pool, shape) {
             None => Entry::Dry { by },
             Some(block) => Entry::Got { by, block },

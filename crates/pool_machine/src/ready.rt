@@ -2,15 +2,18 @@
 ghost use Rattle.std.specs.Prelude.{◌≡◌, ◌≢◌, ◌↔◌, IsTrue};
 ghost use Rattle.transfer_schedule.specs.Numbers.{source_of, target_of};
 ghost use Rattle.transfer_machine.specs.Machine.{CanAct};
-ghost use Rattle.transfer_machine.specs.Pools.{CanEnd};
-ghost use Rattle.pool_machine.specs.Ready.{PlanFits, CanBegin, CanMove, CanMeetMoving, CanAllocate, CanFree, CanFollow, CanOwn, CanMeetOwn, CanActCall, CanMeetCall, CanStepCall};
+ghost use Rattle.pool_machine.specs.Pools.{CanEnd};
+ghost use Rattle.pool_machine.specs.Ready.{PlanFits, CanBegin, CanMove, CanMeetMoving, CanActCall, CanMeetCall, CanStepCall};
+ghost use Rattle.pool_machine.specs.Ready.{CanAllocate, CanFree, CanFollow, CanOwn, CanMeetOwn};
 
 use crate::begin::newest;
+use crate::call::{Call, CallStage};
 use crate::own::{source_of, target_of};
 use crate::step::call_action;
-use transfer_machine::{Call, CallStage, NextStep, PoolView, ProcessView};
+use crate::view::{PoolView, ProcessView};
+use transfer_machine::NextStep;
 use transfer_schedule::{Pending, Source, Target};
-use word_layout::{Reply, Shape, Tagged};
+use word_layout::{Announced, Reply, Shape, Tagged};
 
 /// Whether a transfer can begin with a call.
 pub fn can_begin(view: &ProcessView) -> bool
@@ -18,9 +21,9 @@ pub fn can_begin(view: &ProcessView) -> bool
 {
     let spares = view.pool.plan.spares();
     (view.pool.plan.pending() != Pending::Idle || view.transfer.next == NextStep::Rest)
-        && view.transfer.age < 1 << 32
+        && view.transfer.age < Announced::MOST_AGE
         && view.pool.heads.len() == spares as usize
-        && (spares != 3 || newest(&view.pool) < 1 << 22)
+        && (spares != 3 || newest(&view.pool) < Shape::MOST_BLOCKS)
 }
 
 /// Whether a call can make its next step on these words.

@@ -1,15 +1,20 @@
-// One step of a call.
-ghost use Rattle.std.specs.Prelude.{◌≡◌};
+// One step of a call, or of a transfer alone.
+ghost use Rattle.std.specs.Prelude.{◌≡◌, ◌≢◌};
 ghost use Rattle.word_layout.specs.Names.{InRange};
-ghost use Rattle.transfer_machine.specs.Words.{acted, met_word, name_of};
+ghost use Rattle.transfer_machine.specs.declared.stage.NextStep.TheVariants.{Rest};
+ghost use Rattle.transfer_machine.specs.Machine.{action_of};
+ghost use Rattle.transfer_machine.specs.Stages.{kind_of};
+ghost use Rattle.transfer_machine.specs.Words.{acted, met_word, name_of, CanStep};
 ghost use Rattle.pool_machine.specs.Steps.{call_action, call_met, call_answer, happened, move_counted};
 ghost use Rattle.pool_machine.specs.Ready.{CanActCall, CanMeetCall, CanMove, CanMeetMoving, CanStepCall};
-ghost use Rattle.transfer_machine.specs.Pools.{view_met};
+ghost use Rattle.pool_machine.specs.Pools.{view_met, CanCount, CanMeetPool};
 
 use crate::answer::OwnAnswer;
+use crate::call::CallStage;
 use crate::event::Happened;
 use crate::own::{own_action, own_answer, own_kind, own_meet};
-use transfer_machine::{Action, CallStage, Kind, NextStep, ProcessView, act};
+use crate::view::ProcessView;
+use transfer_machine::{Action, Kind, NextStep, act};
 use word_layout::{Shape, WordName};
 
 /// What a process does next in its call, and to which word. Between two calls it would load the state.
@@ -23,7 +28,7 @@ pub fn call_action(view: &ProcessView, shape: &Shape) -> Action
             name: WordName::State,
         },
         CallStage::Moving => view.transfer.action(shape),
-        CallStage::Own => own_action(view, shape),
+        CallStage::Own => own_action(view, view.calls.call, shape),
     }
 }
 
@@ -36,7 +41,10 @@ pub fn call_meet(view: &mut ProcessView, shape: &Shape, word: u64)
     match view.calls.stage {
         CallStage::Between => {}
         CallStage::Moving => move_on(view, shape, word),
-        CallStage::Own => own_meet(view, shape, word),
+        CallStage::Own => {
+            let call = view.calls.call;
+            own_meet(view, call, shape, word);
+        }
     }
 }
 
@@ -66,7 +74,10 @@ pub fn call_answer(view: &ProcessView, shape: &Shape, word: u64) -> Happened
     match view.calls.stage {
         CallStage::Between => Happened::Ignored,
         CallStage::Moving => Happened::Step(view.transfer.next.kind()),
-        CallStage::Own => happened(own_kind(view, shape), own_answer(view, shape, word)),
+        CallStage::Own => {
+            let answer = own_answer(view, view.calls.call, shape, word);
+            happened(own_kind(view, shape), answer)
+        }
     }
 }
 
@@ -94,4 +105,22 @@ pub fn step_call(words: &mut [u64], view: &mut ProcessView, shape: &Shape) -> Ha
     let happened = call_answer(view, shape, word);
     call_meet(view, shape, word);
     happened
+}
+
+/// Makes the next step of a process's transfer on the words, outside any call, and answers its kind. The
+/// process's private pool counts the step, and gets the batch where it is the last step of a take.
+pub fn step_words(words: &mut [u64], view: &mut ProcessView, shape: &Shape) -> Kind
+    requires busy { view.old.transfer.next ≢ Rest }
+    requires can { CanStep shape.now words.old view.old.transfer }
+    requires count { CanCount view.old.pool }
+    requires end { CanMeetPool (met_word shape.now words.old (action_of shape.now view.old.transfer)) view.old.pool view.old.transfer.next }
+    ensures kind { result ≡ kind_of view.old.transfer.next }
+    ensures words { words.new ≡ acted shape.now words.old (action_of shape.now view.old.transfer) }
+    ensures view { view.new ≡ view_met shape.now view.old (met_word shape.now words.old (action_of shape.now view.old.transfer)) }
+{
+    let kind = view.transfer.next.kind();
+    let action = view.transfer.action(shape);
+    let word = act(words, action, shape);
+    view.meet(shape, word);
+    kind
 }

@@ -2,12 +2,13 @@
 ghost use Rattle.pool_machine.specs.Ready.{PlanFits};
 
 use crate::{
-    Happened, begin_alone, begin_call, can_begin, can_step_call, may_call, may_move, step_call,
+    Call, CallStage, Happened, Phase, ProcessView, Way, begin_call, begin_transfer, can_begin,
+    can_step_call, may_call, may_move, step_call, step_words,
 };
 use pool_model::Entry;
 use std::process::Abort;
 use std::test::Fail;
-use transfer_machine::{Call, CallStage, Kind, Phase, ProcessView, Way, opening_words};
+use transfer_machine::{Kind, Stage, can_step, opening_words};
 use word_layout::{Shape, Wish};
 
 /// A whole call, what happens in its last step, and how many steps it takes.
@@ -192,8 +193,39 @@ fn ways(rt: HostRuntime) -> Result<(), Fail> {
         );
     }
     assert!(rt; may_move(&view) && view.calls.way == Way::Fresh);
-    begin_alone(&mut view, Wish::Take);
+    begin_transfer(&mut view, Wish::Take);
     assert!(rt; may_move(&view) && !may_call(&view, &shape, Call::Allocate, true));
+    Ok(())
+}
+
+// A transfer that was begun outside any call goes on by its own steps.
+#[test]
+fn a_transfer_alone(rt: HostRuntime) -> Result<(), Fail> {
+    let shape = Shape::new(1, 10, 0)?;
+    let mut words = opening_words(rt.alloc(), &shape)?;
+    let mut view = ProcessView::open(&shape, 0);
+    assert_eq!(rt; (view.phase(), view.waiting()), (Phase::Between, None));
+    begin_transfer(&mut view, Wish::Take);
+    assert_eq!(rt; view.calls.way, Way::Alone);
+    let announce = Stage {
+        turn: 0,
+        kind: Kind::K1,
+        index: 0,
+    };
+    assert_eq!(rt;
+        (view.phase(), view.waiting()),
+        (Phase::Moving(announce), None)
+    );
+    assert!(rt; can_step(&words, &view.transfer, &shape));
+    assert_eq!(rt; step_words(&mut words, &mut view, &shape), Kind::K1);
+    let announcement = words.get(1).copied();
+    assert_eq!(rt; (announcement, view.pool.plan.done()), (Some(1 << 24), 1));
+    let load = Stage {
+        turn: 1,
+        kind: Kind::K2,
+        index: 0,
+    };
+    assert_eq!(rt; view.phase(), Phase::Moving(load));
     Ok(())
 }
 

@@ -1,9 +1,9 @@
 -- what the actions of the views do to the slots
-use Rattle.std.proofs.Common.{◌≡◌, ◌≢◌, ℕ, ◌<◌, ◌^◌, ◌==◌, Bool, true, false, refl, sym, ◌∙◌, ap, inl, inr, arith}
+use Rattle.std.proofs.Common.{◌≡◌, ◌≢◌, ℕ, ◌<◌, ◌==◌, Bool, true, false, refl, sym, ◌∙◌, ap, inl, inr}
 use Rattle.std.specs.Prelude.{◌⊎◌}
-use Rattle.std.proofs.lemmas.Bool.{cases_eq}
+use Rattle.std.proofs.lemmas.Bool.{cases_eq, false≢true}
 use Rattle.word_layout.specs.Sizes.{Sizes}
-use Rattle.word_layout.specs.Packing.{tag_of, value_of, tagged}
+use Rattle.word_layout.specs.Packing.{tag_of, value_of, tagged, value_limit}
 use Rattle.word_layout.specs.declared.name.WordName.{WordName}
 use Rattle.word_layout.specs.declared.name.WordName.TheVariants.{State, Announcement, RecordWord, Slot, Next, Data}
 use Rattle.word_layout.proofs.Packed.{tag_of-tagged, value_of-tagged}
@@ -32,17 +32,14 @@ slot_of (Slot slot) = slot
 slot_of (Next block) = 0
 slot_of (Data block index) = 0
 
-false_true : false ≡ true → ⊥
-false_true h = grind arith
-
 -- a name is that slot or it isn't
 is_or_not_slot : (s : ℕ) (x : WordName) → (Slot s ≡ x) ⊎ (Slot s ≢ x)
-is_or_not_slot s State = inr (λ e. false_true (sym (ap is_slot e)))
-is_or_not_slot s (Announcement process) = inr (λ e. false_true (sym (ap is_slot e)))
-is_or_not_slot s (RecordWord row index) = inr (λ e. false_true (sym (ap is_slot e)))
+is_or_not_slot s State = inr (λ e. false≢true (sym (ap is_slot e)))
+is_or_not_slot s (Announcement process) = inr (λ e. false≢true (sym (ap is_slot e)))
+is_or_not_slot s (RecordWord row index) = inr (λ e. false≢true (sym (ap is_slot e)))
 is_or_not_slot s (Slot slot) = elim (cases_eq s slot) [ inl e ↦ inl (rw e refl) | inr ne ↦ inr (λ e. ne (ap slot_of e)) ]
-is_or_not_slot s (Next block) = inr (λ e. false_true (sym (ap is_slot e)))
-is_or_not_slot s (Data block index) = inr (λ e. false_true (sym (ap is_slot e)))
+is_or_not_slot s (Next block) = inr (λ e. false≢true (sym (ap is_slot e)))
+is_or_not_slot s (Data block index) = inr (λ e. false≢true (sym (ap is_slot e)))
 
 -- an action that leaves the word that it meets leaves all slots
 left_slot : (sizes : Sizes) (action : Action) (m n : Words) (s : ℕ) → Acted sizes action m n → left_by action (m (name_of action)) ≡ m (name_of action) → s < sizes.batches → (Slot s ≡ name_of action) ⊎ (Slot s ≢ name_of action) → n (Slot s) ≡ m (Slot s)
@@ -60,11 +57,11 @@ leaves_slots sizes action m n a left = record {
 pub misses_slots : (sizes : Sizes) (action : Action) (m n : Words) → Acted sizes action m n → is_slot (name_of action) ≡ false → SlotsStay sizes m n
 unfolding slot_tag slot_value
 misses_slots sizes action m n a no_slot =
-    let slots : (s : ℕ) → s < sizes.batches → n (Slot s) ≡ m (Slot s) = λ s lt. a.elsewhere (Slot s) lt (λ e. false_true (sym no_slot ∙ sym (ap is_slot e))) in
+    let slots : (s : ℕ) → s < sizes.batches → n (Slot s) ≡ m (Slot s) = λ s lt. a.elsewhere (Slot s) lt (λ e. false≢true (sym no_slot ∙ sym (ap is_slot e))) in
     record { tags = λ s lt. ap tag_of (slots s lt); values = λ s lt. ap value_of (slots s lt) }
 
 -- a slot is exchanged, or not
-pub slot_exchanged : (sizes : Sizes) (slot old tag value : ℕ) (m n : Words) → value < 2 ^ 24 → (m (Slot slot) == old) ≡ true → Acted sizes (Exchange (Slot slot) old (tagged tag value)) m n → SlotExchanged sizes m n slot tag value
+pub slot_exchanged : (sizes : Sizes) (slot old tag value : ℕ) (m n : Words) → value < value_limit → (m (Slot slot) == old) ≡ true → Acted sizes (Exchange (Slot slot) old (tagged tag value)) m n → SlotExchanged sizes m n slot tag value
 unfolding slot_tag slot_value
 slot_exchanged sizes slot old tag value m n fits same a =
     let here : n (Slot slot) ≡ tagged tag value = rw same at a.here in

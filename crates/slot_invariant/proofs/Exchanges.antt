@@ -1,10 +1,10 @@
 -- the exchanges of a slot and of the state
-use Rattle.std.proofs.Common.{◌≡◌, ℕ, ◌+◌, ◌<◌, ◌≤◌, ◌^◌, ◌==◌, Bool, true, false, refl, sym, ◌∙◌, ap, inl, inr, arith, get_or}
+use Rattle.std.proofs.Common.{◌≡◌, ℕ, ◌+◌, ◌<◌, ◌≤◌, ◌==◌, Bool, true, false, refl, sym, ◌∙◌, ap, inl, inr, arith, get_or}
 use Rattle.std.specs.Prelude.{if◌then◌else◌, nat_lt}
 use Rattle.std.proofs.lemmas.Bool.{cases_eq, cases_lt}
 use Rattle.std.proofs.lemmas.Bool.Decides.{nat_tests}
 use Rattle.word_layout.specs.Sizes.{Sizes}
-use Rattle.word_layout.specs.Packing.{tag_of, value_of}
+use Rattle.word_layout.specs.Packing.{tag_of, value_of, value_limit}
 use Rattle.word_layout.specs.declared.name.WordName.TheVariants.{State, Slot}
 use Rattle.word_layout.proofs.Packed.{tagged-parts}
 use Rattle.transfer_machine.specs.Loads.{loaded_tag, loaded_base, overlay_length, overlay_head}
@@ -12,7 +12,8 @@ use Rattle.transfer_machine.specs.Machine.{after_slot, covering_word, next_state
 use Rattle.transfer_machine.specs.States.{StackState}
 use Rattle.transfer_machine.specs.declared.action.Action.TheVariants.{Exchange}
 use Rattle.transfer_machine.specs.declared.transfer.TransferView.{TransferView}
-use Rattle.transfer_machine.specs.declared.stage.NextStep.TheVariants.{ExchangeSlot, ExchangeState}
+use Rattle.transfer_machine.specs.declared.stage.NextStep.TheVariants.{Try}
+use Rattle.transfer_machine.specs.declared.stage.TryStep.TheVariants.{ExchangeSlot, ExchangeState}
 use Rattle.transfer_invariant.specs.Memory.{Words, Views, States, Acted, Moved, state_tag, slot_tag, slot_value}
 use Rattle.transfer_invariant.specs.Progress.{has_record}
 use Rattle.transfer_invariant.specs.Installing.{planned_state, states_with_planned}
@@ -44,7 +45,7 @@ exchange_is_now sizes m states v c hold h at same =
       | inr now ↦ omega arith
     ]
 
-value_fits : (word : ℕ) → value_of word < 2 ^ 24
+value_fits : (word : ℕ) → value_of word < value_limit
 unfolding value_of
 value_fits word = omega arith
 
@@ -55,15 +56,15 @@ other_words : (a b : ℕ) → (a == b) ≡ false → tag_of a ≡ tag_of b → v
 other_words a b h et ev = let e : a ≡ b = sym (tagged-parts a) ∙ rw (et, ev) (tagged-parts b) in grind (arith, nat_tests)
 
 -- the exchange of a slot, made or not
-pub slot_exchange : (sizes : Sizes) (m n : Words) (views after : Views) (states : States) (i offset : ℕ) (t : Bool) → i < sizes.processes → RecordsHold sizes m views states → SlotsInvariant sizes m views states → (views i).next ≡ ExchangeSlot offset
+pub slot_exchange : (sizes : Sizes) (m n : Words) (views after : Views) (states : States) (i : ℕ) (second : Bool) (offset : ℕ) (t : Bool) → i < sizes.processes → RecordsHold sizes m views states → SlotsInvariant sizes m views states → (views i).next ≡ Try second (ExchangeSlot offset)
     → (m (Slot (loaded_base (views i).loaded + offset)) == get_or (views i).loaded.slots offset 0) ≡ t
     → Acted sizes (Exchange (Slot (loaded_base (views i).loaded + offset)) (get_or (views i).loaded.slots offset 0) (covering_word (views i) offset)) m n
-    → Moved i (record (views i) { next = after_slot (views i).loaded offset }) views after → SlotsInvariant sizes n after states
+    → Moved i (record (views i) { next = Try second (after_slot (views i).loaded offset) }) views after → SlotsInvariant sizes n after states
 unfolding slot_tag slot_value
-slot_exchange sizes m n views after states i offset true li inv h e test a moved =
+slot_exchange sizes m n views after states i second offset true li inv h e test a moved =
     let v = views i in
     let slot = loaded_base v.loaded + offset in
-    let x = record v { next = after_slot v.loaded offset } in
+    let x = record v { next = Try second (after_slot v.loaded offset) } in
     let known = h.known i li in
     let c = view_covers sizes m views states i inv li in
     let has : has_record v.next ≡ true = rw e refl in
@@ -79,11 +80,11 @@ slot_exchange sizes m n views after states i offset true li inv h e test a moved
     let height : (states (state_tag m)).height ≡ loaded_base v.loaded + overlay_length v.loaded = rw now at (c.height has) in
     let others : (o : ℕ) → o < sizes.processes → SlotsKnown n (views o) = λ o lo. exchange_known sizes m n states slot _ (views o) (view_covers sizes m views states o inv lo) (h.known o lo) made in
     slots_move sizes n views after states i x (exchange_hold sizes m n states slot inv.states_fit h.hold made (omega arith) (omega arith))
-    (slot_known n v x offset (others i li) has here lt refl refl known.room refl (λ k. made.tag_here ∙ sym made.state)) others moved
-slot_exchange sizes m n views after states i offset false li inv h e test a moved =
+    (slot_known n v x second offset (others i li) has here lt refl refl known.room refl (λ k. made.tag_here ∙ sym made.state)) others moved
+slot_exchange sizes m n views after states i second offset false li inv h e test a moved =
     let v = views i in
     let slot = loaded_base v.loaded + offset in
-    let x = record v { next = after_slot v.loaded offset } in
+    let x = record v { next = Try second (after_slot v.loaded offset) } in
     let change = exchanges_slot sizes slot (get_or v.loaded.slots offset 0) (covering_word v offset) m n a in
     let stays = slot_not_exchanged sizes slot (get_or v.loaded.slots offset 0) (covering_word v offset) m n test a in
     let c = view_covers sizes m views states i inv li in
@@ -99,7 +100,7 @@ slot_exchange sizes m n views after states i offset false li inv h e test a move
       | inr ne ↦ absurd (other_words (m (Slot slot)) (get_or v.loaded.slots offset 0) test (rw here at (known.stays_tag at k (rw here ne))) (rw here at (known.stays_value at k (rw here ne))))
     ] in
     slots_stay sizes m n views after states i x li inv h stays change.state
-    (λ k. slot_known n v x offset k has here lt refl refl k.room refl (λ same. stays.tags slot low ∙ now (same ∙ change.state) ∙ sym change.state)) moved
+    (λ k. slot_known n v x second offset k has here lt refl refl k.room refl (λ same. stays.tags slot low ∙ now (same ∙ change.state) ∙ sym change.state)) moved
 
 -- the content of the planned state
 planned_base : (s : StackState) (v : TransferView) → (planned_state s v).base ≡ v.plan.base
@@ -111,11 +112,11 @@ unfolding planned_state
 planned_content s v place lt = let below : nat_lt place v.plan.base ≡ true = grind (arith, nat_tests) in rw below refl
 
 -- the exchange of the state, made or not
-pub state_exchange : (sizes : Sizes) (m n : Words) (views after : Views) (states : States) (i : ℕ) (t : Bool) → sizes.processes ≤ 32 → i < sizes.processes → RecordsHold sizes m views states → SlotsInvariant sizes m views states → (views i).next ≡ ExchangeState → PlanBelow (views i)
+pub state_exchange : (sizes : Sizes) (m n : Words) (views after : Views) (states : States) (i : ℕ) (second : Bool) (t : Bool) → sizes.processes ≤ 32 → i < sizes.processes → RecordsHold sizes m views states → SlotsInvariant sizes m views states → (views i).next ≡ Try second ExchangeState → PlanBelow (views i)
     → (m State == (views i).loaded.state) ≡ t → Acted sizes (Exchange State (views i).loaded.state (next_state (views i))) m n
-    → Moved i (if t then installed (views i) else try_ended (views i)) views after → SlotsInvariant sizes n after (if t then states_with_planned m (views i) states else states)
+    → Moved i (if t then installed (views i) else try_ended second (views i)) views after → SlotsInvariant sizes n after (if t then states_with_planned m (views i) states else states)
 unfolding state_tag
-state_exchange sizes m n views after states i true few li inv h e lies test a moved =
+state_exchange sizes m n views after states i second true few li inv h e lies test a moved =
     let v = views i in
     let new = planned_state (states (state_tag m)) v in
     let later : States = states_with_planned m v states in
@@ -134,11 +135,11 @@ state_exchange sizes m n views after states i true few li inv h e lies test a mo
     let new_base : (later (state_tag m + 1)).base ≡ v.plan.base = ap (λ (s : StackState). s.base) here ∙ planned_base (states (state_tag m)) v in
     slots_move sizes n views after later i (installed v)
     (install_hold sizes m n states later inv.states_fit h.hold stays raised same
-    (rw (new_base, height) (lies e))
+    (rw (new_base, height) (lies second e))
     (λ s lt. rw here (planned_content (states (state_tag m)) v s (rw new_base at lt)))
     (λ s ge lt. known.passed has now s (rw base at ge) (rw all (rw height at lt))))
     (nothing_known n (installed v) known.room refl)
     (λ o lo. install_known sizes m n states (views o) (view_covers sizes m views states o inv lo) (h.known o lo) raised) moved
-state_exchange sizes m n views after states i false few li inv h e lies test a moved =
+state_exchange sizes m n views after states i second false few li inv h e lies test a moved =
     let v = views i in
-    slots_stay sizes m n views after states i (try_ended v) li inv h (misses_slots sizes (Exchange State v.loaded.state (next_state v)) m n a refl) (keeps_state sizes v.loaded.state (next_state v) m n test a).state (ended_known n v) moved
+    slots_stay sizes m n views after states i (try_ended second v) li inv h (misses_slots sizes (Exchange State v.loaded.state (next_state v)) m n a refl) (keeps_state sizes v.loaded.state (next_state v) m n test a).state (ended_known n v second) moved

@@ -1,12 +1,12 @@
 -- the opening meets the part on slots
-use Rattle.std.proofs.Common.{◌≡◌, ℕ, ◌+◌, ◌*◌, ◌<◌, ◌≤◌, ◌^◌, true, false, refl, ◌∙◌, ap, inl, inr, arith}
+use Rattle.std.proofs.Common.{◌≡◌, ℕ, ◌+◌, ◌*◌, ◌<◌, ◌≤◌, true, false, refl, ◌∙◌, ap, inl, inr, arith}
 use Rattle.std.specs.Prelude.{nat_lt}
 use Rattle.std.proofs.lemmas.Bool.{cases_lt}
 use Rattle.std.proofs.lemmas.Bool.Decides.{nat_tests}
 use Rattle.std.proofs.lemmas.List.{length-replicate}
 use Rattle.word_layout.specs.Sizes.{Sizes, IsShape, blocks}
 use Rattle.word_layout.specs.Names.{InRange}
-use Rattle.word_layout.specs.Packing.{tag_of, value_of}
+use Rattle.word_layout.specs.Packing.{tag_of, value_of, value_limit}
 use Rattle.word_layout.specs.declared.name.WordName.{WordName}
 use Rattle.word_layout.specs.declared.name.WordName.TheVariants.{Slot}
 use Rattle.word_layout.proofs.Limits.{two_blocks_a_batch, batch_within_blocks, length_le_blocks}
@@ -30,16 +30,16 @@ opening_slot_low sizes shape s = elim (cases_lt s (opening_base sizes)) [
 ]
 
 -- a small word is its value
-small_tag : (word : ℕ) → word < 2 ^ 24 → tag_of word ≡ 0
+small_tag : (word : ℕ) → word < value_limit → tag_of word ≡ 0
 unfolding tag_of
 small_tag word lt = omega arith
 
-small_value : (word : ℕ) → word < 2 ^ 24 → value_of word ≡ word
+small_value : (word : ℕ) → word < value_limit → value_of word ≡ word
 unfolding value_of
 small_value word lt = omega arith
 
 module _ (sizes : Sizes) (words : Words) (shape : IsShape sizes) (opened : (name : WordName) → InRange sizes name → words name ≡ opening_word sizes name) where
-  slot_small : (s : ℕ) → opening_slot sizes s < 2 ^ 24
+  slot_small : (s : ℕ) → opening_slot sizes s < value_limit
   slot_small s = let low = opening_slot_low sizes shape s in let few = shape.few_blocks in omega arith
 
   opened_slot_tag : (s : ℕ) → s < sizes.batches → slot_tag words s ≡ 0

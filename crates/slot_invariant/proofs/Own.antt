@@ -1,23 +1,21 @@
 -- what the moving view knows of the slots after its step
 use Rattle.std.proofs.Common.{◌≡◌, ℕ, ◌+◌, ◌<◌, ◌≤◌, Bool, true, false, refl, sym, ◌∙◌, inl, inr, arith, length, get_or, set, get_or-set_same, length-set}
-use Rattle.std.proofs.lemmas.Bool.{cases_eq}
+use Rattle.std.proofs.lemmas.Bool.{cases_eq, false≢true}
 use Rattle.std.proofs.lemmas.Bool.Decides.{nat_tests}
 use Rattle.word_layout.specs.Packing.{tag_of, value_of}
 use Rattle.transfer_machine.specs.Loads.{loaded_tag, loaded_base, overlay_length}
 use Rattle.transfer_machine.specs.Machine.{after_slot, after_record}
 use Rattle.transfer_machine.specs.declared.loaded.Loaded.{Loaded}
 use Rattle.transfer_machine.specs.declared.transfer.TransferView.{TransferView}
-use Rattle.transfer_machine.specs.declared.stage.NextStep.TheVariants.{ExchangeSlot}
+use Rattle.transfer_machine.specs.declared.stage.NextStep.TheVariants.{Try}
+use Rattle.transfer_machine.specs.declared.stage.TryStep.TheVariants.{ExchangeSlot}
 use Rattle.transfer_invariant.specs.Memory.{Words, state_tag, slot_tag, slot_value}
 use Rattle.transfer_invariant.specs.Progress.{has_record}
-use Rattle.slot_invariant.specs.Slots.{at_covered_slot, at_slot_exchange, passed_before, passed_slots, SlotsKnown}
+use Rattle.slot_invariant.specs.Slots.{at_covered_slot, at_slot_exchange, passed_before, covered_in_try, slot_exchange_in_try, passed_in_try, passed_slots, SlotsKnown}
 use Rattle.slot_invariant.proofs.Stable.{covered_has_record, exchange_is_covered}
 
-false_true : false ≡ true → ⊥
-false_true h = grind arith
-
 both : (t : Bool) → t ≡ false → t ≡ true → ⊥
-both t f h = false_true (sym f ∙ h)
+both t f h = false≢true (sym f ∙ h)
 
 -- without a whole record a view knows no more than the room of its array
 pub nothing_known : (n : Words) (x : TransferView) → length x.loaded.slots ≡ 32 → has_record x.next ≡ false → SlotsKnown n x
@@ -34,8 +32,8 @@ nothing_known n x room none =
     }
 
 -- the whole record is loaded: no slot is passed
-pub record_known : (n : Words) (x : TransferView) → length x.loaded.slots ≡ 32 → x.next ≡ after_record x.loaded → SlotsKnown n x
-record_known n x room e = record {
+pub record_known : (n : Words) (x : TransferView) (second : Bool) → length x.loaded.slots ≡ 32 → x.next ≡ Try second (after_record x.loaded) → SlotsKnown n x
+record_known n x second room e = record {
   room = room;
   within = rw e (first_within x.loaded);
   passed = λ has now s ge lt. absurd (let k : passed_before (overlay_length x.loaded) x.next ≡ 0 = rw e (first_passed x.loaded) in omega arith);
@@ -44,13 +42,13 @@ record_known n x room e = record {
   stays_value = rw e (λ at. absurd (first_not_exchange x.loaded at));
 }
   where
-    first_within : (loaded : Loaded) → at_covered_slot (after_record loaded) ≡ true → passed_before (overlay_length loaded) (after_record loaded) < overlay_length loaded
+    first_within : (loaded : Loaded) → covered_in_try (after_record loaded) ≡ true → passed_in_try (overlay_length loaded) (after_record loaded) < overlay_length loaded
     first_within loaded at = grind (arith, nat_tests)
 
-    first_passed : (loaded : Loaded) → passed_before (overlay_length loaded) (after_record loaded) ≡ 0
+    first_passed : (loaded : Loaded) → passed_in_try (overlay_length loaded) (after_record loaded) ≡ 0
     first_passed loaded = grind (arith, nat_tests)
 
-    first_not_exchange : (loaded : Loaded) → at_slot_exchange (after_record loaded) ≡ true → ⊥
+    first_not_exchange : (loaded : Loaded) → slot_exchange_in_try (after_record loaded) ≡ true → ⊥
     first_not_exchange loaded at = grind (arith, nat_tests)
 
 -- past the covered slots a view goes on
@@ -78,10 +76,10 @@ past_known n v x h g =
     }
 
 -- a covered slot that has the present state's tag, while that is the loaded state, is passed
-pub slot_known : (n : Words) (v x : TransferView) (offset : ℕ) → SlotsKnown n v → has_record v.next ≡ true → passed_slots v ≡ offset → offset < overlay_length v.loaded
-    → x.loaded.state ≡ v.loaded.state → x.loaded.record_words ≡ v.loaded.record_words → length x.loaded.slots ≡ 32 → x.next ≡ after_slot v.loaded offset
+pub slot_known : (n : Words) (v x : TransferView) (second : Bool) (offset : ℕ) → SlotsKnown n v → has_record v.next ≡ true → passed_slots v ≡ offset → offset < overlay_length v.loaded
+    → x.loaded.state ≡ v.loaded.state → x.loaded.record_words ≡ v.loaded.record_words → length x.loaded.slots ≡ 32 → x.next ≡ Try second (after_slot v.loaded offset)
     → (loaded_tag v.loaded ≡ state_tag n → slot_tag n (loaded_base v.loaded + offset) ≡ state_tag n) → SlotsKnown n x
-slot_known n v x offset h has at lt es er room e now =
+slot_known n v x second offset h has at lt es er room e now =
     let base : loaded_base x.loaded ≡ loaded_base v.loaded = rw er refl in
     let covered : overlay_length x.loaded ≡ overlay_length v.loaded = rw er refl in
     record {
@@ -96,20 +94,21 @@ slot_known n v x offset h has at lt es er room e now =
       stays_value = rw e (λ a. absurd (next_not_exchange v.loaded offset a));
     }
   where
-    next_within : (loaded : Loaded) (offset : ℕ) → offset < overlay_length loaded → at_covered_slot (after_slot loaded offset) ≡ true → passed_before (overlay_length loaded) (after_slot loaded offset) < overlay_length loaded
+    next_within : (loaded : Loaded) (offset : ℕ) → offset < overlay_length loaded → covered_in_try (after_slot loaded offset) ≡ true
+        → passed_in_try (overlay_length loaded) (after_slot loaded offset) < overlay_length loaded
     next_within loaded offset lt at = grind (arith, nat_tests)
 
-    next_passed : (loaded : Loaded) (offset : ℕ) → passed_before (overlay_length loaded) (after_slot loaded offset) ≡ offset + 1
+    next_passed : (loaded : Loaded) (offset : ℕ) → passed_in_try (overlay_length loaded) (after_slot loaded offset) ≡ offset + 1
     next_passed loaded offset = grind (arith, nat_tests)
 
-    next_not_exchange : (loaded : Loaded) (offset : ℕ) → at_slot_exchange (after_slot loaded offset) ≡ true → ⊥
+    next_not_exchange : (loaded : Loaded) (offset : ℕ) → slot_exchange_in_try (after_slot loaded offset) ≡ true → ⊥
     next_not_exchange loaded offset at = grind (arith, nat_tests)
 
 -- a covered slot is loaded whose tag is lower
-pub lower_known : (n : Words) (v x : TransferView) (offset word : ℕ) → SlotsKnown n v → has_record v.next ≡ true → passed_slots v ≡ offset → offset < overlay_length v.loaded → overlay_length v.loaded ≤ 32
-    → x.loaded.state ≡ v.loaded.state → x.loaded.record_words ≡ v.loaded.record_words → x.loaded.slots ≡ set v.loaded.slots offset word → x.next ≡ ExchangeSlot offset
+pub lower_known : (n : Words) (v x : TransferView) (second : Bool) (offset word : ℕ) → SlotsKnown n v → has_record v.next ≡ true → passed_slots v ≡ offset → offset < overlay_length v.loaded → overlay_length v.loaded ≤ 32
+    → x.loaded.state ≡ v.loaded.state → x.loaded.record_words ≡ v.loaded.record_words → x.loaded.slots ≡ set v.loaded.slots offset word → x.next ≡ Try second (ExchangeSlot offset)
     → tag_of word < loaded_tag v.loaded → slot_tag n (loaded_base v.loaded + offset) ≡ tag_of word → slot_value n (loaded_base v.loaded + offset) ≡ value_of word → SlotsKnown n x
-lower_known n v x offset word h has at lt few es er el e low tag value =
+lower_known n v x second offset word h has at lt few es er el e low tag value =
     let base : loaded_base x.loaded ≡ loaded_base v.loaded = rw er refl in
     let covered : overlay_length x.loaded ≡ overlay_length v.loaded = rw er refl in
     let loaded : get_or x.loaded.slots offset 0 ≡ word = rw el (get_or-set_same v.loaded.slots offset word 0 (omega (arith, h.room))) in

@@ -1,9 +1,10 @@
 -- the slots that takes get their batches from
-use Rattle.std.proofs.Common.{◌≡◌, ℕ, ◌-◌, ◌<◌, ◌≤◌, true, refl}
+use Rattle.std.proofs.Common.{◌≡◌, ℕ, ◌-◌, ◌<◌, ◌≤◌, Bool, true, refl}
 use Rattle.word_layout.specs.Sizes.{Sizes}
 use Rattle.transfer_machine.specs.Loads.{loaded_tag, loaded_base}
 use Rattle.transfer_machine.specs.declared.transfer.TransferView.{TransferView}
-use Rattle.transfer_machine.specs.declared.stage.NextStep.TheVariants.{LoadPoppedSlot}
+use Rattle.transfer_machine.specs.declared.stage.NextStep.TheVariants.{Try}
+use Rattle.transfer_machine.specs.declared.stage.TryStep.TheVariants.{LoadPoppedSlot}
 use Rattle.transfer_invariant.specs.Memory.{Words, Views, States, state_tag, slot_value}
 use Rattle.transfer_invariant.specs.Progress.{has_record}
 use Rattle.transfer_invariant.specs.Invariant.{RecordsHold}
@@ -17,7 +18,7 @@ pub holds_below_loaded_base : (sizes : Sizes) (words : Words) (states : States) 
 holds_below_loaded_base sizes words states v s c h has now low = h.below s (rw (rw now at (c.base has)) low)
 
 -- so does the slot of a taken batch
-pub popped_slots : (sizes : Sizes) (words : Words) (views : Views) (states : States) (i process : ℕ) → i < sizes.processes → RecordsHold sizes words views states → SlotsInvariant sizes words views states → (views i).next ≡ LoadPoppedSlot process → loaded_tag (views i).loaded ≡ state_tag words
+pub popped_slots : (sizes : Sizes) (words : Words) (views : Views) (states : States) (i process : ℕ) (second : Bool) → i < sizes.processes → RecordsHold sizes words views states → SlotsInvariant sizes words views states → (views i).next ≡ Try second (LoadPoppedSlot process) → loaded_tag (views i).loaded ≡ state_tag words
     → 1 ≤ (views i).plan.base → (views i).plan.base - 1 < loaded_base (views i).loaded → slot_value words ((views i).plan.base - 1) ≡ (states (state_tag words)).content ((views i).plan.base - 1)
-popped_slots sizes words views states i process li inv slots e now some low =
+popped_slots sizes words views states i process second li inv slots e now some low =
     holds_below_loaded_base sizes words states (views i) ((views i).plan.base - 1) (view_covers sizes words views states i inv li) slots.hold (rw e refl) now low

@@ -11,12 +11,13 @@ use Rattle.transfer_machine.specs.Loads.{loaded_tag, loaded_base, overlay_length
 use Rattle.transfer_machine.specs.Tries.{begun_plan, after_announcement}
 use Rattle.transfer_machine.specs.Machine.{try_ended, after_slot, after_record, after_heard, after_stored, record_word_loaded, popped_loaded}
 use Rattle.transfer_machine.specs.declared.transfer.TransferView.{TransferView}
-use Rattle.transfer_machine.specs.declared.stage.NextStep.TheVariants.{LoadRecordWord, LoadCoveredSlot, ExchangeSlot, LoadAnnouncement, LoadPoppedSlot, StoreRecordWord}
+use Rattle.transfer_machine.specs.declared.stage.NextStep.TheVariants.{Try}
+use Rattle.transfer_machine.specs.declared.stage.TryStep.TheVariants.{LoadRecordWord, LoadCoveredSlot, ExchangeSlot, LoadAnnouncement, LoadPoppedSlot, StoreRecordWord}
 use Rattle.transfer_invariant.proofs.Loaded.{ended_has_none}
 use Rattle.transfer_invariant.specs.Memory.{Words, Views, States, Moved, state_tag, slot_tag, slot_value}
 use Rattle.transfer_invariant.specs.Progress.{has_record}
 use Rattle.transfer_invariant.specs.Invariant.{RecordsHold}
-use Rattle.slot_invariant.specs.Slots.{at_covered_slot, passed_before, SlotsHold, SlotsKnown, SlotsInvariant}
+use Rattle.slot_invariant.specs.Slots.{covered_in_try, passed_in_try, SlotsHold, SlotsKnown, SlotsInvariant}
 use Rattle.slot_invariant.proofs.Changes.{SlotsStay}
 use Rattle.slot_invariant.proofs.Covers.{Covers, covers}
 use Rattle.slot_invariant.proofs.Stable.{stay_hold, stay_known}
@@ -46,54 +47,85 @@ either_known n true a b h k = h
 either_known n false a b h k = k
 
 -- a try ends
-pub ended_known : (n : Words) (v : TransferView) → SlotsKnown n v → SlotsKnown n (try_ended v)
-ended_known n v h = nothing_known n (try_ended v) h.room (ended_has_none (v.turn == 1))
+pub ended_known : (n : Words) (v : TransferView) (second : Bool) → SlotsKnown n v → SlotsKnown n (try_ended second v)
+ended_known n v second h = nothing_known n (try_ended second v) h.room (ended_has_none second)
 
 -- a record word is loaded
-pub record_word_known : (sizes : Sizes) (n : Words) (v : TransferView) (index word : ℕ) (t : Bool) → SlotsKnown n v → SlotsKnown n (if t then try_ended v else record_word_loaded sizes index (record v.loaded { record_words = set v.loaded.record_words index word }) v)
-record_word_known sizes n v index word t h =
+pub record_word_known : (sizes : Sizes) (n : Words) (v : TransferView) (second : Bool) (index word : ℕ) (t : Bool) → SlotsKnown n v
+    → SlotsKnown n (if t
+    then try_ended second v
+    else record_word_loaded sizes second index (record v.loaded { record_words = set v.loaded.record_words index word }) v)
+record_word_known sizes n v second index word t h =
     let loaded = record v.loaded { record_words = set v.loaded.record_words index word } in
-    either_known n t (try_ended v) _ (ended_known n v h)
+    either_known n t (try_ended second v) _ (ended_known n v second h)
     (either_known n (index + 1 == record_words sizes) _ _
-    (record_known n (record v { loaded = loaded; next = after_record loaded; plan = begun_plan loaded v.plan }) h.room refl)
-    (nothing_known n (record v { loaded = loaded; next = LoadRecordWord (index + 1) }) h.room refl))
+    (record_known n (record v { loaded = loaded; next = Try second (after_record loaded); plan = begun_plan loaded v.plan }) second h.room refl)
+    (nothing_known n (record v { loaded = loaded; next = Try second (LoadRecordWord (index + 1)) }) h.room refl))
 
 -- an announcement is loaded
-heard_past : (sizes : Sizes) (process : ℕ) → at_covered_slot (after_heard sizes process) ≡ false
+heard_past : (sizes : Sizes) (process : ℕ) → covered_in_try (after_heard sizes process) ≡ false
 heard_past sizes process = grind (arith, nat_tests)
 
-heard_passed : (sizes : Sizes) (process covered : ℕ) → passed_before covered (after_heard sizes process) ≤ covered
+heard_passed : (sizes : Sizes) (process covered : ℕ) → passed_in_try covered (after_heard sizes process) ≤ covered
 heard_passed sizes process covered = grind (arith, nat_tests)
 
-pub announcement_known : (sizes : Sizes) (n : Words) (v : TransferView) (process word : ℕ) (t : Bool) → SlotsKnown n v → v.next ≡ LoadAnnouncement process
-    → SlotsKnown n (if t
-    then record v { loaded = record v.loaded { announcements = set v.loaded.announcements process word }; next = LoadPoppedSlot process }
-    else record v { loaded = record v.loaded { announcements = set v.loaded.announcements process word }; next = after_heard sizes process; plan = after_announcement sizes.processes v.loaded process word 0 v.plan })
-announcement_known sizes n v process word t h e =
+pub announcement_known : (sizes : Sizes) (n : Words) (v : TransferView) (second : Bool) (process word : ℕ) (t : Bool) → SlotsKnown n v
+    → v.next ≡ Try second (LoadAnnouncement process)
+    → SlotsKnown n (let loaded = record v.loaded { announcements = set v.loaded.announcements process word } in
+    if t
+    then record v { loaded = loaded; next = Try second (LoadPoppedSlot process) }
+    else record v {
+      loaded = loaded;
+      next = Try second (after_heard sizes process);
+      plan = after_announcement sizes.processes v.loaded process word 0 v.plan;
+    })
+announcement_known sizes n v second process word t h e =
     let loaded = record v.loaded { announcements = set v.loaded.announcements process word } in
+    let plan = after_announcement sizes.processes v.loaded process word 0 v.plan in
     either_known n t _ _
-    (past_known n v (record v { loaded = loaded; next = LoadPoppedSlot process }) h
+    (past_known n v (record v { loaded = loaded; next = Try second (LoadPoppedSlot process) }) h
     (record { was = rw e refl; state = refl; record_words = refl; slots = refl; all = rw e refl; past = refl; none = omega arith }))
-    (past_known n v (record v { loaded = loaded; next = after_heard sizes process; plan = after_announcement sizes.processes v.loaded process word 0 v.plan }) h
-    (record { was = rw e refl; state = refl; record_words = refl; slots = refl; all = rw e refl; past = heard_past sizes process; none = heard_passed sizes process (overlay_length v.loaded) }))
+    (past_known n v (record v { loaded = loaded; next = Try second (after_heard sizes process); plan = plan }) h (record {
+      was = rw e refl;
+      state = refl;
+      record_words = refl;
+      slots = refl;
+      all = rw e refl;
+      past = heard_past sizes process;
+      none = heard_passed sizes process (overlay_length v.loaded);
+    }))
 
 -- the slot of a taken batch is loaded
-pub popped_known : (sizes : Sizes) (n : Words) (v : TransferView) (process word : ℕ) → SlotsKnown n v → v.next ≡ LoadPoppedSlot process → SlotsKnown n (popped_loaded sizes process word v)
-popped_known sizes n v process word h e =
-    past_known n v (popped_loaded sizes process word v) h
-    (record { was = rw e refl; state = refl; record_words = refl; slots = refl; all = rw e refl; past = heard_past sizes process; none = heard_passed sizes process (overlay_length v.loaded) })
+pub popped_known : (sizes : Sizes) (n : Words) (v : TransferView) (second : Bool) (process word : ℕ) → SlotsKnown n v
+    → v.next ≡ Try second (LoadPoppedSlot process) → SlotsKnown n (popped_loaded sizes second process word v)
+popped_known sizes n v second process word h e = past_known n v (popped_loaded sizes second process word v) h (record {
+  was = rw e refl;
+  state = refl;
+  record_words = refl;
+  slots = refl;
+  all = rw e refl;
+  past = heard_past sizes process;
+  none = heard_passed sizes process (overlay_length v.loaded);
+})
 
 -- a record word is stored
-stored_past : (sizes : Sizes) (index : ℕ) → at_covered_slot (after_stored sizes index) ≡ false
+stored_past : (sizes : Sizes) (index : ℕ) → covered_in_try (after_stored sizes index) ≡ false
 stored_past sizes index = grind (arith, nat_tests)
 
-stored_passed : (sizes : Sizes) (index covered : ℕ) → passed_before covered (after_stored sizes index) ≤ covered
+stored_passed : (sizes : Sizes) (index covered : ℕ) → passed_in_try covered (after_stored sizes index) ≤ covered
 stored_passed sizes index covered = grind (arith, nat_tests)
 
-pub stored_known : (sizes : Sizes) (n : Words) (v : TransferView) (index : ℕ) → SlotsKnown n v → v.next ≡ StoreRecordWord index → SlotsKnown n (record v { next = after_stored sizes index })
-stored_known sizes n v index h e =
-    past_known n v (record v { next = after_stored sizes index }) h
-    (record { was = rw e refl; state = refl; record_words = refl; slots = refl; all = rw e refl; past = stored_past sizes index; none = stored_passed sizes index (overlay_length v.loaded) })
+pub stored_known : (sizes : Sizes) (n : Words) (v : TransferView) (second : Bool) (index : ℕ) → SlotsKnown n v
+    → v.next ≡ Try second (StoreRecordWord index) → SlotsKnown n (record v { next = Try second (after_stored sizes index) })
+stored_known sizes n v second index h e = past_known n v (record v { next = Try second (after_stored sizes index) }) h (record {
+  was = rw e refl;
+  state = refl;
+  record_words = refl;
+  slots = refl;
+  all = rw e refl;
+  past = stored_past sizes index;
+  none = stored_passed sizes index (overlay_length v.loaded);
+})
 
 -- a covered slot is loaded
 below_test : (a b : ℕ) → nat_lt a b ≡ true → a < b
@@ -102,25 +134,25 @@ below_test a b h = grind (arith, nat_tests)
 not_below_test : (a b : ℕ) → nat_lt a b ≡ false → b ≤ a
 not_below_test a b h = grind (arith, nat_tests)
 
-pub covered_known : (sizes : Sizes) (m n : Words) (states : States) (v : TransferView) (offset : ℕ) (t : Bool) → sizes.processes ≤ 32 → Covers sizes m states v → SlotsHold sizes m states → SlotsStay sizes m n → state_tag n ≡ state_tag m → SlotsKnown n v → v.next ≡ LoadCoveredSlot offset
+pub covered_known : (sizes : Sizes) (m n : Words) (states : States) (v : TransferView) (second : Bool) (offset : ℕ) (t : Bool) → sizes.processes ≤ 32 → Covers sizes m states v → SlotsHold sizes m states → SlotsStay sizes m n → state_tag n ≡ state_tag m → SlotsKnown n v → v.next ≡ Try second (LoadCoveredSlot offset)
     → nat_lt (tag_of (m (Slot (loaded_base v.loaded + offset)))) (loaded_tag v.loaded) ≡ t
-    → SlotsKnown n (record v { loaded = record v.loaded { slots = set v.loaded.slots offset (m (Slot (loaded_base v.loaded + offset))) }; next = if t then ExchangeSlot offset else after_slot v.loaded offset })
+    → SlotsKnown n (record v { loaded = record v.loaded { slots = set v.loaded.slots offset (m (Slot (loaded_base v.loaded + offset))) }; next = Try second (if t then ExchangeSlot offset else after_slot v.loaded offset) })
 unfolding slot_tag slot_value
-covered_known sizes m n states v offset true few c hold s same h e test =
+covered_known sizes m n states v second offset true few c hold s same h e test =
     let word = m (Slot (loaded_base v.loaded + offset)) in
-    let x = record v { loaded = record v.loaded { slots = set v.loaded.slots offset word }; next = ExchangeSlot offset } in
+    let x = record v { loaded = record v.loaded { slots = set v.loaded.slots offset word }; next = Try second (ExchangeSlot offset) } in
     let has : has_record v.next ≡ true = rw e refl in
     let lt : offset < overlay_length v.loaded = rw e at (h.within (rw e refl)) in
     let covered = c.few has in
     let slots = c.within has in
     let low : loaded_base v.loaded + offset < sizes.batches = omega arith in
-    lower_known n v x offset word h has (rw e refl) lt (omega arith) refl refl refl refl (below_test _ _ test) (s.tags (loaded_base v.loaded + offset) low) (s.values (loaded_base v.loaded + offset) low)
-covered_known sizes m n states v offset false few c hold s same h e test =
+    lower_known n v x second offset word h has (rw e refl) lt (omega arith) refl refl refl refl (below_test _ _ test) (s.tags (loaded_base v.loaded + offset) low) (s.values (loaded_base v.loaded + offset) low)
+covered_known sizes m n states v second offset false few c hold s same h e test =
     let word = m (Slot (loaded_base v.loaded + offset)) in
-    let x = record v { loaded = record v.loaded { slots = set v.loaded.slots offset word }; next = after_slot v.loaded offset } in
+    let x = record v { loaded = record v.loaded { slots = set v.loaded.slots offset word }; next = Try second (after_slot v.loaded offset) } in
     let has : has_record v.next ≡ true = rw e refl in
     let lt : offset < overlay_length v.loaded = rw e at (h.within (rw e refl)) in
     let slots = c.within has in
     let low : loaded_base v.loaded + offset < sizes.batches = omega arith in
-    slot_known n v x offset h has (rw e refl) lt refl refl (length-set v.loaded.slots offset word ∙ h.room) refl
+    slot_known n v x second offset h has (rw e refl) lt refl refl (length-set v.loaded.slots offset word ∙ h.room) refl
     (λ now. rw (same, s.tags (loaded_base v.loaded + offset) low) (let k = hold.tags (loaded_base v.loaded + offset) low in let higher = not_below_test _ _ test in omega (arith, now, same)))

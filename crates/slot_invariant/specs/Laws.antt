@@ -1,5 +1,5 @@
 -- the opening meets the part on slots, and steps keep it
-use Rattle.std.specs.Prelude.{◌≡◌, ℕ, ◌+◌, ◌-◌, ◌<◌, ◌≤◌}
+use Rattle.std.specs.Prelude.{◌≡◌, ℕ, ◌+◌, ◌-◌, ◌<◌, ◌≤◌, Bool}
 use Rattle.word_layout.specs.Sizes.{Sizes, IsShape}
 use Rattle.word_layout.specs.Names.{InRange}
 use Rattle.word_layout.specs.declared.announced.Wish.{Wish}
@@ -9,7 +9,8 @@ use Rattle.transfer_machine.specs.Machine.{action_of, met_of, begun}
 use Rattle.transfer_machine.specs.Words.{name_of}
 use Rattle.transfer_machine.specs.Opening.{opening_word, opening_transfer}
 use Rattle.transfer_machine.specs.declared.transfer.TransferView.{TransferView}
-use Rattle.transfer_machine.specs.declared.stage.NextStep.TheVariants.{Rest, LoadCoveredSlot, ExchangeSlot, LoadPoppedSlot, ExchangeState}
+use Rattle.transfer_machine.specs.declared.stage.NextStep.TheVariants.{Rest, Try}
+use Rattle.transfer_machine.specs.declared.stage.TryStep.TheVariants.{LoadCoveredSlot, ExchangeSlot, LoadPoppedSlot, ExchangeState}
 use Rattle.transfer_invariant.specs.Memory.{Words, Views, States, Acted, Moved, state_tag, slot_value}
 use Rattle.transfer_invariant.specs.OpeningState.{opening_state}
 use Rattle.transfer_invariant.specs.Installing.{states_after}
@@ -26,7 +27,7 @@ OpeningMeetsSlots = (sizes : Sizes) (words : Words) (views : Views) → IsShape 
 
 -- a plan that is to be installed lies on the loaded content
 abbrev pub PlanBelow : TransferView → Type 0
-PlanBelow v = v.next ≡ ExchangeState → v.plan.base ≤ loaded_base v.loaded + overlay_length v.loaded
+PlanBelow v = (second : Bool) → v.next ≡ Try second ExchangeState → v.plan.base ≤ loaded_base v.loaded + overlay_length v.loaded
 
 -- the step of a process from words and views that meet the invariant and the part on slots leads to such words and views
 abbrev pub StepsKeepSlots : Type 0
@@ -49,16 +50,17 @@ BeginningsKeepSlots = (sizes : Sizes) (words : Words) (views after : Views) (sta
 
 -- while the loaded state is the present one, the slot below the working base holds that state's content, where it lies below the loaded base
 abbrev pub PoppedSlotsHoldContent : Type 0
-PoppedSlotsHoldContent = (sizes : Sizes) (words : Words) (views : Views) (states : States) (i process : ℕ) → i < sizes.processes
+PoppedSlotsHoldContent = (sizes : Sizes) (words : Words) (views : Views) (states : States) (i process : ℕ) (second : Bool) → i < sizes.processes
     → Invariant sizes words views states
     → SlotsInvariant sizes words views states
-    → (views i).next ≡ LoadPoppedSlot process
+    → (views i).next ≡ Try second (LoadPoppedSlot process)
     → loaded_tag (views i).loaded ≡ state_tag words
     → 1 ≤ (views i).plan.base → (views i).plan.base - 1 < loaded_base (views i).loaded
     → slot_value words ((views i).plan.base - 1) ≡ (states (state_tag words)).content ((views i).plan.base - 1)
 
 -- a view loads and exchanges only slots that the loaded overlay covers
 abbrev pub CoveredSlotsAreFew : Type 0
-CoveredSlotsAreFew = (sizes : Sizes) (words : Words) (views : Views) (states : States) (i offset : ℕ) → i < sizes.processes
+CoveredSlotsAreFew = (sizes : Sizes) (words : Words) (views : Views) (states : States) (i offset : ℕ) (second : Bool) → i < sizes.processes
     → SlotsInvariant sizes words views states
-    → ((views i).next ≡ LoadCoveredSlot offset → offset < overlay_length (views i).loaded) × ((views i).next ≡ ExchangeSlot offset → offset < overlay_length (views i).loaded)
+    → ((views i).next ≡ Try second (LoadCoveredSlot offset) → offset < overlay_length (views i).loaded)
+    × ((views i).next ≡ Try second (ExchangeSlot offset) → offset < overlay_length (views i).loaded)

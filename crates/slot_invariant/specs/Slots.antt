@@ -5,52 +5,66 @@ use Rattle.word_layout.specs.Packing.{tag_of, value_of}
 use Rattle.transfer_machine.specs.Loads.{loaded_tag, loaded_base, overlay_length}
 use Rattle.transfer_machine.specs.declared.transfer.TransferView.{TransferView}
 use Rattle.transfer_machine.specs.declared.stage.NextStep.{NextStep}
-use Rattle.transfer_machine.specs.declared.stage.NextStep.TheVariants.{Rest, Announce, LoadState, LoadRecordWord, LoadCoveredSlot, ExchangeSlot, LoadAnnouncement, LoadPoppedSlot, StoreRecordWord, ExchangeState, LoadFinalState, LoadReply}
+use Rattle.transfer_machine.specs.declared.stage.NextStep.TheVariants.{Rest, Announce, Try, LoadFinalState, LoadReply}
+use Rattle.transfer_machine.specs.declared.stage.TryStep.{TryStep}
+use Rattle.transfer_machine.specs.declared.stage.TryStep.TheVariants.{LoadState, LoadRecordWord, LoadCoveredSlot, ExchangeSlot, LoadAnnouncement, LoadPoppedSlot, StoreRecordWord, ExchangeState}
 use Rattle.transfer_invariant.specs.Memory.{Words, Views, States, state_tag, slot_tag, slot_value}
 use Rattle.transfer_invariant.specs.Progress.{has_record}
+
+-- at a slot that the loaded overlay covers, in a try
+abbrev pub covered_in_try : TryStep → Bool
+covered_in_try LoadState = false
+covered_in_try (LoadRecordWord index) = false
+covered_in_try (LoadCoveredSlot offset) = true
+covered_in_try (ExchangeSlot offset) = true
+covered_in_try (LoadAnnouncement process) = false
+covered_in_try (LoadPoppedSlot process) = false
+covered_in_try (StoreRecordWord index) = false
+covered_in_try ExchangeState = false
 
 -- at a slot that the loaded overlay covers
 abbrev pub at_covered_slot : NextStep → Bool
 at_covered_slot Rest = false
 at_covered_slot Announce = false
-at_covered_slot LoadState = false
-at_covered_slot (LoadRecordWord index) = false
-at_covered_slot (LoadCoveredSlot offset) = true
-at_covered_slot (ExchangeSlot offset) = true
-at_covered_slot (LoadAnnouncement process) = false
-at_covered_slot (LoadPoppedSlot process) = false
-at_covered_slot (StoreRecordWord index) = false
-at_covered_slot ExchangeState = false
+at_covered_slot (Try second step) = covered_in_try step
 at_covered_slot LoadFinalState = false
 at_covered_slot LoadReply = false
+
+-- before the exchange of such a slot, in a try
+abbrev pub slot_exchange_in_try : TryStep → Bool
+slot_exchange_in_try LoadState = false
+slot_exchange_in_try (LoadRecordWord index) = false
+slot_exchange_in_try (LoadCoveredSlot offset) = false
+slot_exchange_in_try (ExchangeSlot offset) = true
+slot_exchange_in_try (LoadAnnouncement process) = false
+slot_exchange_in_try (LoadPoppedSlot process) = false
+slot_exchange_in_try (StoreRecordWord index) = false
+slot_exchange_in_try ExchangeState = false
 
 -- before the exchange of such a slot
 abbrev pub at_slot_exchange : NextStep → Bool
 at_slot_exchange Rest = false
 at_slot_exchange Announce = false
-at_slot_exchange LoadState = false
-at_slot_exchange (LoadRecordWord index) = false
-at_slot_exchange (LoadCoveredSlot offset) = false
-at_slot_exchange (ExchangeSlot offset) = true
-at_slot_exchange (LoadAnnouncement process) = false
-at_slot_exchange (LoadPoppedSlot process) = false
-at_slot_exchange (StoreRecordWord index) = false
-at_slot_exchange ExchangeState = false
+at_slot_exchange (Try second step) = slot_exchange_in_try step
 at_slot_exchange LoadFinalState = false
 at_slot_exchange LoadReply = false
 
--- how many covered slots, of so many, a try is done with before that step
+-- how many covered slots, of so many, a try is done with before that step of it
+abbrev pub passed_in_try : ℕ → TryStep → ℕ
+passed_in_try covered LoadState = 0
+passed_in_try covered (LoadRecordWord index) = 0
+passed_in_try covered (LoadCoveredSlot offset) = offset
+passed_in_try covered (ExchangeSlot offset) = offset
+passed_in_try covered (LoadAnnouncement process) = covered
+passed_in_try covered (LoadPoppedSlot process) = covered
+passed_in_try covered (StoreRecordWord index) = covered
+passed_in_try covered ExchangeState = covered
+
+-- how many covered slots, of so many, a view is done with before that step
 abbrev pub passed_before : ℕ → NextStep → ℕ
 passed_before covered Rest = 0
 passed_before covered Announce = 0
-passed_before covered LoadState = 0
-passed_before covered (LoadRecordWord index) = 0
-passed_before covered (LoadCoveredSlot offset) = offset
-passed_before covered (ExchangeSlot offset) = offset
-passed_before covered (LoadAnnouncement process) = covered
-passed_before covered (LoadPoppedSlot process) = covered
-passed_before covered (StoreRecordWord index) = covered
-passed_before covered ExchangeState = covered
+passed_before covered (Try second step) = passed_in_try covered step
 passed_before covered LoadFinalState = 0
 passed_before covered LoadReply = 0
 
@@ -66,7 +80,8 @@ slot_to_pass v = loaded_base v.loaded + passed_slots v
 abbrev pub word_to_pass : TransferView → ℕ
 word_to_pass v = slice_index v.loaded.slots (passed_slots v)
 
--- Slots: below the base they hold the content; a slot with the state's tag, the highest one, is covered and holds the content; a slot that an earlier state covered has at least that one's tag
+-- Slots: below the base they hold the content; a slot with the state's tag, the highest one, is covered and holds the content;
+-- a slot that an earlier state covered has at least that one's tag
 pub record SlotsHold (sizes : Sizes) (words : Words) (states : States) : Type 0 where
   pub below : (s : ℕ) → s < (states (state_tag words)).base → slot_value words s ≡ (states (state_tag words)).content s
   pub tags : (s : ℕ) → s < sizes.batches → slot_tag words s ≤ state_tag words
@@ -76,7 +91,8 @@ pub record SlotsHold (sizes : Sizes) (words : Words) (states : States) : Type 0 
   pub before : (m s : ℕ) → m < state_tag words → (states m).base ≤ s → s < (states m).height → m ≤ slot_tag words s
   pub values : (s : ℕ) → s < sizes.batches → slot_value words s < blocks sizes
 
--- Slots, of one view: while the loaded state is the present one, the covered slots that it passed have that state's tag, and the slot that it is to exchange has it too or is still the word that was loaded
+-- Slots, of one view: while the loaded state is the present one, the covered slots that it passed have that state's tag, and the
+-- slot that it is to exchange has it too or is still the word that was loaded
 pub record SlotsKnown (words : Words) (v : TransferView) : Type 0 where
   pub room : length v.loaded.slots ≡ 32
   pub within : at_covered_slot v.next ≡ true → passed_slots v < overlay_length v.loaded

@@ -20,7 +20,8 @@ value_height : (processes : ℕ) (s : StackState) → s.base ≤ s.height → s.
 unfolding state_value
 value_height processes s le = omega arith
 
-value_content : (processes place : ℕ) (s : StackState) → s.base ≤ place → place < s.height → place < s.base + processes → state_value processes s (2 + (place - s.base)) ≡ s.content place
+value_content : (processes place : ℕ) (s : StackState) → s.base ≤ place → place < s.height → place < s.base + processes
+    → state_value processes s (2 + (place - s.base)) ≡ s.content place
 unfolding state_value
 value_content processes place s ge lt few =
     let x = place - s.base in
@@ -32,26 +33,32 @@ value_content processes place s ge lt few =
     rw (not_base, not_length, head, inside) (ap s.content here)
 
 -- a head below the base, and one from there on
-head_below : (words : Words) (s : StackState) (place : ℕ) → shown_base words ≡ s.base → place < s.base → slot_value words place ≡ s.content place → shown_head words place ≡ s.content place
+head_below : (words : Words) (s : StackState) (place : ℕ) → shown_base words ≡ s.base → place < s.base
+    → slot_value words place ≡ s.content place → shown_head words place ≡ s.content place
 unfolding shown_head
 head_below words s place e lt h = let test : nat_lt place (shown_base words) ≡ true = grind (arith, nat_tests) in rw test h
 
-head_above : (words : Words) (s : StackState) (place : ℕ) → shown_base words ≡ s.base → s.base ≤ place → word_value words (current_record words) (2 + (place - s.base)) ≡ s.content place
+head_above : (words : Words) (s : StackState) (place : ℕ) → shown_base words ≡ s.base → s.base ≤ place
+    → word_value words (current_record words) (2 + (place - s.base)) ≡ s.content place
     → shown_head words place ≡ s.content place
 unfolding shown_head
 head_above words s place e ge h = let test : nat_lt place (shown_base words) ≡ false = grind (arith, nat_tests) in rw (test, e) h
 
 -- the words show the present state
-base_shown : (sizes : Sizes) (words : Words) (states : States) → CurrentRecord sizes words states → shown_base words ≡ (present words states).base
+base_shown : (sizes : Sizes) (words : Words) (states : States) → CurrentRecord sizes words states
+    → shown_base words ≡ (present words states).base
 unfolding shown_base
 base_shown sizes words states c = c.values 0 (omega arith) ∙ value_base sizes.processes (present words states)
 
-height_shown : (sizes : Sizes) (words : Words) (states : States) → 1 < record_words sizes → CurrentRecord sizes words states → (present words states).base ≤ (present words states).height
+height_shown : (sizes : Sizes) (words : Words) (states : States) → 1 < record_words sizes → CurrentRecord sizes words states
+    → (present words states).base ≤ (present words states).height
     → shown_height words ≡ (present words states).height
 unfolding shown_height
-height_shown sizes words states two c le = rw (base_shown sizes words states c, c.values 1 two) (value_height sizes.processes (present words states) le)
+height_shown sizes words states two c le =
+    rw (base_shown sizes words states c, c.values 1 two) (value_height sizes.processes (present words states) le)
 
-content_shown : (sizes : Sizes) (words : Words) (states : States) → CurrentRecord sizes words states → StateFits sizes (present words states) → SlotsHold sizes words states
+content_shown : (sizes : Sizes) (words : Words) (states : States) → CurrentRecord sizes words states
+    → StateFits sizes (present words states) → SlotsHold sizes words states
     → (place : ℕ) → place < (present words states).height → shown_head words place ≡ (present words states).content place
 content_shown sizes words states c fits slots place lt =
     let s = present words states in
@@ -81,7 +88,8 @@ same_content processes old new s h k = record {
   content = λ place lt. let low : place < s.height = rw h.height at lt in k.content place low ∙ sym (h.content place low);
 }
 
-pub shows_same : (processes : ℕ) (words : Words) (s t : StackState) → Shows processes words s → SameState processes s t → Shows processes words t
+pub shows_same : (processes : ℕ) (words : Words) (s t : StackState) → Shows processes words s → SameState processes s t
+    → Shows processes words t
 shows_same processes words s t h k = record {
   base = h.base ∙ k.base;
   height = h.height ∙ k.height;

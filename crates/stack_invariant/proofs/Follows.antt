@@ -1,9 +1,10 @@
 -- what the invariant gives for steps and processes
-use Rattle.std.proofs.Common.{◌≡◌, ℕ, ◌+◌, ◌<◌, refl, arith}
+use Rattle.std.proofs.Common.{◌≡◌, ℕ, ◌+◌, ◌<◌, Bool, refl, arith}
 use Rattle.word_layout.specs.Sizes.{Sizes}
 use Rattle.transfer_machine.specs.Loads.{loaded_base}
 use Rattle.transfer_machine.specs.declared.transfer.TransferView.{TransferView}
-use Rattle.transfer_machine.specs.declared.stage.NextStep.TheVariants.{LoadCoveredSlot, ExchangeSlot}
+use Rattle.transfer_machine.specs.declared.stage.NextStep.TheVariants.{Try}
+use Rattle.transfer_machine.specs.declared.stage.TryStep.TheVariants.{LoadCoveredSlot, ExchangeSlot}
 use Rattle.transfer_invariant.specs.Memory.{Words, States}
 use Rattle.transfer_invariant.proofs.Installs.{few_tags}
 use Rattle.slot_invariant.proofs.Covers.{Covers}
@@ -17,31 +18,36 @@ use Rattle.stack_invariant.proofs.Premises.{plan_premises, covers_within}
 -- every view can make its next step
 pub can_be_made : StackStepsCanBeMade
 can_be_made sizes words views states i shape li h s ages =
-    gives.steps_can_be_made sizes words views states i shape li h.transfers h.plans (plan_premises sizes words views states i li h s) (covers_within words (views i) (h.slots.known i li))
-    (few_tags sizes words views shape.few_processes h.transfers.tags ages)
+    let premises = plan_premises sizes words views states i li h s in
+    let covers = covers_within words (views i) (h.slots.known i li) in
+    let few = few_tags sizes words views shape.few_processes h.transfers.tags ages in
+    gives.steps_can_be_made sizes words views states i shape li h.transfers h.plans premises covers few
 
 -- a state that is installed, and a reply that is loaded
 pub installed_next : InstalledIsNext
-installed_next sizes words views states i shape li h e same = record {
-  next = gives.planned_is_next sizes words views states i shape li h.transfers h.plans e same;
-  pending = λ o lo pends. installs_present sizes words views states i o li lo h.helping e same pends;
+installed_next sizes words views states i second shape li h e same = record {
+  next = gives.planned_is_next sizes words views states i second shape li h.transfers h.plans e same;
+  pending = λ o lo pends. installs_present sizes words views states i o second li lo h.helping e same pends;
   heads = λ k. gives.planned_heads_are_blocks sizes words views states i k li h.plans;
 }
 
 pub replies_answer : RepliesAreAnswers
-replies_answer sizes words views states i li h e = let both = answered sizes words views states i li h.transfers h.helping e in record { reply = both.0; applied = both.1 }
+replies_answer sizes words views states i li h e =
+    let both = answered sizes words views states i li h.transfers h.helping e in
+    record { reply = both.0; applied = both.1 }
 
 pub tries_apply : TriesApply
 tries_apply sizes words views states i li h e = applied_after_two_tries sizes words views states i li h.helping e
 
 -- each process
-load_low : (sizes : Sizes) (words : Words) (states : States) (v : TransferView) (offset : ℕ) → Covers sizes words states v → CoversWithin v
-    → v.next ≡ LoadCoveredSlot offset → loaded_base v.loaded + offset < sizes.batches
-load_low sizes words states v offset c w e = omega (arith, w.load offset e, c.within (rw e refl))
+load_low : (sizes : Sizes) (words : Words) (states : States) (v : TransferView) (second : Bool) (offset : ℕ) → Covers sizes words states v
+    → CoversWithin v → v.next ≡ Try second (LoadCoveredSlot offset) → loaded_base v.loaded + offset < sizes.batches
+load_low sizes words states v second offset c w e = omega (arith, w.load second offset e, c.within (rw e refl))
 
-exchange_low : (sizes : Sizes) (words : Words) (states : States) (v : TransferView) (offset : ℕ) → Covers sizes words states v → CoversWithin v
-    → v.next ≡ ExchangeSlot offset → loaded_base v.loaded + offset < sizes.batches
-exchange_low sizes words states v offset c w e = omega (arith, w.exchange offset e, c.within (rw e refl))
+exchange_low : (sizes : Sizes) (words : Words) (states : States) (v : TransferView) (second : Bool) (offset : ℕ)
+    → Covers sizes words states v → CoversWithin v → v.next ≡ Try second (ExchangeSlot offset)
+    → loaded_base v.loaded + offset < sizes.batches
+exchange_low sizes words states v second offset c w e = omega (arith, w.exchange second offset e, c.within (rw e refl))
 
 pub each_process : EachProcessHolds
 each_process sizes words views states o lo h =
@@ -54,6 +60,6 @@ each_process sizes words views states o lo h =
       overlay = c.few;
       within = c.within;
       covers = w;
-      loads_slot = λ offset e. load_low sizes words states v offset c w e;
-      exchanges_slot = λ offset e. exchange_low sizes words states v offset c w e;
+      loads_slot = λ second offset e. load_low sizes words states v second offset c w e;
+      exchanges_slot = λ second offset e. exchange_low sizes words states v second offset c w e;
     }

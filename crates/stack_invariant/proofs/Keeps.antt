@@ -7,7 +7,6 @@ use Rattle.word_layout.specs.declared.name.WordName.{WordName}
 use Rattle.transfer_machine.specs.Machine.{action_of, met_of, begun}
 use Rattle.transfer_machine.specs.Opening.{opening_word, opening_transfer}
 use Rattle.transfer_machine.specs.Words.{name_of}
-use Rattle.transfer_machine.specs.declared.stage.NextStep.TheVariants.{Rest}
 use Rattle.transfer_invariant.specs.Memory.{Words, Views, States, Acted, Moved}
 use Rattle.transfer_invariant.specs.OpeningState.{opening_state}
 use Rattle.transfer_invariant.specs.Installing.{states_after}
@@ -16,6 +15,7 @@ use Rattle.transfer_invariant.specs.Laws.{WritesFit}
 use Rattle.transfer_invariant.proofs.Counts.{opened_tags_hold, tags_kept, idle_tags}
 use Rattle.transfer_invariant.proofs.Keeps.{step_kept}
 use Rattle.transfer_invariant.proofs.Opened.{opened_tag, opened_invariant}
+use Rattle.transfer_invariant.proofs.Own.{StoresNone}
 use Rattle.transfer_invariant.proofs.Overlays.{overlays_kept, overlays_move}
 use Rattle.transfer_invariant.proofs.Stages.{leaves}
 use Rattle.slot_invariant.specs.Slots.{SlotsInvariant}
@@ -23,16 +23,15 @@ use Rattle.slot_invariant.proofs.Keeps.{slots_kept}
 use Rattle.slot_invariant.proofs.Opened.{opened_slots}
 use Rattle.slot_invariant.proofs.Own.{nothing_known}
 use Rattle.slot_invariant.proofs.Steps.{slots_move}
-use Rattle.helping_invariant.specs.Holds.{HelpingHolds}
-use Rattle.helping_invariant.proofs.Keeps.{step_helps}
-use Rattle.helping_invariant.proofs.Moves.{view_idle}
-use Rattle.helping_invariant.proofs.OpenedHelping.{opened_helping}
+use Rattle.helping_invariant.proofs.Keeps.{steps_keep_helping, beginnings_keep_helping}
+use Rattle.helping_invariant.proofs.OpenedHelping.{opening_meets_helping}
 use Rattle.plan_invariant.proofs.Keeps.{opening_holds, steps_keep, beginnings_keep}
 use Rattle.stack_invariant.specs.Laws.{OpeningMeetsStack, BeginningsKeepStack, StepsKeepStack}
 use Rattle.stack_invariant.proofs.Premises.{plan_premises, stack_writes, plan_below, fits_wish}
 
 -- the opening
-opened_transfers : (sizes : Sizes) (words : Words) (views : Views) → IsShape sizes → ((name : WordName) → InRange sizes name → words name ≡ opening_word sizes name)
+opened_transfers : (sizes : Sizes) (words : Words) (views : Views) → IsShape sizes
+    → ((name : WordName) → InRange sizes name → words name ≡ opening_word sizes name)
     → ((i : ℕ) → i < sizes.processes → views i ≡ opening_transfer i) → Invariant sizes words views (λ m. opening_state sizes)
 opened_transfers sizes words views shape opened seats = record {
   records = opened_invariant sizes words shape opened views seats;
@@ -44,58 +43,63 @@ pub opening_meets : OpeningMeetsStack
 opening_meets sizes words views shape opened seats = record {
   transfers = opened_transfers sizes words views shape opened seats;
   slots = opened_slots sizes words shape opened views seats;
-  helping = opened_helping sizes words views opened seats;
+  helping = opening_meets_helping sizes words views shape opened seats;
   plans = opening_holds sizes words views (λ m. opening_state sizes) shape opened seats;
 }
 
 -- beginnings
-begun_transfers : (sizes : Sizes) (words : Words) (views after : Views) (states : States) (i : ℕ) (wish : Wish) → i < sizes.processes → Invariant sizes words views states
-    → Moved i (begun wish (views i)) views after → Invariant sizes words after states
-begun_transfers sizes words views after states i wish li inv moved = record {
-  records = leaves sizes words views after states i (begun wish (views i)) li inv.records refl refl (record { index = omega arith; stored = refl }) refl refl refl refl moved;
-  plans = overlays_move sizes views after i (begun wish (views i)) inv.plans moved tt;
-  tags = idle_tags sizes words words views after i (begun wish (views i)) li inv.tags moved refl refl refl;
-}
+begun_transfers : (sizes : Sizes) (words : Words) (views after : Views) (states : States) (i : ℕ) (wish : Wish) → i < sizes.processes
+    → Invariant sizes words views states → Moved i (begun wish (views i)) views after → Invariant sizes words after states
+begun_transfers sizes words views after states i wish li inv moved =
+    let x = begun wish (views i) in
+    let none : StoresNone sizes x.next = record { index = omega arith; stored = refl } in
+    record {
+      records = leaves sizes words views after states i x li inv.records refl refl none refl refl refl refl moved;
+      plans = overlays_move sizes views after i x inv.plans moved tt;
+      tags = idle_tags sizes words words views after i x li inv.tags moved refl refl refl;
+    }
 
-begun_slots : (sizes : Sizes) (words : Words) (views after : Views) (states : States) (i : ℕ) (wish : Wish) → i < sizes.processes → SlotsInvariant sizes words views states
-    → Moved i (begun wish (views i)) views after → SlotsInvariant sizes words after states
+begun_slots : (sizes : Sizes) (words : Words) (views after : Views) (states : States) (i : ℕ) (wish : Wish) → i < sizes.processes
+    → SlotsInvariant sizes words views states → Moved i (begun wish (views i)) views after → SlotsInvariant sizes words after states
 begun_slots sizes words views after states i wish li slots moved =
     let x = begun wish (views i) in
     slots_move sizes words views after states i x slots.hold (nothing_known words x (slots.known i li).room refl) slots.known moved
-
-begun_helping : (sizes : Sizes) (words : Words) (views after : Views) (states : States) (i : ℕ) (wish : Wish) → i < sizes.processes → HelpingHolds sizes words views states
-    → (views i).next ≡ Rest → Moved i (begun wish (views i)) views after → HelpingHolds sizes words after states
-begun_helping sizes words views after states i wish li h rest moved =
-    view_idle sizes words views after states i (begun wish (views i)) li h moved ((h.announced i li).idle (rw rest refl)) refl refl refl refl refl
 
 pub beginnings_keep_stack : BeginningsKeepStack
 beginnings_keep_stack sizes words views after states i wish li h rest moved = record {
   transfers = begun_transfers sizes words views after states i wish li h.transfers moved;
   slots = begun_slots sizes words views after states i wish li h.slots moved;
-  helping = begun_helping sizes words views after states i wish li h.helping rest moved;
+  helping = beginnings_keep_helping sizes words views after states i wish li h.helping rest moved;
   plans = beginnings_keep sizes words views after states i wish li h.plans moved;
 }
 
 -- steps
-stepped_transfers : (sizes : Sizes) (words new : Words) (views after : Views) (states : States) (i : ℕ) → IsShape sizes → i < sizes.processes → Invariant sizes words views states
-    → WritesFit sizes words (views i)
-    → Acted sizes (action_of sizes (views i)) words new → Moved i (met_of sizes (views i) (words (name_of (action_of sizes (views i))))) views after
+stepped_transfers : (sizes : Sizes) (words new : Words) (views after : Views) (states : States) (i : ℕ) → IsShape sizes
+    → i < sizes.processes → Invariant sizes words views states → WritesFit sizes words (views i)
+    → Acted sizes (action_of sizes (views i)) words new
+    → Moved i (met_of sizes (views i) (words (name_of (action_of sizes (views i))))) views after
     → Invariant sizes new after (states_after words (views i) states)
-stepped_transfers sizes words new views after states i shape li inv fits acted moved = record {
-  records = step_kept sizes words new views after states i (views i).next shape.few_processes li inv.records (inv.plans i li) fits refl acted moved;
-  plans = overlays_kept sizes views after i (words (name_of (action_of sizes (views i)))) li inv.plans moved;
-  tags = tags_kept sizes words new views after states i (views i).next shape.few_processes li inv.records inv.tags fits refl acted moved;
-}
+stepped_transfers sizes words new views after states i shape li inv fits acted moved =
+    let few = shape.few_processes in
+    let next = (views i).next in
+    record {
+      records = step_kept sizes words new views after states i next few li inv.records (inv.plans i li) fits refl acted moved;
+      plans = overlays_kept sizes views after i (words (name_of (action_of sizes (views i)))) li inv.plans moved;
+      tags = tags_kept sizes words new views after states i next few li inv.records inv.tags fits refl acted moved;
+    }
 
 pub steps_keep_stack : StepsKeepStack
 steps_keep_stack sizes words new views after states i shape li h s acted moved =
-    let few = shape.few_processes in
-    let next = (views i).next in
+    let t = h.transfers in
     let fits = stack_writes sizes words views states i shape li h s in
+    let below = plan_below sizes words views states i li h in
+    let replies = (h.plans.each i li).replies in
     let wish = fits_wish sizes words states (views i) shape s in
+    let premises = plan_premises sizes words views states i li h s in
     record {
-      transfers = stepped_transfers sizes words new views after states i shape li h.transfers fits acted moved;
-      slots = slots_kept sizes words new views after states i next few li h.transfers.records h.slots fits (plan_below sizes words views states i li h) refl acted moved;
-      helping = step_helps sizes words new views after states i next few li h.transfers h.helping fits (h.plans.each i li).replies wish refl acted moved;
-      plans = steps_keep sizes words new views after states i shape li h.transfers h.plans (plan_premises sizes words views states i li h s) acted moved;
+      transfers = stepped_transfers sizes words new views after states i shape li t fits acted moved;
+      slots = slots_kept sizes words new views after states i (views i).next shape.few_processes li t.records h.slots fits below refl
+          acted moved;
+      helping = steps_keep_helping sizes words new views after states i shape li t h.helping fits replies wish acted moved;
+      plans = steps_keep sizes words new views after states i shape li t h.plans premises acted moved;
     }

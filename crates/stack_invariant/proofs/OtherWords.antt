@@ -35,28 +35,42 @@ records_stay sizes old new same = record {
   values = λ row index lr li. ap value_of (same (RecordWord row index) (lr, li) refl);
 }
 
-pub slots_stay : (sizes : Sizes) (old new : Words) → StackWordsStay sizes old new → SlotsStay sizes old new
+slots_stay : (sizes : Sizes) (old new : Words) → StackWordsStay sizes old new → SlotsStay sizes old new
 unfolding slot_tag slot_value
-slots_stay sizes old new same = record { tags = λ s ls. ap tag_of (same (Slot s) ls refl); values = λ s ls. ap value_of (same (Slot s) ls refl) }
+slots_stay sizes old new same = record {
+  tags = λ s ls. ap tag_of (same (Slot s) ls refl);
+  values = λ s ls. ap value_of (same (Slot s) ls refl);
+}
 
-pub announcements_stay : (sizes : Sizes) (old new : Words) → StackWordsStay sizes old new → AnnouncementsStay sizes old new
+announcements_stay : (sizes : Sizes) (old new : Words) → StackWordsStay sizes old new → AnnouncementsStay sizes old new
 announcements_stay sizes old new same = record { each = λ o lo. same (Announcement o) lo refl }
 
 -- and so does each part
-tags_same : (sizes : Sizes) (old new : Words) (views : Views) → state_tag new ≡ state_tag old → TagsHold sizes old views → TagsHold sizes new views
-tags_same sizes old new views e h = record { count = rw e h.count; order = λ i li. order_stays old new (views i) (h.order i li) (omega (arith, e)) }
+tags_same : (sizes : Sizes) (old new : Words) (views : Views) → state_tag new ≡ state_tag old → TagsHold sizes old views
+    → TagsHold sizes new views
+tags_same sizes old new views e h = record {
+  count = rw e h.count;
+  order = λ i li. order_stays old new (views i) (h.order i li) (omega (arith, e));
+}
 
-transfers_same : (sizes : Sizes) (old new : Words) (views : Views) (states : States) → RecordsStay sizes old new → Invariant sizes old views states → Invariant sizes new views states
-transfers_same sizes old new views states r inv = record { records = stay sizes old new views states inv.records r; plans = inv.plans; tags = tags_same sizes old new views r.state inv.tags }
+transfers_same : (sizes : Sizes) (old new : Words) (views : Views) (states : States) → RecordsStay sizes old new
+    → Invariant sizes old views states → Invariant sizes new views states
+transfers_same sizes old new views states r inv = record {
+  records = stay sizes old new views states inv.records r;
+  plans = inv.plans;
+  tags = tags_same sizes old new views r.state inv.tags;
+}
 
-slots_same : (sizes : Sizes) (old new : Words) (views : Views) (states : States) → RecordsStay sizes old new → SlotsStay sizes old new → Invariant sizes old views states
+slots_same : (sizes : Sizes) (old new : Words) (views : Views) (states : States) → RecordsStay sizes old new → SlotsStay sizes old new
+    → Invariant sizes old views states
     → SlotsInvariant sizes old views states → SlotsInvariant sizes new views states
 slots_same sizes old new views states r s inv h = record {
   hold = stay_hold sizes old new states inv.records.states_fit h.hold s r.state;
   known = λ i li. stay_known sizes old new states (views i) (view_covers sizes old views states i inv.records li) (h.known i li) s r.state;
 }
 
-plans_same : (sizes : Sizes) (old new : Words) (views : Views) (states : States) → state_tag new ≡ state_tag old → AnnouncementsStay sizes old new → PlansHold sizes old views states
+plans_same : (sizes : Sizes) (old new : Words) (views : Views) (states : States) → state_tag new ≡ state_tag old
+    → AnnouncementsStay sizes old new → PlansHold sizes old views states
     → PlansHold sizes new views states
 plans_same sizes old new views states e a h = record {
   announcements = λ o lo. rw (a.each o lo) (h.announcements o lo);

@@ -15,8 +15,8 @@ use Rattle.plan_invariant.proofs.Wishes.{wish_fits}
 use Rattle.stack_invariant.specs.Stack.{StackHolds, Supplied}
 
 -- the slots and the numbers of the views give what plans need
-pub plan_premises : (sizes : Sizes) (words : Words) (views : Views) (states : States) (i : ℕ) → i < sizes.processes → StackHolds sizes words views states → Supplied sizes words states (views i)
-    → PlanPremises sizes words states (views i)
+pub plan_premises : (sizes : Sizes) (words : Words) (views : Views) (states : States) (i : ℕ) → i < sizes.processes
+    → StackHolds sizes words views states → Supplied sizes words states (views i) → PlanPremises sizes words states (views i)
 plan_premises sizes words views states i li h s = record {
   number = rw (h.helping.announced i li).number li;
   fits_wish = s.wish;
@@ -26,17 +26,22 @@ plan_premises sizes words views states i li h s = record {
 }
 
 -- plans give what is written, and where it lies
-pub stack_writes : (sizes : Sizes) (words : Words) (views : Views) (states : States) (i : ℕ) → IsShape sizes → i < sizes.processes → StackHolds sizes words views states
-    → Supplied sizes words states (views i) → WritesFit sizes words (views i)
+pub stack_writes : (sizes : Sizes) (words : Words) (views : Views) (states : States) (i : ℕ) → IsShape sizes → i < sizes.processes
+    → StackHolds sizes words views states → Supplied sizes words states (views i) → WritesFit sizes words (views i)
 stack_writes sizes words views states i shape li h s = writes_fit sizes words views states i shape li h.transfers h.plans s.room
 
-pub plan_below : (sizes : Sizes) (words : Words) (views : Views) (states : States) (i : ℕ) → i < sizes.processes → StackHolds sizes words views states → PlanBelow (views i)
-plan_below sizes words views states i li h = planned_base_is_low sizes words views states i li h.plans
+pub plan_below : (sizes : Sizes) (words : Words) (views : Views) (states : States) (i : ℕ) → i < sizes.processes
+    → StackHolds sizes words views states → PlanBelow (views i)
+plan_below sizes words views states i li h second e = planned_base_is_low sizes words views states i second li h.plans e
 
 -- the wish of a pool fits
-pub fits_wish : (sizes : Sizes) (words : Words) (states : States) (v : TransferView) → IsShape sizes → Supplied sizes words states v → v.next ≡ Announce → FitsWish v.wish
+pub fits_wish : (sizes : Sizes) (words : Words) (states : States) (v : TransferView) → IsShape sizes → Supplied sizes words states v
+    → v.next ≡ Announce → FitsWish v.wish
 fits_wish sizes words states v shape s e = wish_fits sizes v.wish shape.few_blocks (s.wish e)
 
 -- a view is at covered slots alone
 pub covers_within : (words : Words) (v : TransferView) → SlotsKnown words v → CoversWithin v
-covers_within words v k = record { load = λ offset e. rw e at (k.within (rw e refl)); exchange = λ offset e. rw e at (k.within (rw e refl)) }
+covers_within words v k = record {
+  load = λ second offset e. rw e at (k.within (rw e refl));
+  exchange = λ second offset e. rw e at (k.within (rw e refl));
+}

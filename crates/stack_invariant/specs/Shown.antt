@@ -15,7 +15,9 @@ shown_height words = shown_base words + word_value words (current_record words) 
 
 -- the head at a place of the stack: below the base a slot's, from there on the overlay's
 unfoldable pub shown_head : Words → ℕ → ℕ
-shown_head words place = if nat_lt place (shown_base words) then slot_value words place else word_value words (current_record words) (2 + (place - shown_base words))
+shown_head words place =
+    if nat_lt place (shown_base words) then slot_value words place
+    else word_value words (current_record words) (2 + (place - shown_base words))
 
 -- the words show a state: its base, its height, and its content; and, for so many processes, its replies
 pub record Shows (processes : ℕ) (words : Words) (s : StackState) : Type 0 where

@@ -1,10 +1,12 @@
 -- the invariant of the shared stack, its parts gathered, and what a step needs besides
-use Rattle.std.specs.Prelude.{◌≡◌, ◌+◌, ◌^◌, ◌<◌, ◌≤◌, Bool, true, false}
+use Rattle.std.specs.Prelude.{◌≡◌, ◌+◌, ◌<◌, ◌≤◌, Bool, true, false}
 use Rattle.word_layout.specs.Sizes.{Sizes}
+use Rattle.word_layout.specs.Packing.{most_age}
 use Rattle.word_layout.specs.declared.name.WordName.{WordName}
 use Rattle.word_layout.specs.declared.name.WordName.TheVariants.{State, Announcement, RecordWord, Slot, Next, Data}
 use Rattle.transfer_machine.specs.declared.transfer.TransferView.{TransferView}
-use Rattle.transfer_machine.specs.declared.stage.NextStep.TheVariants.{Announce, ExchangeState}
+use Rattle.transfer_machine.specs.declared.stage.NextStep.TheVariants.{Announce, Try}
+use Rattle.transfer_machine.specs.declared.stage.TryStep.TheVariants.{ExchangeState}
 use Rattle.transfer_invariant.specs.Memory.{Words, Views, States}
 use Rattle.transfer_invariant.specs.Invariant.{Invariant}
 use Rattle.slot_invariant.specs.Slots.{SlotsInvariant}
@@ -19,11 +21,14 @@ pub record StackHolds (sizes : Sizes) (words : Words) (views : Views) (states : 
   pub helping : HelpingHolds sizes words views states
   pub plans : PlansHold sizes words views states
 
--- what the process's own pool and the count of batches give for the next step of a view: an announced transfer has a number and a wish in range, and all places of a plan that is installed are slots
+-- what the process's own pool and the count of batches give for the next step of a view
 pub record Supplied (sizes : Sizes) (words : Words) (states : States) (v : TransferView) : Type 0 where
-  pub age : v.next ≡ Announce → v.age < 2 ^ 32
+  -- a transfer that is announced has an age and a wish in range
+  pub age : v.next ≡ Announce → v.age < most_age
   pub wish : v.next ≡ Announce → WishIsBlock sizes v.wish
-  pub room : v.next ≡ ExchangeState → words State ≡ v.loaded.state → v.plan.base + v.plan.overlay ≤ sizes.batches
+  -- all places of a plan that is installed are slots
+  pub room : (second : Bool) → v.next ≡ Try second ExchangeState → words State ≡ v.loaded.state
+      → v.plan.base + v.plan.overlay ≤ sizes.batches
 
 -- whether the invariant speaks of the word of that name
 abbrev pub is_stack_word : WordName → Bool

@@ -1,6 +1,8 @@
 //! The opening meets the invariant, each step keeps it, and what it gives. Each law is the contract of a call
 //! that does nothing.
-ghost use Rattle.stack_invariant.specs.Laws.{OpeningMeetsStack, BeginningsKeepStack, StepsKeepStack, StackStepsCanBeMade, OtherWordsKeepStack, InstalledIsNext, RepliesAreAnswers, EachProcessHolds, TriesApply, WordsShowState, TablesShowState, StepsMoveContent};
+ghost use Rattle.stack_invariant.specs.Laws.{OpeningMeetsStack, BeginningsKeepStack, StepsKeepStack, StackStepsCanBeMade};
+ghost use Rattle.stack_invariant.specs.Laws.{OtherWordsKeepStack, InstalledIsNext, RepliesAreAnswers, EachProcessHolds};
+ghost use Rattle.stack_invariant.specs.Laws.{TriesApply, WordsShowState, TablesShowState, StepsMoveContent};
 
 /// The words and views of the opening meet the invariant, with the opening state.
 pub fn opening()

@@ -1,10 +1,10 @@
 -- what the actions of the views change
-use Rattle.std.proofs.Common.{◌≡◌, ◌≢◌, ℕ, ◌<◌, ◌^◌, ◌==◌, Bool, true, false, refl, sym, ◌∙◌, ap, inl, inr, arith}
+use Rattle.std.proofs.Common.{◌≡◌, ◌≢◌, ℕ, ◌<◌, ◌==◌, Bool, true, false, refl, ◌∙◌, ap, inl, inr}
 use Rattle.std.specs.Prelude.{◌⊎◌}
 use Rattle.std.proofs.lemmas.Bool.{cases_eq}
 use Rattle.word_layout.specs.Sizes.{Sizes}
-use Rattle.word_layout.specs.Names.{InRange, records, record_words}
-use Rattle.word_layout.specs.Packing.{tag_of, value_of, tagged}
+use Rattle.word_layout.specs.Names.{InRange}
+use Rattle.word_layout.specs.Packing.{tag_of, value_of, tagged, value_limit}
 use Rattle.word_layout.specs.declared.name.WordName.{WordName}
 use Rattle.word_layout.specs.declared.name.WordName.TheVariants.{State, Announcement, RecordWord, Slot, Next, Data}
 use Rattle.word_layout.proofs.Packed.{tag_of-tagged, value_of-tagged}
@@ -23,63 +23,35 @@ is_state (Slot slot) = false
 is_state (Next block) = false
 is_state (Data block index) = false
 
--- whether it is a record word
-abbrev pub is_record_word : WordName → Bool
-is_record_word State = false
-is_record_word (Announcement process) = false
-is_record_word (RecordWord row index) = true
-is_record_word (Slot slot) = false
-is_record_word (Next block) = false
-is_record_word (Data block index) = false
-
--- of which record
-abbrev pub row_of : WordName → ℕ
-row_of State = 0
-row_of (Announcement process) = 0
-row_of (RecordWord row index) = row
-row_of (Slot slot) = 0
-row_of (Next block) = 0
-row_of (Data block index) = 0
-
--- and which of its words
-abbrev pub index_of : WordName → ℕ
-index_of State = 0
-index_of (Announcement process) = 0
-index_of (RecordWord row index) = index
-index_of (Slot slot) = 0
-index_of (Next block) = 0
-index_of (Data block index) = 0
-
-false_true : false ≡ true → ⊥
-false_true h = grind arith
-
 -- a name is the state or it isn't
 is_or_not_state : (x : WordName) → (State ≡ x) ⊎ (State ≢ x)
 is_or_not_state State = inl refl
-is_or_not_state (Announcement process) = inr (λ e. false_true (sym (ap is_state e)))
-is_or_not_state (RecordWord row index) = inr (λ e. false_true (sym (ap is_state e)))
-is_or_not_state (Slot slot) = inr (λ e. false_true (sym (ap is_state e)))
-is_or_not_state (Next block) = inr (λ e. false_true (sym (ap is_state e)))
-is_or_not_state (Data block index) = inr (λ e. false_true (sym (ap is_state e)))
+is_or_not_state (Announcement process) = inr (λ e. cc)
+is_or_not_state (RecordWord row index) = inr (λ e. cc)
+is_or_not_state (Slot slot) = inr (λ e. cc)
+is_or_not_state (Next block) = inr (λ e. cc)
+is_or_not_state (Data block index) = inr (λ e. cc)
 
 -- a name is that record word or it isn't
 is_or_not_word : (r k : ℕ) (x : WordName) → (RecordWord r k ≡ x) ⊎ (RecordWord r k ≢ x)
-is_or_not_word r k State = inr (λ e. false_true (sym (ap is_record_word e)))
-is_or_not_word r k (Announcement process) = inr (λ e. false_true (sym (ap is_record_word e)))
+is_or_not_word r k State = inr (λ e. cc)
+is_or_not_word r k (Announcement process) = inr (λ e. cc)
 is_or_not_word r k (RecordWord row index) = elim (cases_eq r row) [
-  | inl er ↦ elim (cases_eq k index) [ inl ek ↦ inl (rw (er, ek) refl) | inr ne ↦ inr (λ e. ne (ap index_of e)) ]
-  | inr ne ↦ inr (λ e. ne (ap row_of e))
+  | inl er ↦ elim (cases_eq k index) [ inl ek ↦ inl cc | inr ne ↦ inr (λ e. ne cc) ]
+  | inr ne ↦ inr (λ e. ne cc)
 ]
-is_or_not_word r k (Slot slot) = inr (λ e. false_true (sym (ap is_record_word e)))
-is_or_not_word r k (Next block) = inr (λ e. false_true (sym (ap is_record_word e)))
-is_or_not_word r k (Data block index) = inr (λ e. false_true (sym (ap is_record_word e)))
+is_or_not_word r k (Slot slot) = inr (λ e. cc)
+is_or_not_word r k (Next block) = inr (λ e. cc)
+is_or_not_word r k (Data block index) = inr (λ e. cc)
 
 -- an action that leaves the word that it meets leaves all words
-left_word : (sizes : Sizes) (action : Action) (m n : Words) (q : WordName) → Acted sizes action m n → left_by action (m (name_of action)) ≡ m (name_of action) → InRange sizes q → (q ≡ name_of action) ⊎ (q ≢ name_of action) → n q ≡ m q
+left_word : (sizes : Sizes) (action : Action) (m n : Words) (q : WordName) → Acted sizes action m n
+    → left_by action (m (name_of action)) ≡ m (name_of action) → InRange sizes q → (q ≡ name_of action) ⊎ (q ≢ name_of action) → n q ≡ m q
 left_word sizes action m n q a left h (inl e) = rw e (a.here ∙ left)
 left_word sizes action m n q a left h (inr ne) = a.elsewhere q h ne
 
-pub leaves_records : (sizes : Sizes) (action : Action) (m n : Words) → Acted sizes action m n → left_by action (m (name_of action)) ≡ m (name_of action) → RecordsStay sizes m n
+pub leaves_records : (sizes : Sizes) (action : Action) (m n : Words) → Acted sizes action m n
+    → left_by action (m (name_of action)) ≡ m (name_of action) → RecordsStay sizes m n
 unfolding state_tag current_record word_tag word_value
 leaves_records sizes action m n a left = record {
   state = ap tag_of (left_word sizes action m n State a left tt (is_or_not_state (name_of action)));
@@ -89,54 +61,56 @@ leaves_records sizes action m n a left = record {
 }
 
 -- so does one on another word, for the state and the records
-pub misses_records : (sizes : Sizes) (action : Action) (m n : Words) → Acted sizes action m n → is_state (name_of action) ≡ false → is_record_word (name_of action) ≡ false → RecordsStay sizes m n
+pub misses_records : (sizes : Sizes) (action : Action) (m n : Words) → Acted sizes action m n → State ≢ name_of action
+    → ((r k : ℕ) → RecordWord r k ≢ name_of action) → RecordsStay sizes m n
 unfolding state_tag current_record word_tag word_value
 misses_records sizes action m n a no_state no_word =
-    let state : n State ≡ m State = a.elsewhere State tt (λ e. false_true (sym no_state ∙ sym (ap is_state e))) in
-    let words : (r k : ℕ) → r < records sizes → k < record_words sizes → n (RecordWord r k) ≡ m (RecordWord r k) = λ r k lr lk. a.elsewhere (RecordWord r k) (lr, lk) (λ e. false_true (sym no_word ∙ sym (ap is_record_word e))) in
+    let state : n State ≡ m State = a.elsewhere State tt no_state in
     record {
       state = ap tag_of state;
       current = ap value_of state;
-      tags = λ r k lr lk. ap tag_of (words r k lr lk);
-      values = λ r k lr lk. ap value_of (words r k lr lk);
+      tags = λ r k lr lk. ap tag_of (a.elsewhere (RecordWord r k) (lr, lk) (no_word r k));
+      values = λ r k lr lk. ap value_of (a.elsewhere (RecordWord r k) (lr, lk) (no_word r k));
     }
 
-pub announces : (sizes : Sizes) (process word : ℕ) (m n : Words) → Acted sizes (Store (Announcement process) word) m n → RecordsStay sizes m n
-announces sizes process word m n a = misses_records sizes (Store (Announcement process) word) m n a refl refl
+pub announces : (sizes : Sizes) (process word : ℕ) (m n : Words) → Acted sizes (Store (Announcement process) word) m n
+    → RecordsStay sizes m n
+announces sizes process word m n a = misses_records sizes (Store (Announcement process) word) m n a (λ e. cc) (λ r k e. cc)
 
-pub exchanges_slot : (sizes : Sizes) (slot old new : ℕ) (m n : Words) → Acted sizes (Exchange (Slot slot) old new) m n → RecordsStay sizes m n
-exchanges_slot sizes slot old new m n a = misses_records sizes (Exchange (Slot slot) old new) m n a refl refl
+pub exchanges_slot : (sizes : Sizes) (slot old new : ℕ) (m n : Words) → Acted sizes (Exchange (Slot slot) old new) m n
+    → RecordsStay sizes m n
+exchanges_slot sizes slot old new m n a = misses_records sizes (Exchange (Slot slot) old new) m n a (λ e. cc) (λ r k e. cc)
 
 -- a record word is stored
-pub stores_word : (sizes : Sizes) (row index tag value : ℕ) (m n : Words) → value < 2 ^ 24 → Acted sizes (Store (RecordWord row index) (tagged tag value)) m n → WordStored sizes m n row index tag value
+pub stores_word : (sizes : Sizes) (row index tag value : ℕ) (m n : Words) → value < value_limit
+    → Acted sizes (Store (RecordWord row index) (tagged tag value)) m n → WordStored sizes m n row index tag value
 unfolding state_tag current_record word_tag word_value
 stores_word sizes row index tag value m n fits a =
-    let state : n State ≡ m State = a.elsewhere State tt (λ e. false_true (sym (ap is_state e))) in
-    let row_apart : (r k : ℕ) → r < records sizes → k < record_words sizes → r ≢ row → n (RecordWord r k) ≡ m (RecordWord r k) = λ r k lr lk ne. a.elsewhere (RecordWord r k) (lr, lk) (λ e. ne (ap row_of e)) in
-    let index_apart : (r k : ℕ) → r < records sizes → k < record_words sizes → k ≢ index → n (RecordWord r k) ≡ m (RecordWord r k) = λ r k lr lk ne. a.elsewhere (RecordWord r k) (lr, lk) (λ e. ne (ap index_of e)) in
+    let state : n State ≡ m State = a.elsewhere State tt (λ e. cc) in
     record {
       state = ap tag_of state;
       current = ap value_of state;
       tag_here = ap tag_of a.here ∙ tag_of-tagged tag value fits;
       value_here = ap value_of a.here ∙ value_of-tagged tag value fits;
-      row_tags = λ r k lr lk ne. ap tag_of (row_apart r k lr lk ne);
-      row_values = λ r k lr lk ne. ap value_of (row_apart r k lr lk ne);
-      index_tags = λ r k lr lk ne. ap tag_of (index_apart r k lr lk ne);
-      index_values = λ r k lr lk ne. ap value_of (index_apart r k lr lk ne);
+      row_tags = λ r k lr lk ne. ap tag_of (a.elsewhere (RecordWord r k) (lr, lk) (λ e. ne cc));
+      row_values = λ r k lr lk ne. ap value_of (a.elsewhere (RecordWord r k) (lr, lk) (λ e. ne cc));
+      index_tags = λ r k lr lk ne. ap tag_of (a.elsewhere (RecordWord r k) (lr, lk) (λ e. ne cc));
+      index_values = λ r k lr lk ne. ap value_of (a.elsewhere (RecordWord r k) (lr, lk) (λ e. ne cc));
     }
 
 -- the state is exchanged, or not
-pub exchanges_state : (sizes : Sizes) (old tag row : ℕ) (m n : Words) → row < 2 ^ 24 → (m State == old) ≡ true → Acted sizes (Exchange State old (tagged tag row)) m n → StateInstalled sizes m n tag row
+pub exchanges_state : (sizes : Sizes) (old tag row : ℕ) (m n : Words) → row < value_limit → (m State == old) ≡ true
+    → Acted sizes (Exchange State old (tagged tag row)) m n → StateInstalled sizes m n tag row
 unfolding state_tag current_record word_tag word_value
 exchanges_state sizes old tag row m n fits same a =
     let state : n State ≡ tagged tag row = rw same at a.here in
-    let words : (r k : ℕ) → r < records sizes → k < record_words sizes → n (RecordWord r k) ≡ m (RecordWord r k) = λ r k lr lk. a.elsewhere (RecordWord r k) (lr, lk) (λ e. false_true (sym (ap is_record_word e))) in
     record {
       state = ap tag_of state ∙ tag_of-tagged tag row fits;
       current = ap value_of state ∙ value_of-tagged tag row fits;
-      tags = λ r k lr lk. ap tag_of (words r k lr lk);
-      values = λ r k lr lk. ap value_of (words r k lr lk);
+      tags = λ r k lr lk. ap tag_of (a.elsewhere (RecordWord r k) (lr, lk) (λ e. cc));
+      values = λ r k lr lk. ap value_of (a.elsewhere (RecordWord r k) (lr, lk) (λ e. cc));
     }
 
-pub keeps_state : (sizes : Sizes) (old new : ℕ) (m n : Words) → (m State == old) ≡ false → Acted sizes (Exchange State old new) m n → RecordsStay sizes m n
+pub keeps_state : (sizes : Sizes) (old new : ℕ) (m n : Words) → (m State == old) ≡ false → Acted sizes (Exchange State old new) m n
+    → RecordsStay sizes m n
 keeps_state sizes old new m n differs a = leaves_records sizes (Exchange State old new) m n a (rw differs refl)

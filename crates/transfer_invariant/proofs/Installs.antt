@@ -1,48 +1,44 @@
 -- how the number of states that a view may have installed goes on
-use Rattle.std.proofs.Common.{◌^◌, ◌*◌, ◌≡◌, ◌≢◌, ℕ, zero, suc, ◌+◌, ◌<◌, ◌≤◌, ◌==◌, true, false, refl, ap, inl, inr, arith}
+use Rattle.std.proofs.Common.{◌*◌, ◌≡◌, ℕ, ◌+◌, ◌<◌, ◌≤◌, Bool, true, false, refl, ap, inl, inr, arith}
 use Rattle.std.specs.Prelude.{if◌then◌else◌}
 use Rattle.std.proofs.lemmas.Bool.{cases_eq}
 use Rattle.std.proofs.lemmas.Bool.Decides.{nat_tests}
+use Rattle.process_sums.proofs.Sums.{total_moved, total_at_most}
 use Rattle.word_layout.specs.Sizes.{Sizes}
+use Rattle.word_layout.specs.Packing.{most_age}
 use Rattle.transfer_machine.specs.Loads.{loaded_tag}
 use Rattle.transfer_machine.specs.Machine.{try_ended, installed}
 use Rattle.transfer_machine.specs.declared.transfer.TransferView.{TransferView}
 use Rattle.transfer_machine.specs.declared.stage.NextStep.{NextStep}
-use Rattle.transfer_machine.specs.declared.stage.NextStep.TheVariants.{Announce, LoadState, LoadRecordWord, ExchangeState, LoadFinalState, LoadReply}
+use Rattle.transfer_machine.specs.declared.stage.NextStep.TheVariants.{Announce, Try, LoadFinalState, LoadReply}
+use Rattle.transfer_machine.specs.declared.stage.TryStep.TheVariants.{LoadState, LoadRecordWord, ExchangeState}
 use Rattle.transfer_invariant.specs.Memory.{Words, Views, Moved, state_tag}
 use Rattle.transfer_invariant.specs.Progress.{in_try, has_announced, has_begun_try}
-use Rattle.transfer_invariant.specs.Tags.{InstallOrder, TagsHold, installs, total}
-
--- the sum where one number changes
-pub total_same : (count : ℕ) (f g : ℕ → ℕ) → ((o : ℕ) → o < count → g o ≡ f o) → total count g ≡ total count f
-unfolding total
-total_same zero f g h = refl
-total_same (suc count) f g h = omega (arith, total_same count f g (λ o lt. h o (omega arith)), h count (omega arith))
-
-pub total_moved : (count i : ℕ) (f g : ℕ → ℕ) → i < count → ((o : ℕ) → o < count → o ≢ i → g o ≡ f o) → total count g + f i ≡ total count f + g i
-unfolding total
-total_moved zero i f g lt h = absurd (omega arith)
-total_moved (suc count) i f g lt h = elim (cases_eq count i) [
-  | inl e ↦ rw (← e) (omega (arith, total_same count f g (λ o l. h o (omega arith) (omega arith))))
-  | inr ne ↦ omega (arith, total_moved count i f g (omega arith) (λ o l. h o (omega arith)), h count (omega arith) ne)
-]
+use Rattle.transfer_invariant.specs.Tags.{InstallOrder, TagsHold, installs}
 
 -- the number of states rises only with what the moving view may have installed
 pub order_stays : (m n : Words) (v : TransferView) → InstallOrder m v → state_tag m ≤ state_tag n → InstallOrder n v
 order_stays m n v h le = grind arith
 
-pub tags_move : (sizes : Sizes) (m n : Words) (views after : Views) (i : ℕ) (x : TransferView) → i < sizes.processes → TagsHold sizes m views → Moved i x views after → state_tag m ≤ state_tag n
+pub tags_move : (sizes : Sizes) (m n : Words) (views after : Views) (i : ℕ) (x : TransferView) → i < sizes.processes
+    → TagsHold sizes m views → Moved i x views after → state_tag m ≤ state_tag n
     → state_tag n + installs (views i) ≤ state_tag m + installs x → InstallOrder n x → TagsHold sizes n after
 tags_move sizes m n views after i x li h moved le step order = record {
-  count = omega (arith, h.count, total_moved sizes.processes i (λ k. installs (views k)) (λ k. installs (after k)) li (λ o lo ne. ap installs (moved.elsewhere o ne)), ap installs moved.here);
-  order = λ o lo. elim (cases_eq o i) [ inl e ↦ rw e (rw moved.here order) | inr ne ↦ rw (moved.elsewhere o ne) (order_stays m n (views o) (h.order o lo) le) ];
+  count =
+      let old = λ (k : ℕ). installs (views k) in
+      let new = λ (k : ℕ). installs (after k) in
+      let sum = total_moved sizes.processes i old new li (λ o lo ne. ap installs (moved.elsewhere o ne)) in
+      omega (arith, h.count, sum, ap installs moved.here);
+  order = λ o lo. elim (cases_eq o i) [
+    | inl e ↦ rw e (rw moved.here order)
+    | inr ne ↦ rw (moved.elsewhere o ne) (order_stays m n (views o) (h.order o lo) le)
+  ];
 }
 
 -- a view that goes on in its try
 pub record GoesOnTrying (v x : TransferView) : Type 0 where
   pub was : in_try v.next ≡ true
   pub trying : in_try x.next ≡ true
-  pub turn : x.turn ≡ v.turn
   pub age : x.age ≡ v.age
   pub installed : x.installed ≡ v.installed
   pub first : x.first_loaded ≡ v.first_loaded
@@ -51,66 +47,75 @@ pub record GoesOnTrying (v x : TransferView) : Type 0 where
 pub try_announced : (s : NextStep) → in_try s ≡ true → has_announced s ≡ true
 try_announced s h = grind arith
 
-pub try_begun : (turn : ℕ) (s : NextStep) → in_try s ≡ true → has_begun_try turn s ≡ true
-try_begun turn s h = grind arith
+pub try_begun : (s : NextStep) → in_try s ≡ true → has_begun_try s ≡ true
+try_begun s h = grind arith
 
-try_loads_not : (s : NextStep) → in_try s ≡ true → s ≡ LoadState → ⊥
-try_loads_not s h e = grind arith
+try_loads_not : (s : NextStep) (second : Bool) → in_try s ≡ true → s ≡ Try second LoadState → ⊥
+try_loads_not s second h e = grind arith
 
 pub trying_order : (m : Words) (v x : TransferView) → InstallOrder m v → GoesOnTrying v x → InstallOrder m x
 trying_order m v x h g = record {
   counted = λ k. rw g.age (h.counted (try_announced v.next g.was));
-  load_first = λ e. absurd (try_loads_not x.next g.trying e);
-  load_last = λ e. absurd (try_loads_not x.next g.trying e);
-  load_none = λ e. absurd (try_loads_not x.next g.trying e);
-  try_first = λ k. rw g.turn (h.try_first g.was);
-  try_last = λ k. rw g.turn (h.try_last g.was);
+  load_none = λ e. absurd (try_loads_not x.next true g.trying e);
   try_none = λ k. rw (g.installed, g.first) (h.try_none g.was);
-  past = λ k. rw g.first (h.past (try_begun v.turn v.next g.was));
+  past = λ k. rw g.first (h.past (try_begun v.next g.was));
   before = λ k. rw (g.first, g.loaded) (h.before g.was);
 }
 
 pub trying_installs : (v x : TransferView) → GoesOnTrying v x → installs x ≡ installs v
 unfolding installs
 trying_installs v x g =
-    rw (g.age, g.installed, g.first, try_announced x.next g.trying, try_announced v.next g.was, try_begun x.turn x.next g.trying, try_begun v.turn v.next g.was) refl
+    let announced = try_announced x.next g.trying in
+    let was_announced = try_announced v.next g.was in
+    let begun = try_begun x.next g.trying in
+    let was_begun = try_begun v.next g.was in
+    rw (g.age, g.installed, g.first, announced, was_announced, begun, was_begun) refl
 
 -- the end of a try that installed nothing
-pub ended_order : (m : Words) (v : TransferView) → InstallOrder m v → in_try v.next ≡ true → InstallOrder m (try_ended v)
-ended_order m v h e = grind (arith, nat_tests)
+pub ended_order : (m : Words) (second : Bool) (v : TransferView) → InstallOrder m v → in_try v.next ≡ true
+    → InstallOrder m (try_ended second v)
+ended_order m second v h e = grind (arith, nat_tests)
 
-pub ended_installs : (m : Words) (v : TransferView) → InstallOrder m v → in_try v.next ≡ true → installs (try_ended v) ≡ installs v
+pub ended_installs : (m : Words) (second : Bool) (v : TransferView) → InstallOrder m v → in_try v.next ≡ true
+    → installs (try_ended second v) ≡ installs v
 unfolding installs
-ended_installs m v h e = grind (arith, nat_tests)
+ended_installs m second v h e = grind (arith, nat_tests)
 
 -- the announcement, the load of the state, the installed state, the end
-pub announced_order : (m : Words) (v : TransferView) → InstallOrder m (record v { next = LoadState; turn = 1; age = v.age + 1 })
+pub announced_order : (m : Words) (v : TransferView) → InstallOrder m (record v { next = Try false LoadState; age = v.age + 1 })
 announced_order m v = grind (arith, nat_tests)
 
-pub announced_installs : (v : TransferView) → v.next ≡ Announce → installs (record v { next = LoadState; turn = 1; age = v.age + 1 }) ≡ installs v
+pub announced_installs : (v : TransferView) → v.next ≡ Announce
+    → installs (record v { next = Try false LoadState; age = v.age + 1 }) ≡ installs v
 unfolding installs
 announced_installs v e = grind (arith, nat_tests)
 
-pub loaded_order : (m : Words) (v x : TransferView) → InstallOrder m v → v.next ≡ LoadState → v.installed ≤ state_tag m → x.next ≡ LoadRecordWord 0 → x.turn ≡ v.turn → x.age ≡ v.age → x.installed ≡ v.installed → loaded_tag x.loaded ≡ state_tag m
-    → x.first_loaded ≡ (if v.turn == 1 then state_tag m else v.first_loaded) → InstallOrder m x
-loaded_order m v x h e low en et ea ei el ef = grind (arith, nat_tests)
+pub loaded_order : (m : Words) (second : Bool) (v x : TransferView) → InstallOrder m v → v.next ≡ Try second LoadState
+    → v.installed ≤ state_tag m → x.next ≡ Try second (LoadRecordWord 0) → x.age ≡ v.age → x.installed ≡ v.installed
+    → loaded_tag x.loaded ≡ state_tag m → x.first_loaded ≡ (if second then v.first_loaded else state_tag m) → InstallOrder m x
+loaded_order m second v x h e low en ea ei el ef = grind (arith, nat_tests)
 
-pub loaded_installs : (m : Words) (v x : TransferView) → InstallOrder m v → v.next ≡ LoadState → v.installed ≤ state_tag m → x.next ≡ LoadRecordWord 0 → x.turn ≡ v.turn → x.age ≡ v.age → x.installed ≡ v.installed
-    → x.first_loaded ≡ (if v.turn == 1 then state_tag m else v.first_loaded) → installs x ≡ installs v
+pub loaded_installs : (m : Words) (second : Bool) (v x : TransferView) → InstallOrder m v → v.next ≡ Try second LoadState
+    → v.installed ≤ state_tag m → x.next ≡ Try second (LoadRecordWord 0) → x.age ≡ v.age → x.installed ≡ v.installed
+    → x.first_loaded ≡ (if second then v.first_loaded else state_tag m) → installs x ≡ installs v
 unfolding installs
-loaded_installs m v x h e low en et ea ei ef = grind (arith, nat_tests)
+loaded_installs m second v x h e low en ea ei ef = grind (arith, nat_tests)
 
-pub installed_order : (m n : Words) (v : TransferView) → InstallOrder m v → v.next ≡ ExchangeState → state_tag m ≤ state_tag n → InstallOrder n (installed v)
-installed_order m n v h e le = grind (arith, nat_tests)
+pub installed_order : (m n : Words) (second : Bool) (v : TransferView) → InstallOrder m v → v.next ≡ Try second ExchangeState
+    → state_tag m ≤ state_tag n → InstallOrder n (installed v)
+installed_order m n second v h e le = grind (arith, nat_tests)
 
-pub installed_installs : (m : Words) (v : TransferView) → InstallOrder m v → v.next ≡ ExchangeState → installs (installed v) ≡ installs v + 1
+pub installed_installs : (m : Words) (second : Bool) (v : TransferView) → InstallOrder m v → v.next ≡ Try second ExchangeState
+    → installs (installed v) ≡ installs v + 1
 unfolding installs
-installed_installs m v h e = grind (arith, nat_tests)
+installed_installs m second v h e = grind (arith, nat_tests)
 
-pub final_order : (m : Words) (v x : TransferView) → InstallOrder m v → v.next ≡ LoadFinalState → x.next ≡ LoadReply → x.age ≡ v.age → x.first_loaded ≡ v.first_loaded → InstallOrder m x
+pub final_order : (m : Words) (v x : TransferView) → InstallOrder m v → v.next ≡ LoadFinalState → x.next ≡ LoadReply → x.age ≡ v.age
+    → x.first_loaded ≡ v.first_loaded → InstallOrder m x
 final_order m v x h e en ea ef = grind (arith, nat_tests)
 
-pub final_installs : (v x : TransferView) → v.next ≡ LoadFinalState → x.next ≡ LoadReply → x.age ≡ v.age → x.first_loaded ≡ v.first_loaded → x.installed ≡ v.installed → installs x ≡ installs v
+pub final_installs : (v x : TransferView) → v.next ≡ LoadFinalState → x.next ≡ LoadReply → x.age ≡ v.age → x.first_loaded ≡ v.first_loaded
+    → x.installed ≡ v.installed → installs x ≡ installs v
 unfolding installs
 final_installs v x e en ea ef ei = grind (arith, nat_tests)
 
@@ -122,17 +127,15 @@ pub idle_installs : (v x : TransferView) → has_announced x.next ≡ false → 
 unfolding installs
 idle_installs v x h ea = grind (arith, nat_tests)
 
--- at most 2 ^ 32 each
-installs_age : (v : TransferView) → installs v ≤ v.age
+-- at most as many each as its age may be
+installs_few : (v : TransferView) (most : ℕ) → v.age ≤ most → installs v ≤ most
 unfolding installs
-installs_age v = omega arith
+installs_few v most le = omega arith
 
-total_le : (count : ℕ) (f : ℕ → ℕ) → ((o : ℕ) → o < count → f o ≤ 2 ^ 32) → total count f ≤ count * 2 ^ 32
-unfolding total
-total_le zero f h = omega arith
-total_le (suc count) f h = omega (arith, total_le count f (λ o lt. h o (omega arith)), h count (omega arith))
-
-pub few_tags : (sizes : Sizes) (words : Words) (views : Views) → sizes.processes ≤ 32 → TagsHold sizes words views → ((i : ℕ) → i < sizes.processes → (views i).age ≤ 2 ^ 32) → state_tag words ≤ 2 ^ 37 + 1
+pub few_tags : (sizes : Sizes) (words : Words) (views : Views) → sizes.processes ≤ 32 → TagsHold sizes words views
+    → ((i : ℕ) → i < sizes.processes → (views i).age ≤ most_age) → state_tag words ≤ 32 * most_age + 1
 few_tags sizes words views few h ages =
-    let most = total_le sizes.processes (λ i. installs (views i)) (λ o lo. let a = installs_age (views o) in let b = ages o lo in omega arith) in
-    let count = h.count in omega arith
+    let each = λ (o : ℕ) (lo : o < sizes.processes). installs_few (views o) most_age (ages o lo) in
+    let most = total_at_most most_age sizes.processes (λ i. installs (views i)) each in
+    let count = h.count in
+    omega arith

@@ -1,16 +1,16 @@
 -- a whole record that was loaded is that of the loaded state
 use Rattle.std.proofs.Common.{◌≡◌, ℕ, ◌+◌, ◌-◌, ◌<◌, ◌≤◌, ◌==◌, Bool, true, false, refl, ◌∙◌, arith}
-use Rattle.std.specs.Prelude.{if◌then◌else◌, nat_lt}
+use Rattle.std.specs.Prelude.{nat_lt}
 use Rattle.std.proofs.lemmas.Bool.Decides.{nat_tests}
 use Rattle.word_layout.specs.Sizes.{Sizes}
 use Rattle.word_layout.specs.Names.{record_words}
 use Rattle.transfer_machine.specs.Loads.{loaded_tag, loaded_base, overlay_length, record_value}
+use Rattle.transfer_machine.specs.Machine.{after_try}
 use Rattle.transfer_machine.specs.States.{StackState}
 use Rattle.transfer_machine.specs.NextStates.{IsLoaded}
 use Rattle.transfer_machine.specs.declared.loaded.Loaded.{Loaded}
 use Rattle.transfer_machine.specs.declared.transfer.TransferView.{TransferView}
 use Rattle.transfer_machine.specs.declared.stage.NextStep.{NextStep}
-use Rattle.transfer_machine.specs.declared.stage.NextStep.TheVariants.{LoadState, LoadFinalState}
 use Rattle.transfer_invariant.specs.Memory.{Words, States, state_value}
 use Rattle.transfer_invariant.specs.Progress.{has_loaded, has_record, loaded_words}
 use Rattle.transfer_invariant.specs.Records.{StateFits, StatesFit, LoadedState}
@@ -24,7 +24,8 @@ pub value_length : (processes : ℕ) (s : StackState) → state_value processes 
 unfolding state_value
 value_length processes s = refl
 
-value_head : (processes x : ℕ) (s : StackState) → x < processes → x < s.height - s.base → state_value processes s (2 + x) ≡ s.content (s.base + x)
+value_head : (processes x : ℕ) (s : StackState) → x < processes → x < s.height - s.base
+    → state_value processes s (2 + x) ≡ s.content (s.base + x)
 unfolding state_value
 value_head processes x s few low =
     let not_base : (2 + x == 0) ≡ false = grind (arith, nat_tests) in
@@ -42,7 +43,8 @@ value_reply processes i s = grind (arith, nat_tests)
 whole_has : (words : ℕ) (s : NextStep) → 1 ≤ words → loaded_words words s ≡ words → has_loaded s ≡ true
 whole_has words s some e = grind arith
 
-whole_is : (sizes : Sizes) (loaded : Loaded) (s : StackState) → StateFits sizes s → ((k : ℕ) → k < record_words sizes → record_value loaded k ≡ state_value sizes.processes s k) → IsLoaded sizes.processes loaded s
+whole_is : (sizes : Sizes) (loaded : Loaded) (s : StackState) → StateFits sizes s
+    → ((k : ℕ) → k < record_words sizes → record_value loaded k ≡ state_value sizes.processes s k) → IsLoaded sizes.processes loaded s
 whole_is sizes loaded s fits h =
     let base : loaded_base loaded ≡ s.base = h 0 (omega arith) ∙ value_base sizes.processes s in
     let length : overlay_length loaded ≡ s.height - s.base = h 1 (omega arith) ∙ value_length sizes.processes s in
@@ -55,9 +57,12 @@ whole_is sizes loaded s fits h =
       replies = λ i lt. h (sizes.processes + 2 + i) (omega arith) ∙ value_reply sizes.processes i s;
     }
 
-pub whole_record : (sizes : Sizes) (words : Words) (states : States) (v : TransferView) → StatesFit sizes words states → LoadedState sizes words states v → loaded_words (record_words sizes) v.next ≡ record_words sizes → IsLoaded sizes.processes v.loaded (states (loaded_tag v.loaded))
+pub whole_record : (sizes : Sizes) (words : Words) (states : States) (v : TransferView) → StatesFit sizes words states
+    → LoadedState sizes words states v → loaded_words (record_words sizes) v.next ≡ record_words sizes
+    → IsLoaded sizes.processes v.loaded (states (loaded_tag v.loaded))
 whole_record sizes words states v fits h whole =
-    whole_is sizes v.loaded (states (loaded_tag v.loaded)) (fits (loaded_tag v.loaded) (h.past (whole_has (record_words sizes) v.next (omega arith) whole))) (λ k lt. h.loaded k (rw whole lt))
+    let past = h.past (whole_has (record_words sizes) v.next (omega arith) whole) in
+    whole_is sizes v.loaded (states (loaded_tag v.loaded)) (fits (loaded_tag v.loaded) past) (λ k lt. h.loaded k (rw whole lt))
 
 -- a view with a whole record has loaded that of the loaded state
 pub record_whole : (words : ℕ) (s : NextStep) → has_record s ≡ true → loaded_words words s ≡ words
@@ -66,10 +71,10 @@ record_whole words s has = grind arith
 pub record_has : (s : NextStep) → has_record s ≡ true → has_loaded s ≡ true
 record_has s has = grind arith
 
-pub loaded_is : (sizes : Sizes) (words : Words) (states : States) (v : TransferView) → StatesFit sizes words states → LoadedState sizes words states v → has_record v.next ≡ true
-    → IsLoaded sizes.processes v.loaded (states (loaded_tag v.loaded))
+pub loaded_is : (sizes : Sizes) (words : Words) (states : States) (v : TransferView) → StatesFit sizes words states
+    → LoadedState sizes words states v → has_record v.next ≡ true → IsLoaded sizes.processes v.loaded (states (loaded_tag v.loaded))
 loaded_is sizes words states v fits h has = whole_record sizes words states v fits h (record_whole (record_words sizes) v.next has)
 
 -- where a try has ended no record is loaded
-pub ended_has_none : (t : Bool) → has_record (if t then LoadState else LoadFinalState) ≡ false
-ended_has_none t = grind arith
+pub ended_has_none : (second : Bool) → has_record (after_try second) ≡ false
+ended_has_none second = grind arith

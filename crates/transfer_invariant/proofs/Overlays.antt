@@ -8,79 +8,115 @@ use Rattle.word_layout.specs.Names.{record_words}
 use Rattle.word_layout.specs.Packing.{tag_of, value_of}
 use Rattle.transfer_machine.specs.Loads.{loaded_tag, loaded_reply, overlay_length}
 use Rattle.transfer_machine.specs.Tries.{is_pending, announced_wish, after_announcement, pops_slot, begun_plan}
-use Rattle.transfer_machine.specs.Machine.{met_at, try_ended, installed, after_slot, after_heard}
+use Rattle.transfer_machine.specs.Machine.{met_at, met_in_try, try_ended, installed, after_try, after_slot, after_heard}
 use Rattle.transfer_machine.specs.declared.loaded.Loaded.{Loaded}
 use Rattle.transfer_machine.specs.declared.try_plan.TryPlan.{TryPlan}
 use Rattle.transfer_machine.specs.declared.transfer.TransferView.{TransferView}
 use Rattle.transfer_machine.specs.declared.stage.NextStep.{NextStep}
-use Rattle.transfer_machine.specs.declared.stage.NextStep.TheVariants.{Rest, Announce, LoadState, LoadRecordWord, LoadCoveredSlot, ExchangeSlot, LoadAnnouncement, LoadPoppedSlot, StoreRecordWord, ExchangeState, LoadFinalState, LoadReply}
+use Rattle.transfer_machine.specs.declared.stage.NextStep.TheVariants.{Rest, Announce, Try, LoadFinalState, LoadReply}
+use Rattle.transfer_machine.specs.declared.stage.TryStep.{TryStep}
+use Rattle.transfer_machine.specs.declared.stage.TryStep.TheVariants.{LoadState, LoadRecordWord, LoadCoveredSlot, ExchangeSlot, LoadAnnouncement, LoadPoppedSlot, StoreRecordWord, ExchangeState}
 use Rattle.transfer_machine.proofs.Plans.{granted_few}
 use Rattle.transfer_invariant.specs.Memory.{Views, Moved}
-use Rattle.transfer_invariant.specs.Plans.{OverlayFitsAt, OverlayFits}
+use Rattle.transfer_invariant.specs.Plans.{OverlayFitsInTry, OverlayFitsAt, OverlayFits}
 
 either_few : (t : Bool) (a b : TryPlan) (most : ℕ) → a.overlay ≤ most → b.overlay ≤ most → (if t then a else b).overlay ≤ most
 either_few true a b most h k = h
 either_few false a b most h k = k
 
-announcement_few : (processes : ℕ) (loaded : Loaded) (process word popped : ℕ) (plan : TryPlan) → (after_announcement processes loaded process word popped plan).overlay ≤ plan.overlay + 1
+announcement_few : (processes : ℕ) (loaded : Loaded) (process word popped : ℕ) (plan : TryPlan)
+    → (after_announcement processes loaded process word popped plan).overlay ≤ plan.overlay + 1
 announcement_few processes loaded process word popped plan =
-    either_few (is_pending word (loaded_reply processes loaded process)) _ _ (plan.overlay + 1) (granted_few (announced_wish word) plan) (omega arith)
+    let pending = is_pending word (loaded_reply processes loaded process) in
+    either_few pending _ _ (plan.overlay + 1) (granted_few (announced_wish word) plan) (omega arith)
 
 -- what follows
-ended_fits : (processes : ℕ) (plan : TryPlan) (t : Bool) → OverlayFitsAt processes plan (if t then LoadState else LoadFinalState)
+ended_fits : (processes : ℕ) (plan : TryPlan) (second : Bool) → OverlayFitsAt processes plan (after_try second)
 ended_fits processes plan true = tt
 ended_fits processes plan false = tt
 
-begun_fits : (processes : ℕ) (loaded : Loaded) (plan : TryPlan) (t : Bool) → plan.overlay ≡ 0 → OverlayFitsAt processes plan (if t then LoadAnnouncement 0 else LoadCoveredSlot 0)
-begun_fits processes loaded plan true e = omega arith
-begun_fits processes loaded plan false e = omega arith
+begun_fits : (processes : ℕ) (plan : TryPlan) (t : Bool) → plan.overlay ≡ 0
+    → OverlayFitsInTry processes plan (if t then LoadAnnouncement 0 else LoadCoveredSlot 0)
+begun_fits processes plan true e = omega arith
+begun_fits processes plan false e = omega arith
 
-slot_fits : (processes offset : ℕ) (plan : TryPlan) (t : Bool) → plan.overlay ≤ 0 → OverlayFitsAt processes plan (if t then LoadAnnouncement 0 else LoadCoveredSlot (offset + 1))
+slot_fits : (processes offset : ℕ) (plan : TryPlan) (t : Bool) → plan.overlay ≤ 0
+    → OverlayFitsInTry processes plan (if t then LoadAnnouncement 0 else LoadCoveredSlot (offset + 1))
 slot_fits processes offset plan true h = h
 slot_fits processes offset plan false h = h
 
-heard_fits : (sizes : Sizes) (process : ℕ) (plan : TryPlan) → plan.overlay ≤ process + 1 → OverlayFitsAt sizes.processes plan (after_heard sizes process)
+heard_fits : (sizes : Sizes) (process : ℕ) (plan : TryPlan) → plan.overlay ≤ process + 1
+    → OverlayFitsInTry sizes.processes plan (after_heard sizes process)
 heard_fits sizes process plan h = elim (cases_eq (process + 1) sizes.processes) [
   | inl last ↦ let test : (process + 1 == sizes.processes) ≡ true = grind (arith, nat_tests) in rw test (omega arith)
   | inr more ↦ let test : (process + 1 == sizes.processes) ≡ false = grind (arith, nat_tests) in rw test h
 ]
 
-stored_fits : (processes index : ℕ) (plan : TryPlan) (t : Bool) → plan.overlay ≤ processes → OverlayFitsAt processes plan (if t then ExchangeState else StoreRecordWord (index + 1))
+stored_fits : (processes index : ℕ) (plan : TryPlan) (t : Bool) → plan.overlay ≤ processes
+    → OverlayFitsInTry processes plan (if t then ExchangeState else StoreRecordWord (index + 1))
 stored_fits processes index plan true h = h
 stored_fits processes index plan false h = h
 
-either_view : (processes : ℕ) (t : Bool) (a b : TransferView) → OverlayFits processes a → OverlayFits processes b → OverlayFits processes (if t then a else b)
+either_view : (processes : ℕ) (t : Bool) (a b : TransferView) → OverlayFits processes a → OverlayFits processes b
+    → OverlayFits processes (if t then a else b)
 either_view processes true a b h k = h
 either_view processes false a b h k = k
 
-either_slot : (processes offset : ℕ) (plan : TryPlan) (loaded : Loaded) (t : Bool) → plan.overlay ≤ 0 → OverlayFitsAt processes plan (if t then ExchangeSlot offset else after_slot loaded offset)
+either_slot : (processes offset : ℕ) (plan : TryPlan) (loaded : Loaded) (t : Bool) → plan.overlay ≤ 0
+    → OverlayFitsInTry processes plan (if t then ExchangeSlot offset else after_slot loaded offset)
 either_slot processes offset plan loaded true h = h
 either_slot processes offset plan loaded false h = slot_fits processes offset plan (offset + 1 == overlay_length loaded) h
 
+-- the view after each step of a try
+overlay_met_in_try : (sizes : Sizes) (v : TransferView) (word : ℕ) (second : Bool) (step : TryStep)
+    → OverlayFitsInTry sizes.processes v.plan step → OverlayFits sizes.processes (met_in_try sizes v word second step)
+overlay_met_in_try sizes v word second LoadState h = tt
+overlay_met_in_try sizes v word second (LoadRecordWord index) h =
+    let loaded = record v.loaded { record_words = set v.loaded.record_words index word } in
+    either_view sizes.processes (nat_lt (loaded_tag v.loaded) (tag_of word)) (try_ended second v) _
+    (ended_fits sizes.processes v.plan second)
+    (either_view sizes.processes (index + 1 == record_words sizes) _ _
+    (begun_fits sizes.processes (begun_plan loaded v.plan) (overlay_length loaded == 0) refl) tt)
+overlay_met_in_try sizes v word second (LoadCoveredSlot offset) h =
+    either_slot sizes.processes offset v.plan v.loaded (nat_lt (tag_of word) (loaded_tag v.loaded)) h
+overlay_met_in_try sizes v word second (ExchangeSlot offset) h =
+    slot_fits sizes.processes offset v.plan (offset + 1 == overlay_length v.loaded) h
+overlay_met_in_try sizes v word second (LoadAnnouncement process) h =
+    let few = announcement_few sizes.processes v.loaded process word 0 v.plan in
+    either_view sizes.processes (pops_slot sizes.processes v.loaded process word v.plan) _ _ h
+    (heard_fits sizes process (after_announcement sizes.processes v.loaded process word 0 v.plan) (omega arith))
+overlay_met_in_try sizes v word second (LoadPoppedSlot process) h =
+    let announced = get_or v.loaded.announcements process 0 in
+    let few = announcement_few sizes.processes v.loaded process announced (value_of word) v.plan in
+    heard_fits sizes process (after_announcement sizes.processes v.loaded process announced (value_of word) v.plan) (omega arith)
+overlay_met_in_try sizes v word second (StoreRecordWord index) h =
+    stored_fits sizes.processes index v.plan (index + 1 == record_words sizes) h
+overlay_met_in_try sizes v word second ExchangeState h =
+    either_view sizes.processes (word == v.loaded.state) (installed v) (try_ended second v) tt
+    (ended_fits sizes.processes v.plan second)
+
 -- the view after each step
-overlay_met : (sizes : Sizes) (v : TransferView) (word : ℕ) (s : NextStep) → v.next ≡ s → OverlayFitsAt sizes.processes v.plan s → OverlayFits sizes.processes (met_at sizes v word s)
+overlay_met : (sizes : Sizes) (v : TransferView) (word : ℕ) (s : NextStep) → v.next ≡ s → OverlayFitsAt sizes.processes v.plan s
+    → OverlayFits sizes.processes (met_at sizes v word s)
 overlay_met sizes v word Rest e h = rw e tt
 overlay_met sizes v word Announce e h = tt
-overlay_met sizes v word LoadState e h = tt
-overlay_met sizes v word (LoadRecordWord index) e h =
-    let loaded = record v.loaded { record_words = set v.loaded.record_words index word } in
-    either_view sizes.processes (nat_lt (loaded_tag v.loaded) (tag_of word)) (try_ended v) _ (ended_fits sizes.processes v.plan (v.turn == 1))
-    (either_view sizes.processes (index + 1 == record_words sizes) _ _ (begun_fits sizes.processes loaded (begun_plan loaded v.plan) (overlay_length loaded == 0) refl) tt)
-overlay_met sizes v word (LoadCoveredSlot offset) e h = either_slot sizes.processes offset v.plan v.loaded (nat_lt (tag_of word) (loaded_tag v.loaded)) h
-overlay_met sizes v word (ExchangeSlot offset) e h = slot_fits sizes.processes offset v.plan (offset + 1 == overlay_length v.loaded) h
-overlay_met sizes v word (LoadAnnouncement process) e h =
-    either_view sizes.processes (pops_slot sizes.processes v.loaded process word v.plan) _ _ h
-    (heard_fits sizes process (after_announcement sizes.processes v.loaded process word 0 v.plan) (let few = announcement_few sizes.processes v.loaded process word 0 v.plan in omega arith))
-overlay_met sizes v word (LoadPoppedSlot process) e h =
-    heard_fits sizes process (after_announcement sizes.processes v.loaded process (get_or v.loaded.announcements process 0) (value_of word) v.plan) (let few = announcement_few sizes.processes v.loaded process (get_or v.loaded.announcements process 0) (value_of word) v.plan in omega arith)
-overlay_met sizes v word (StoreRecordWord index) e h = stored_fits sizes.processes index v.plan (index + 1 == record_words sizes) h
-overlay_met sizes v word ExchangeState e h = either_view sizes.processes (word == v.loaded.state) (installed v) (try_ended v) tt (ended_fits sizes.processes v.plan (v.turn == 1))
+overlay_met sizes v word (Try second step) e h = overlay_met_in_try sizes v word second step h
 overlay_met sizes v word LoadFinalState e h = tt
 overlay_met sizes v word LoadReply e h = tt
 
 -- and all views
-pub overlays_move : (sizes : Sizes) (views after : Views) (i : ℕ) (x : TransferView) → ((o : ℕ) → o < sizes.processes → OverlayFits sizes.processes (views o)) → Moved i x views after → OverlayFits sizes.processes x → (o : ℕ) → o < sizes.processes → OverlayFits sizes.processes (after o)
-overlays_move sizes views after i x h moved fits o lo = elim (cases_eq o i) [ inl e ↦ rw e (rw moved.here fits) | inr ne ↦ rw (moved.elsewhere o ne) (h o lo) ]
+pub overlays_move : (sizes : Sizes) (views after : Views) (i : ℕ) (x : TransferView)
+    → ((o : ℕ) → o < sizes.processes → OverlayFits sizes.processes (views o)) → Moved i x views after → OverlayFits sizes.processes x
+    → (o : ℕ) → o < sizes.processes → OverlayFits sizes.processes (after o)
+overlays_move sizes views after i x h moved fits o lo = elim (cases_eq o i) [
+  | inl e ↦ rw e (rw moved.here fits)
+  | inr ne ↦ rw (moved.elsewhere o ne) (h o lo)
+]
 
-pub overlays_kept : (sizes : Sizes) (views after : Views) (i word : ℕ) → i < sizes.processes → ((o : ℕ) → o < sizes.processes → OverlayFits sizes.processes (views o)) → Moved i (met_at sizes (views i) word (views i).next) views after → (o : ℕ) → o < sizes.processes → OverlayFits sizes.processes (after o)
-overlays_kept sizes views after i word li h moved = overlays_move sizes views after i (met_at sizes (views i) word (views i).next) h moved (overlay_met sizes (views i) word (views i).next refl (h i li))
+pub overlays_kept : (sizes : Sizes) (views after : Views) (i word : ℕ) → i < sizes.processes
+    → ((o : ℕ) → o < sizes.processes → OverlayFits sizes.processes (views o))
+    → Moved i (met_at sizes (views i) word (views i).next) views after
+    → (o : ℕ) → o < sizes.processes → OverlayFits sizes.processes (after o)
+overlays_kept sizes views after i word li h moved =
+    let fits = overlay_met sizes (views i) word (views i).next refl (h i li) in
+    overlays_move sizes views after i (met_at sizes (views i) word (views i).next) h moved fits

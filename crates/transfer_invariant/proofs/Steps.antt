@@ -1,6 +1,5 @@
 -- steps that change neither the state nor a record
-use Rattle.std.proofs.Common.{◌≡◌, ◌≢◌, ℕ, ◌<◌, ◌≤◌, ◌==◌, Bool, true, refl, ap, inl, inr, arith, length}
-use Rattle.std.specs.Prelude.{if◌then◌else◌}
+use Rattle.std.proofs.Common.{◌≡◌, ◌≢◌, ℕ, ◌<◌, ◌≤◌, Bool, true, refl, ap, inl, inr, arith, length}
 use Rattle.std.proofs.lemmas.Bool.{cases_eq}
 use Rattle.std.proofs.lemmas.Bool.Decides.{nat_tests}
 use Rattle.word_layout.specs.Sizes.{Sizes}
@@ -8,18 +7,18 @@ use Rattle.word_layout.specs.Names.{record_words}
 use Rattle.word_layout.specs.Packing.{tag_of, value_of}
 use Rattle.word_layout.specs.declared.name.WordName.TheVariants.{State}
 use Rattle.transfer_machine.specs.Loads.{loaded_tag, record_value}
-use Rattle.transfer_machine.specs.Machine.{try_ended, after_slot, after_record, after_heard}
+use Rattle.transfer_machine.specs.Machine.{try_ended, after_try, after_slot, after_record, after_heard}
 use Rattle.transfer_machine.specs.declared.loaded.Loaded.{Loaded}
 use Rattle.transfer_machine.specs.declared.transfer.TransferView.{TransferView}
 use Rattle.transfer_machine.specs.declared.stage.NextStep.{NextStep}
-use Rattle.transfer_machine.specs.declared.stage.NextStep.TheVariants.{LoadState, LoadFinalState}
+use Rattle.transfer_machine.specs.declared.stage.NextStep.TheVariants.{Try}
 use Rattle.transfer_invariant.specs.Memory.{Words, Views, States, Moved, state_tag, current_record, state_value}
-use Rattle.transfer_invariant.specs.Progress.{in_try, has_loaded, record_index, loaded_words, stored_words}
+use Rattle.transfer_invariant.specs.Progress.{in_try, has_loaded, record_index, loaded_words, loaded_in_try, stored_words}
 use Rattle.transfer_invariant.specs.Records.{CurrentRecord, StatesFit, TagsBelow, OwnRecord, LoadedState, OwnerWentOn}
 use Rattle.transfer_invariant.specs.Invariant.{RecordsHold}
 use Rattle.transfer_invariant.proofs.Changes.{RecordsStay}
 use Rattle.transfer_invariant.proofs.Stable.{stay_current, stay_states, stay_tags, stay_own, stay_loaded}
-use Rattle.transfer_invariant.proofs.Own.{GoesOn, StoresNone, goes_own, goes_loaded, goes_from, goes_to, state_own, state_loaded, state_from}
+use Rattle.transfer_invariant.proofs.Own.{KeepsLoaded, StoresNone, keeps_own, keeps_loaded, keeps_from, keeps_to, state_own, state_loaded, state_from}
 
 -- what a step of process i owes
 pub record Owed (sizes : Sizes) (n : Words) (views : Views) (states : States) (i : ℕ) (x : TransferView) : Type 0 where
@@ -35,13 +34,20 @@ pub record Owed (sizes : Sizes) (n : Words) (views : Views) (states : States) (i
   pub self : OwnerWentOn x x
   pub rest : (a o : ℕ) → a < sizes.processes → o < sizes.processes → a ≢ i → o ≢ i → OwnerWentOn (views a) (views o)
 
-pub assemble : (sizes : Sizes) (n : Words) (views after : Views) (states : States) (i : ℕ) (x : TransferView) → Moved i x views after → Owed sizes n views states i x → RecordsHold sizes n after states
+pub assemble : (sizes : Sizes) (n : Words) (views after : Views) (states : States) (i : ℕ) (x : TransferView) → Moved i x views after
+    → Owed sizes n views states i x → RecordsHold sizes n after states
 assemble sizes n views after states i x moved owed = record {
   current = owed.current;
   states_fit = owed.states_fit;
   tags_below = owed.tags_below;
-  own = λ o lo. elim (cases_eq o i) [ inl e ↦ rw e (rw moved.here owed.own) | inr ne ↦ rw (moved.elsewhere o ne) (owed.others_own o lo ne) ];
-  loaded = λ o lo. elim (cases_eq o i) [ inl e ↦ rw e (rw moved.here owed.loaded) | inr ne ↦ rw (moved.elsewhere o ne) (owed.others_loaded o lo ne) ];
+  own = λ o lo. elim (cases_eq o i) [
+    | inl e ↦ rw e (rw moved.here owed.own)
+    | inr ne ↦ rw (moved.elsewhere o ne) (owed.others_own o lo ne)
+  ];
+  loaded = λ o lo. elim (cases_eq o i) [
+    | inl e ↦ rw e (rw moved.here owed.loaded)
+    | inr ne ↦ rw (moved.elsewhere o ne) (owed.others_loaded o lo ne)
+  ];
   owners = λ a o la lo. elim (cases_eq a i) [
     | inl e ↦ elim (cases_eq o i) [
       | inl f ↦ rw e (rw f (rw moved.here owed.self))
@@ -55,7 +61,8 @@ assemble sizes n views after states i x moved owed = record {
 }
 
 -- words that stay as they were
-pub stay : (sizes : Sizes) (m n : Words) (views : Views) (states : States) → RecordsHold sizes m views states → RecordsStay sizes m n → RecordsHold sizes n views states
+pub stay : (sizes : Sizes) (m n : Words) (views : Views) (states : States) → RecordsHold sizes m views states → RecordsStay sizes m n
+    → RecordsHold sizes n views states
 stay sizes m n views states inv s = record {
   current = stay_current sizes m n states inv.current s;
   states_fit = stay_states sizes m n states inv.states_fit s.state;
@@ -66,33 +73,41 @@ stay sizes m n views states inv s = record {
 }
 
 -- a view that goes on
-pub goes : (sizes : Sizes) (m : Words) (views after : Views) (states : States) (i : ℕ) (x : TransferView) → i < sizes.processes → RecordsHold sizes m views states → GoesOn (views i) x → StoresNone sizes x.next → length x.loaded.record_words ≡ 66
-    → ((k : ℕ) → k < loaded_words (record_words sizes) x.next → record_value x.loaded k ≡ state_value sizes.processes (states (loaded_tag (views i).loaded)) k)
+pub moves_on : (sizes : Sizes) (m : Words) (views after : Views) (states : States) (i : ℕ) (x : TransferView) → i < sizes.processes
+    → RecordsHold sizes m views states → KeepsLoaded (views i) x → StoresNone sizes x.next → length x.loaded.record_words ≡ 66
+    → ((k : ℕ) → k < loaded_words (record_words sizes) x.next
+    → record_value x.loaded k ≡ state_value sizes.processes (states (loaded_tag (views i).loaded)) k)
     → Moved i x views after → RecordsHold sizes m after states
-goes sizes m views after states i x li inv g none room loads moved = assemble sizes m views after states i x moved (record {
+moves_on sizes m views after states i x li inv g none room loads moved = assemble sizes m views after states i x moved (record {
   current = inv.current;
   states_fit = inv.states_fit;
   tags_below = inv.tags_below;
-  own = goes_own sizes m i (views i) x (inv.own i li) g none;
-  loaded = goes_loaded sizes m states (views i) x (inv.loaded i li) g room loads;
+  own = keeps_own sizes m i (views i) x (inv.own i li) g none;
+  loaded = keeps_loaded sizes m states (views i) x (inv.loaded i li) g room loads;
   others_own = λ o lo ne. inv.own o lo;
   others_loaded = λ o lo ne. inv.loaded o lo;
-  from = λ o lo ne. goes_from (views i) x (views o) (inv.owners i o li lo) g;
-  into = λ o lo ne. goes_to (views i) x (views o) (inv.owners o i lo li) g;
-  self = goes_to (views i) x x (goes_from (views i) x (views i) (inv.owners i i li li) g) g;
+  from = λ o lo ne. keeps_from (views i) x (views o) (inv.owners i o li lo) g;
+  into = λ o lo ne. keeps_to (views i) x (views o) (inv.owners o i lo li) g;
+  self = keeps_to (views i) x x (keeps_from (views i) x (views i) (inv.owners i i li li) g) g;
   rest = λ a o la lo na no. inv.owners a o la lo;
 })
 
 -- and loads no word of the record
-pub goes_same : (sizes : Sizes) (m : Words) (views after : Views) (states : States) (i : ℕ) (x : TransferView) → i < sizes.processes → RecordsHold sizes m views states → GoesOn (views i) x → StoresNone sizes x.next → x.loaded.record_words ≡ (views i).loaded.record_words
-    → loaded_words (record_words sizes) x.next ≤ loaded_words (record_words sizes) (views i).next → Moved i x views after → RecordsHold sizes m after states
-goes_same sizes m views after states i x li inv g none same le moved =
-    goes sizes m views after states i x li inv g none (rw same (inv.loaded i li).room) (λ k lt. rw same ((inv.loaded i li).loaded k (omega arith))) moved
+pub moves_on_same : (sizes : Sizes) (m : Words) (views after : Views) (states : States) (i : ℕ) (x : TransferView) → i < sizes.processes
+    → RecordsHold sizes m views states → KeepsLoaded (views i) x → StoresNone sizes x.next
+    → x.loaded.record_words ≡ (views i).loaded.record_words
+    → loaded_words (record_words sizes) x.next ≤ loaded_words (record_words sizes) (views i).next → Moved i x views after
+    → RecordsHold sizes m after states
+moves_on_same sizes m views after states i x li inv g none same le moved =
+    moves_on sizes m views after states i x li inv g none (rw same (inv.loaded i li).room)
+    (λ k lt. rw same ((inv.loaded i li).loaded k (omega arith))) moved
 
 -- a view that loads the state
-pub loads_state : (sizes : Sizes) (m : Words) (views after : Views) (states : States) (i : ℕ) (x : TransferView) → i < sizes.processes → RecordsHold sizes m views states
-    → x.next_record ≡ (views i).next_record → x.installed ≡ (views i).installed → record_index x.next ≡ 0 → stored_words (record_words sizes) x.next ≡ 0 → loaded_words (record_words sizes) x.next ≡ 0
-    → x.loaded.record_words ≡ (views i).loaded.record_words → x.loaded.state ≡ m State → Moved i x views after → RecordsHold sizes m after states
+pub loads_state : (sizes : Sizes) (m : Words) (views after : Views) (states : States) (i : ℕ) (x : TransferView) → i < sizes.processes
+    → RecordsHold sizes m views states → x.next_record ≡ (views i).next_record → x.installed ≡ (views i).installed → record_index x.next ≡ 0
+    → stored_words (record_words sizes) x.next ≡ 0 → loaded_words (record_words sizes) x.next ≡ 0
+    → x.loaded.record_words ≡ (views i).loaded.record_words → x.loaded.state ≡ m State → Moved i x views after
+    → RecordsHold sizes m after states
 unfolding state_tag current_record
 loads_state sizes m views after states i x li inv en ei ex es el er et moved =
     let own = state_own sizes m i (views i) x (inv.own i li) en ei ex es (ap tag_of et) in
@@ -114,34 +129,39 @@ loads_state sizes m views after states i x li inv en ei ex es el er et moved =
 pub try_has : (s : NextStep) → in_try s ≡ true → has_loaded s ≡ true
 try_has s e = grind arith
 
-pub within : (v x : TransferView) → in_try v.next ≡ true → x.next_record ≡ v.next_record → x.installed ≡ v.installed → x.loaded.state ≡ v.loaded.state → GoesOn v x
+pub within : (v x : TransferView) → in_try v.next ≡ true → x.next_record ≡ v.next_record → x.installed ≡ v.installed
+    → x.loaded.state ≡ v.loaded.state → KeepsLoaded v x
 within v x e en ei es = record { next_record = en; installed = ei; state = es; has = λ h. try_has v.next e; tries = λ h. e }
 
-pub ended_none : (sizes : Sizes) (t : Bool) → StoresNone sizes (if t then LoadState else LoadFinalState)
-ended_none sizes t = grind arith
+pub ended_none : (sizes : Sizes) (second : Bool) → StoresNone sizes (after_try second)
+ended_none sizes second = grind arith
 
-pub ended_loads : (words : ℕ) (t : Bool) → loaded_words words (if t then LoadState else LoadFinalState) ≡ 0
-ended_loads words t = grind arith
+pub ended_loads : (words : ℕ) (second : Bool) → loaded_words words (after_try second) ≡ 0
+ended_loads words second = grind arith
 
-pub try_ends : (sizes : Sizes) (m : Words) (views after : Views) (states : States) (i : ℕ) → i < sizes.processes → RecordsHold sizes m views states → in_try (views i).next ≡ true → Moved i (try_ended (views i)) views after → RecordsHold sizes m after states
-try_ends sizes m views after states i li inv e moved =
-    goes_same sizes m views after states i (try_ended (views i)) li inv (within (views i) (try_ended (views i)) e refl refl refl) (ended_none sizes ((views i).turn == 1)) refl (rw (ended_loads (record_words sizes) ((views i).turn == 1)) (omega arith)) moved
+pub try_ends : (sizes : Sizes) (m : Words) (views after : Views) (states : States) (i : ℕ) (second : Bool) → i < sizes.processes
+    → RecordsHold sizes m views states → in_try (views i).next ≡ true → Moved i (try_ended second (views i)) views after
+    → RecordsHold sizes m after states
+try_ends sizes m views after states i second li inv e moved =
+    let x = try_ended second (views i) in
+    moves_on_same sizes m views after states i x li inv (within (views i) x e refl refl refl) (ended_none sizes second) refl
+    (rw (ended_loads (record_words sizes) second) (omega arith)) moved
 
 -- what follows a covered slot, and an announcement
-pub slot_none : (sizes : Sizes) (loaded : Loaded) (offset : ℕ) → StoresNone sizes (after_slot loaded offset)
-slot_none sizes loaded offset = grind (arith, nat_tests)
+pub slot_none : (sizes : Sizes) (second : Bool) (loaded : Loaded) (offset : ℕ) → StoresNone sizes (Try second (after_slot loaded offset))
+slot_none sizes second loaded offset = grind (arith, nat_tests)
 
-pub slot_loads : (words : ℕ) (loaded : Loaded) (offset : ℕ) → loaded_words words (after_slot loaded offset) ≤ words
+pub slot_loads : (words : ℕ) (loaded : Loaded) (offset : ℕ) → loaded_in_try words (after_slot loaded offset) ≤ words
 slot_loads words loaded offset = grind (arith, nat_tests)
 
-pub heard_none : (sizes : Sizes) (process : ℕ) → StoresNone sizes (after_heard sizes process)
-heard_none sizes process = grind (arith, nat_tests)
+pub heard_none : (sizes : Sizes) (second : Bool) (process : ℕ) → StoresNone sizes (Try second (after_heard sizes process))
+heard_none sizes second process = grind (arith, nat_tests)
 
-pub heard_loads : (words : ℕ) (sizes : Sizes) (process : ℕ) → loaded_words words (after_heard sizes process) ≤ words
+pub heard_loads : (words : ℕ) (sizes : Sizes) (process : ℕ) → loaded_in_try words (after_heard sizes process) ≤ words
 heard_loads words sizes process = grind (arith, nat_tests)
 
-pub record_none : (sizes : Sizes) (loaded : Loaded) → StoresNone sizes (after_record loaded)
-record_none sizes loaded = grind (arith, nat_tests)
+pub record_none : (sizes : Sizes) (second : Bool) (loaded : Loaded) → StoresNone sizes (Try second (after_record loaded))
+record_none sizes second loaded = grind (arith, nat_tests)
 
-pub record_loads : (words : ℕ) (loaded : Loaded) → loaded_words words (after_record loaded) ≤ words
+pub record_loads : (words : ℕ) (loaded : Loaded) → loaded_in_try words (after_record loaded) ≤ words
 record_loads words loaded = grind (arith, nat_tests)

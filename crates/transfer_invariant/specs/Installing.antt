@@ -5,7 +5,9 @@ use Rattle.transfer_machine.specs.Tries.{is_pending}
 use Rattle.transfer_machine.specs.States.{StackState}
 use Rattle.transfer_machine.specs.declared.transfer.TransferView.{TransferView}
 use Rattle.transfer_machine.specs.declared.stage.NextStep.{NextStep}
-use Rattle.transfer_machine.specs.declared.stage.NextStep.TheVariants.{Rest, Announce, LoadState, LoadRecordWord, LoadCoveredSlot, ExchangeSlot, LoadAnnouncement, LoadPoppedSlot, StoreRecordWord, ExchangeState, LoadFinalState, LoadReply}
+use Rattle.transfer_machine.specs.declared.stage.NextStep.TheVariants.{Rest, Announce, Try, LoadFinalState, LoadReply}
+use Rattle.transfer_machine.specs.declared.stage.TryStep.{TryStep}
+use Rattle.transfer_machine.specs.declared.stage.TryStep.TheVariants.{LoadState, LoadRecordWord, LoadCoveredSlot, ExchangeSlot, LoadAnnouncement, LoadPoppedSlot, StoreRecordWord, ExchangeState}
 use Rattle.transfer_invariant.specs.Memory.{Words, States, state_tag}
 
 -- the state that a view planned as the one after this: the content below the working base stays, the working overlay comes on top of it
@@ -26,18 +28,22 @@ with_state number new states m = if m == number then new else states m
 abbrev pub states_with_planned : Words → TransferView → States → States
 states_with_planned words v states = with_state (state_tag words + 1) (planned_state (states (state_tag words)) v) states
 
+-- the states once the view has made that step of a try on these words: the exchange of the state installs the planned one
+abbrev pub states_after_try_step : Words → TransferView → States → TryStep → States
+states_after_try_step words v states LoadState = states
+states_after_try_step words v states (LoadRecordWord index) = states
+states_after_try_step words v states (LoadCoveredSlot offset) = states
+states_after_try_step words v states (ExchangeSlot offset) = states
+states_after_try_step words v states (LoadAnnouncement process) = states
+states_after_try_step words v states (LoadPoppedSlot process) = states
+states_after_try_step words v states (StoreRecordWord index) = states
+states_after_try_step words v states ExchangeState = if words State == v.loaded.state then states_with_planned words v states else states
+
 -- the states once the view has made that step on these words
 abbrev pub states_after_at : Words → TransferView → States → NextStep → States
 states_after_at words v states Rest = states
 states_after_at words v states Announce = states
-states_after_at words v states LoadState = states
-states_after_at words v states (LoadRecordWord index) = states
-states_after_at words v states (LoadCoveredSlot offset) = states
-states_after_at words v states (ExchangeSlot offset) = states
-states_after_at words v states (LoadAnnouncement process) = states
-states_after_at words v states (LoadPoppedSlot process) = states
-states_after_at words v states (StoreRecordWord index) = states
-states_after_at words v states ExchangeState = if words State == v.loaded.state then states_with_planned words v states else states
+states_after_at words v states (Try second step) = states_after_try_step words v states step
 states_after_at words v states LoadFinalState = states
 states_after_at words v states LoadReply = states
 

@@ -1,7 +1,8 @@
 -- the opening meets the invariant, and steps keep it
-use Rattle.std.specs.Prelude.{◌≡◌, ℕ, ◌+◌, ◌<◌, ◌≤◌, ◌^◌, slice_index, List, length}
+use Rattle.std.specs.Prelude.{◌≡◌, ℕ, Bool, ◌+◌, ◌<◌, ◌≤◌, ◌*◌, slice_index, List, length}
 use Rattle.word_layout.specs.Sizes.{Sizes, IsShape, blocks}
 use Rattle.word_layout.specs.Names.{InRange, table_words, word_at, record_words}
+use Rattle.word_layout.specs.Packing.{value_limit, most_age}
 use Rattle.word_layout.specs.declared.announced.Wish.{Wish}
 use Rattle.word_layout.specs.declared.name.WordName.{WordName}
 use Rattle.word_layout.specs.declared.name.WordName.TheVariants.{State}
@@ -14,7 +15,8 @@ use Rattle.transfer_machine.specs.NextStates.{IsLoaded}
 use Rattle.transfer_machine.specs.declared.action.Action.{Action}
 use Rattle.transfer_machine.specs.declared.transfer.TransferView.{TransferView}
 use Rattle.transfer_machine.specs.declared.try_plan.TryPlan.{TryPlan}
-use Rattle.transfer_machine.specs.declared.stage.NextStep.TheVariants.{Rest, StoreRecordWord, ExchangeState}
+use Rattle.transfer_machine.specs.declared.stage.NextStep.TheVariants.{Rest, Try}
+use Rattle.transfer_machine.specs.declared.stage.TryStep.TheVariants.{StoreRecordWord, ExchangeState}
 use Rattle.transfer_invariant.specs.Memory.{Words, Views, States, Acted, Moved, state_tag}
 use Rattle.transfer_invariant.specs.OpeningState.{opening_state}
 use Rattle.transfer_invariant.specs.Installing.{states_after}
@@ -23,7 +25,8 @@ use Rattle.transfer_invariant.specs.Invariant.{Invariant}
 
 -- the words and views of the opening meet the invariant, with the state of the opening
 abbrev pub OpeningMeetsInvariant : Type 0
-OpeningMeetsInvariant = (sizes : Sizes) (words : Words) (views : Views) → IsShape sizes
+OpeningMeetsInvariant =
+    (sizes : Sizes) (words : Words) (views : Views) → IsShape sizes
     → ((name : WordName) → InRange sizes name → words name ≡ opening_word sizes name)
     → ((i : ℕ) → i < sizes.processes → views i ≡ opening_transfer i)
     → Invariant sizes words views (λ m. opening_state sizes)
@@ -35,12 +38,14 @@ pub record PlanFits (sizes : Sizes) (plan : TryPlan) : Type 0 where
 
 -- what a view writes fits: a record word its value, and a state that is installed its place
 pub record WritesFit (sizes : Sizes) (words : Words) (v : TransferView) : Type 0 where
-  pub store : (index : ℕ) → v.next ≡ StoreRecordWord index → planned_value sizes.processes v.plan index < 2 ^ 24
-  pub install : v.next ≡ ExchangeState → words State ≡ v.loaded.state → PlanFits sizes v.plan
+  pub store : (second : Bool) (index : ℕ) → v.next ≡ Try second (StoreRecordWord index)
+      → planned_value sizes.processes v.plan index < value_limit
+  pub install : (second : Bool) → v.next ≡ Try second ExchangeState → words State ≡ v.loaded.state → PlanFits sizes v.plan
 
--- the step of a process from words and views that meet the invariant leads to such words and views; where it installs a state there is one more
+-- the step of a process leads from words and views that meet the invariant to such ones; where it installs a state there is one more
 abbrev pub StepsKeepInvariant : Type 0
-StepsKeepInvariant = (sizes : Sizes) (words new : Words) (views after : Views) (states : States) (i : ℕ) → IsShape sizes → i < sizes.processes
+StepsKeepInvariant =
+    (sizes : Sizes) (words new : Words) (views after : Views) (states : States) (i : ℕ) → IsShape sizes → i < sizes.processes
     → Invariant sizes words views states
     → WritesFit sizes words (views i)
     → Acted sizes (action_of sizes (views i)) words new
@@ -49,7 +54,8 @@ StepsKeepInvariant = (sizes : Sizes) (words new : Words) (views after : Views) (
 
 -- a process at rest that begins a transfer keeps it
 abbrev pub BeginningsKeepInvariant : Type 0
-BeginningsKeepInvariant = (sizes : Sizes) (words : Words) (views after : Views) (states : States) (i : ℕ) (wish : Wish) → i < sizes.processes
+BeginningsKeepInvariant =
+    (sizes : Sizes) (words : Words) (views after : Views) (states : States) (i : ℕ) (wish : Wish) → i < sizes.processes
     → Invariant sizes words views states
     → (views i).next ≡ Rest
     → Moved i (begun wish (views i)) views after
@@ -57,13 +63,19 @@ BeginningsKeepInvariant = (sizes : Sizes) (words : Words) (views after : Views) 
 
 -- an action on the words of a table acts on the words by their names
 abbrev pub TableActsByNames : Type 0
-TableActsByNames = (sizes : Sizes) (table : List ℕ) (action : Action) → length table ≡ table_words sizes → InRange sizes (name_of action) → Acted sizes action (word_at sizes table) (word_at sizes (acted sizes table action))
+TableActsByNames =
+    (sizes : Sizes) (table : List ℕ) (action : Action) → length table ≡ table_words sizes → InRange sizes (name_of action)
+    → Acted sizes action (word_at sizes table) (word_at sizes (acted sizes table action))
 
 -- the number of the state is within its limit as long as all ages are within theirs
 abbrev pub TagsAreFew : Type 0
-TagsAreFew = (sizes : Sizes) (words : Words) (views : Views) (states : States) → sizes.processes ≤ 32 → Invariant sizes words views states → ((i : ℕ) → i < sizes.processes → (views i).age ≤ 2 ^ 32) → state_tag words ≤ 2 ^ 37 + 1
+TagsAreFew =
+    (sizes : Sizes) (words : Words) (views : Views) (states : States) → sizes.processes ≤ 32 → Invariant sizes words views states
+    → ((i : ℕ) → i < sizes.processes → (views i).age ≤ most_age) → state_tag words ≤ 32 * most_age + 1
 
 -- a view that has loaded a whole record has loaded the state of its number
 abbrev pub WholeRecordsAreStates : Type 0
-WholeRecordsAreStates = (sizes : Sizes) (words : Words) (views : Views) (states : States) (i : ℕ) → i < sizes.processes → Invariant sizes words views states → loaded_words (record_words sizes) (views i).next ≡ record_words sizes
+WholeRecordsAreStates =
+    (sizes : Sizes) (words : Words) (views : Views) (states : States) (i : ℕ) → i < sizes.processes
+    → Invariant sizes words views states → loaded_words (record_words sizes) (views i).next ≡ record_words sizes
     → IsLoaded sizes.processes (views i).loaded (states (loaded_tag (views i).loaded))

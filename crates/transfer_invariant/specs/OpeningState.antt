@@ -5,4 +5,10 @@ use Rattle.transfer_machine.specs.States.{StackState}
 
 -- its content is that of the slots; its overlay is empty, and no transfer is applied
 unfoldable pub opening_state : Sizes → StackState
-opening_state sizes = record { base = opening_base sizes; height = opening_base sizes; content = opening_slot sizes; reply = λ i. 0; applied = λ i. 0 }
+opening_state sizes = record {
+  base = opening_base sizes;
+  height = opening_base sizes;
+  content = opening_slot sizes;
+  reply = λ i. 0;
+  applied = λ i. 0;
+}

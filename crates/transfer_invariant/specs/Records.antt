@@ -13,7 +13,8 @@ use Rattle.transfer_invariant.specs.Progress.{in_try, has_loaded, record_index, 
 pub record CurrentRecord (sizes : Sizes) (words : Words) (states : States) : Type 0 where
   pub row : current_record words < records sizes
   pub tags : (index : ℕ) → index < record_words sizes → word_tag words (current_record words) index ≡ state_tag words
-  pub values : (index : ℕ) → index < record_words sizes → word_value words (current_record words) index ≡ state_value sizes.processes (states (state_tag words)) index
+  pub values : (index : ℕ) → index < record_words sizes
+      → word_value words (current_record words) index ≡ state_value sizes.processes (states (state_tag words)) index
 
 -- of it, one state: the overlay ends the content and has at most a head a process, all places are slots, the overlay's heads are blocks
 pub record StateFits (sizes : Sizes) (s : StackState) : Type 0 where
@@ -28,27 +29,40 @@ StatesFit sizes words states = (m : ℕ) → m ≤ state_tag words → StateFits
 
 -- Own record: no record word has a tag above that of the state to come
 abbrev pub TagsBelow : Sizes → Words → Type 0
-TagsBelow sizes words = (row index : ℕ) → row < records sizes → index < record_words sizes → word_tag words row index ≤ state_tag words + 1
+TagsBelow sizes words =
+    (row index : ℕ) → row < records sizes → index < record_words sizes → word_tag words row index ≤ state_tag words + 1
 
--- Own record, of one process: its next record is one of its two and isn't current; its last installed state is at most the present one and the one that its try loaded; what it stored in the try has the next tag and the planned values
+-- Own record, of one process: its next record is one of its two and isn't current; what it stored there is what its try planned
 pub record OwnRecord (sizes : Sizes) (words : Words) (process : ℕ) (v : TransferView) : Type 0 where
+  -- the record word that its next step is about
   pub index : record_index v.next < record_words sizes
+  -- the owner of its next record
   pub next : v.next_record / 2 ≡ process
   pub apart : current_record words ≢ v.next_record
+  -- its last installed state is at most the present one, and the one that its try loaded
   pub installed : v.installed ≤ state_tag words
   pub tried : in_try v.next ≡ true → v.installed ≤ loaded_tag v.loaded
-  pub stored_tags : (index : ℕ) → index < stored_words (record_words sizes) v.next → word_tag words v.next_record index ≡ loaded_tag v.loaded + 1
-  pub stored_values : (index : ℕ) → index < stored_words (record_words sizes) v.next → word_value words v.next_record index ≡ planned_value sizes.processes v.plan index
+  -- what it stored in the try has the next tag and the planned values
+  pub stored_tags : (index : ℕ) → index < stored_words (record_words sizes) v.next
+      → word_tag words v.next_record index ≡ loaded_tag v.loaded + 1
+  pub stored_values : (index : ℕ) → index < stored_words (record_words sizes) v.next
+      → word_value words v.next_record index ≡ planned_value sizes.processes v.plan index
 
--- Loaded state: it is at most the present one, with the same record where it is the same; words of its record have its number or a higher one, and those with its number have its values, and so have those that were loaded
+-- Loaded state: it is at most the present one, and a word of its record has its number and its values, or a higher number
 pub record LoadedState (sizes : Sizes) (words : Words) (states : States) (v : TransferView) : Type 0 where
   pub room : length v.loaded.record_words ≡ 66
   pub past : has_loaded v.next ≡ true → loaded_tag v.loaded ≤ state_tag words
   pub row : has_loaded v.next ≡ true → loaded_record v.loaded < records sizes
+  -- where it is the present state its record is the current one
   pub same : has_loaded v.next ≡ true → loaded_tag v.loaded ≡ state_tag words → loaded_record v.loaded ≡ current_record words
-  pub tags : has_loaded v.next ≡ true → (index : ℕ) → index < record_words sizes → loaded_tag v.loaded ≤ word_tag words (loaded_record v.loaded) index
-  pub values : has_loaded v.next ≡ true → (index : ℕ) → index < record_words sizes → word_tag words (loaded_record v.loaded) index ≡ loaded_tag v.loaded → word_value words (loaded_record v.loaded) index ≡ state_value sizes.processes (states (loaded_tag v.loaded)) index
-  pub loaded : (index : ℕ) → index < loaded_words (record_words sizes) v.next → record_value v.loaded index ≡ state_value sizes.processes (states (loaded_tag v.loaded)) index
+  pub tags : has_loaded v.next ≡ true → (index : ℕ) → index < record_words sizes
+      → loaded_tag v.loaded ≤ word_tag words (loaded_record v.loaded) index
+  pub values : has_loaded v.next ≡ true → (index : ℕ) → index < record_words sizes
+      → word_tag words (loaded_record v.loaded) index ≡ loaded_tag v.loaded
+      → word_value words (loaded_record v.loaded) index ≡ state_value sizes.processes (states (loaded_tag v.loaded)) index
+  -- the words that were loaded have its values
+  pub loaded : (index : ℕ) → index < loaded_words (record_words sizes) v.next
+      → record_value v.loaded index ≡ state_value sizes.processes (states (loaded_tag v.loaded)) index
 
 -- Loaded state, of two views: where the one loaded the record that is the other's next one, the other installed a later state
 abbrev pub OwnerWentOn : TransferView → TransferView → Type 0

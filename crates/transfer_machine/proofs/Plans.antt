@@ -12,13 +12,16 @@ use Rattle.word_layout.specs.declared.announced.Wish.{Wish}
 use Rattle.word_layout.specs.declared.announced.Wish.TheVariants.{Take, Give}
 use Rattle.transfer_machine.specs.Loads.{popped_head, loaded_reply, loaded_tag, overlay_length}
 use Rattle.transfer_machine.specs.Tries.{begun_plan, after_announcement, granted, replied, wish_reply, take_reply, announced_wish, pops_slot, is_pending, is_odd_transfer, is_take, takes_from_slot}
-use Rattle.transfer_machine.specs.Planned.{planned, SamePlan, HasRoom, PlansLoaded, PlansLoadedAt, StepsKeepPlan}
-use Rattle.transfer_machine.specs.Machine.{met_at, CanMeetAt, after_heard, after_slot, after_record, try_ended, installed, record_word_loaded, popped_loaded}
+use Rattle.transfer_machine.specs.Planned.{planned, SamePlan, HasRoom, PlansLoaded, PlansLoadedAt, PlansLoadedInTry, StepsKeepPlan}
+use Rattle.transfer_machine.specs.Machine.{met_at, met_in_try, CanMeetAt, CanMeetInTry, after_heard, after_slot, after_record, after_try, try_ended, installed, record_word_loaded, popped_loaded, slot_loaded}
 use Rattle.transfer_machine.specs.declared.loaded.Loaded.{Loaded}
 use Rattle.transfer_machine.specs.declared.try_plan.TryPlan.{TryPlan}
 use Rattle.transfer_machine.specs.declared.transfer.TransferView.{TransferView}
 use Rattle.transfer_machine.specs.declared.stage.NextStep.{NextStep}
-use Rattle.transfer_machine.specs.declared.stage.NextStep.TheVariants.{Rest, Announce, LoadState, LoadRecordWord, LoadCoveredSlot, ExchangeSlot, LoadAnnouncement, LoadPoppedSlot, StoreRecordWord, ExchangeState, LoadFinalState, LoadReply}
+use Rattle.transfer_machine.specs.declared.stage.NextStep.TheVariants.{Rest, Announce, Try, LoadFinalState, LoadReply}
+use Rattle.transfer_machine.specs.declared.stage.TryStep.{TryStep}
+use Rattle.transfer_machine.specs.declared.stage.TryStep.TheVariants.{LoadState, LoadRecordWord, LoadCoveredSlot, ExchangeSlot}
+use Rattle.transfer_machine.specs.declared.stage.TryStep.TheVariants.{LoadAnnouncement, LoadPoppedSlot, StoreRecordWord, ExchangeState}
 
 -- lists that agree below a place go on so once both have one value there
 set_both : (xs ys : List ℕ) (n x y k : ℕ) → n < length xs → n < length ys → x ≡ y → ((j : ℕ) → j < n → get_or xs j 0 ≡ get_or ys j 0) → k < n + 1 → get_or (set xs n x) k 0 ≡ get_or (set ys n y) k 0
@@ -134,11 +137,16 @@ below_apart : (j n : ℕ) → j < n → j ≢ n
 below_apart j n lt e = absurd (omega arith)
 
 -- the view after an announcement, by whether it waits for its slot
-abbrev announcement_met : Sizes → ℕ → ℕ → Bool → TransferView → TransferView
-announcement_met sizes process word b v =
-    if b
-    then record v { loaded = record v.loaded { announcements = slice_set v.loaded.announcements process word }; next = LoadPoppedSlot process }
-    else record v { loaded = record v.loaded { announcements = slice_set v.loaded.announcements process word }; next = after_heard sizes process; plan = after_announcement sizes.processes v.loaded process word 0 v.plan }
+abbrev announcement_met : Sizes → Bool → ℕ → ℕ → Bool → TransferView → TransferView
+announcement_met sizes second process word waits v =
+    let loaded = record v.loaded { announcements = slice_set v.loaded.announcements process word } in
+    if waits
+    then record v { loaded = loaded; next = Try second (LoadPoppedSlot process) }
+    else record v {
+      loaded = loaded;
+      next = Try second (after_heard sizes process);
+      plan = after_announcement sizes.processes v.loaded process word 0 v.plan;
+    }
 
 unpopped_take : (loaded : Loaded) (x y : ℕ) (plan : TryPlan) → takes_from_slot loaded plan ≡ false → take_reply loaded x plan ≡ take_reply loaded y plan
 unpopped_take loaded x y plan h = grind (arith, nat_tests)
@@ -173,21 +181,21 @@ heard_same processes loaded other process word popped kept h room replies lt e a
     (applied_same processes loaded process word popped kept (planned processes loaded process) h room (planned_room processes loaded process) replies (planned_replies processes loaded process) (omega (arith, planned_few processes loaded process)) lt)
 
 -- what follows leaves the plan
-kept_after_heard : (sizes : Sizes) (v : TransferView) (process : ℕ) → SamePlan (process + 1) v.plan (planned sizes.processes v.loaded (process + 1)) → PlansLoadedAt sizes v (after_heard sizes process)
+kept_after_heard : (sizes : Sizes) (v : TransferView) (process : ℕ) → SamePlan (process + 1) v.plan (planned sizes.processes v.loaded (process + 1)) → PlansLoadedInTry sizes v (after_heard sizes process)
 kept_after_heard sizes v process h = elim (cases_eq (process + 1) sizes.processes) [
   | inl last ↦ (let test : (process + 1 == sizes.processes) ≡ true = grind (arith, nat_tests) in rw test (subst (λ n. SamePlan n v.plan (planned sizes.processes v.loaded n)) last h))
   | inr more ↦ (let test : (process + 1 == sizes.processes) ≡ false = grind (arith, nat_tests) in rw test h)
 ]
 
-kept_after_slot : (sizes : Sizes) (v : TransferView) (b : Bool) (offset : ℕ) → SamePlan 0 v.plan (planned sizes.processes v.loaded 0) → PlansLoadedAt sizes v (if b then LoadAnnouncement 0 else LoadCoveredSlot offset)
+kept_after_slot : (sizes : Sizes) (v : TransferView) (b : Bool) (offset : ℕ) → SamePlan 0 v.plan (planned sizes.processes v.loaded 0) → PlansLoadedInTry sizes v (if b then LoadAnnouncement 0 else LoadCoveredSlot offset)
 kept_after_slot sizes v true offset h = h
 kept_after_slot sizes v false offset h = h
 
-kept_after_try : (sizes : Sizes) (v : TransferView) (b : Bool) → PlansLoadedAt sizes v (if b then LoadState else LoadFinalState)
+kept_after_try : (sizes : Sizes) (v : TransferView) (second : Bool) → PlansLoadedAt sizes v (after_try second)
 kept_after_try sizes v true = tt
 kept_after_try sizes v false = tt
 
-kept_after_stored : (sizes : Sizes) (v : TransferView) (b : Bool) (index : ℕ) → SamePlan sizes.processes v.plan (planned sizes.processes v.loaded sizes.processes) → PlansLoadedAt sizes v (if b then ExchangeState else StoreRecordWord index)
+kept_after_stored : (sizes : Sizes) (v : TransferView) (b : Bool) (index : ℕ) → SamePlan sizes.processes v.plan (planned sizes.processes v.loaded sizes.processes) → PlansLoadedInTry sizes v (if b then ExchangeState else StoreRecordWord index)
 kept_after_stored sizes v true index h = h
 kept_after_stored sizes v false index h = h
 
@@ -196,52 +204,62 @@ either : (sizes : Sizes) (b : Bool) (one other : TransferView) → PlansLoaded s
 either sizes true one other h k = h
 either sizes false one other h k = k
 
-record_word_kept : (sizes : Sizes) (v : TransferView) (index : ℕ) (loaded : Loaded) → PlansLoaded sizes (record_word_loaded sizes index loaded v)
-record_word_kept sizes v index loaded =
-    either sizes (index + 1 == record_words sizes) (record v { loaded = loaded; next = after_record loaded; plan = begun_plan loaded v.plan }) (record v { loaded = loaded; next = LoadRecordWord (index + 1) })
-    (kept_after_slot sizes (record v { loaded = loaded; next = after_record loaded; plan = begun_plan loaded v.plan }) (overlay_length loaded == 0) 0 (begun_same sizes.processes loaded v.plan)) tt
+record_word_kept : (sizes : Sizes) (second : Bool) (v : TransferView) (index : ℕ) (loaded : Loaded) → PlansLoaded sizes (record_word_loaded sizes second index loaded v)
+record_word_kept sizes second v index loaded =
+    let last : TransferView = record v { loaded = loaded; next = Try second (after_record loaded); plan = begun_plan loaded v.plan } in
+    either sizes (index + 1 == record_words sizes) last (record v { loaded = loaded; next = Try second (LoadRecordWord (index + 1)) })
+    (kept_after_slot sizes last (overlay_length loaded == 0) 0 (begun_same sizes.processes loaded v.plan)) tt
 
-slot_kept : (sizes : Sizes) (v : TransferView) (b : Bool) (offset : ℕ) → SamePlan 0 v.plan (planned sizes.processes v.loaded 0) → PlansLoadedAt sizes v (if b then ExchangeSlot offset else after_slot v.loaded offset)
-slot_kept sizes v true offset h = h
-slot_kept sizes v false offset h = kept_after_slot sizes v (offset + 1 == overlay_length v.loaded) (offset + 1) h
+kept_at_slot : (sizes : Sizes) (v : TransferView) (b : Bool) (loaded : Loaded) (offset : ℕ) → SamePlan 0 v.plan (planned sizes.processes v.loaded 0) → PlansLoadedInTry sizes v (if b then ExchangeSlot offset else after_slot loaded offset)
+kept_at_slot sizes v true loaded offset h = h
+kept_at_slot sizes v false loaded offset h = kept_after_slot sizes v (offset + 1 == overlay_length loaded) (offset + 1) h
 
 same_none : (processes : ℕ) (loaded other : Loaded) (kept : TryPlan) → loaded.record_words ≡ other.record_words → SamePlan 0 kept (planned processes loaded 0) → SamePlan 0 kept (planned processes other 0)
 same_none processes loaded other kept e h = subst (SamePlan 0 kept) (planned_reads processes loaded other 0 e (λ j lt. absurd (omega arith)) (λ j lt. absurd (omega arith))) h
+
+slot_kept : (sizes : Sizes) (second : Bool) (v : TransferView) (offset word : ℕ) → SamePlan 0 v.plan (planned sizes.processes v.loaded 0) → PlansLoaded sizes (slot_loaded second offset word v)
+slot_kept sizes second v offset word h =
+    kept_at_slot sizes (slot_loaded second offset word v) (nat_lt (tag_of word) (loaded_tag v.loaded)) v.loaded offset
+    (same_none sizes.processes v.loaded (record v.loaded { slots = slice_set v.loaded.slots offset word }) v.plan refl h)
 
 -- the announcement that waits for its slot
 waiting_kept : (sizes : Sizes) (v : TransferView) (process word : ℕ) → SamePlan process v.plan (planned sizes.processes v.loaded process) → SamePlan process v.plan (planned sizes.processes (record v.loaded { announcements = slice_set v.loaded.announcements process word }) process)
 waiting_kept sizes v process word h =
     subst (SamePlan process v.plan) (planned_reads sizes.processes v.loaded (record v.loaded { announcements = slice_set v.loaded.announcements process word }) process refl (λ j lt. sym (get_or-set_other v.loaded.announcements process j word 0 (below_apart j process lt))) (λ j lt. refl)) h
 
-announcement_kept : (sizes : Sizes) (v : TransferView) (process word : ℕ) (b : Bool) → pops_slot sizes.processes v.loaded process word v.plan ≡ b → HasRoom v → process < 32 → SamePlan process v.plan (planned sizes.processes v.loaded process) → PlansLoaded sizes (announcement_met sizes process word b v)
-announcement_kept sizes v process word true e room lt h = waiting_kept sizes v process word h
-announcement_kept sizes v process word false e room lt h =
-    kept_after_heard sizes (announcement_met sizes process word false v) process
+announcement_kept : (sizes : Sizes) (second : Bool) (v : TransferView) (process word : ℕ) (b : Bool) → pops_slot sizes.processes v.loaded process word v.plan ≡ b → HasRoom v → process < 32 → SamePlan process v.plan (planned sizes.processes v.loaded process) → PlansLoaded sizes (announcement_met sizes second process word b v)
+announcement_kept sizes second v process word true e room lt h = waiting_kept sizes v process word h
+announcement_kept sizes second v process word false e room lt h =
+    kept_after_heard sizes (announcement_met sizes second process word false v) process
     (rw (unpopped sizes.processes v.loaded process word 0 (popped_head v.loaded process) v.plan e)
     (heard_same sizes.processes v.loaded (record v.loaded { announcements = slice_set v.loaded.announcements process word }) process word (popped_head v.loaded process) v.plan h room.heads room.replies lt refl
     (λ j below. sym (get_or-set_other v.loaded.announcements process j word 0 (below_apart j process below))) (λ j below. refl)
     (get_or-set_same v.loaded.announcements process word 0 (omega (arith, room.announcements))) refl))
 
-popped_kept : (sizes : Sizes) (v : TransferView) (process word : ℕ) → HasRoom v → process < 32 → SamePlan process v.plan (planned sizes.processes v.loaded process) → PlansLoaded sizes (popped_loaded sizes process word v)
-popped_kept sizes v process word room lt h =
-    kept_after_heard sizes (popped_loaded sizes process word v) process
+popped_kept : (sizes : Sizes) (second : Bool) (v : TransferView) (process word : ℕ) → HasRoom v → process < 32 → SamePlan process v.plan (planned sizes.processes v.loaded process) → PlansLoaded sizes (popped_loaded sizes second process word v)
+popped_kept sizes second v process word room lt h =
+    kept_after_heard sizes (popped_loaded sizes second process word v) process
     (heard_same sizes.processes v.loaded (record v.loaded { popped = slice_set v.loaded.popped process word }) process (get_or v.loaded.announcements process 0) (value_of word) v.plan h room.heads room.replies lt refl
     (λ j below. refl) (λ j below. sym (get_or-set_other v.loaded.popped process j word 0 (below_apart j process below)))
     refl (ap value_of (get_or-set_same v.loaded.popped process word 0 (omega (arith, room.popped)))))
 
+-- a step of a try keeps the plan
+keeps_in_try : (sizes : Sizes) (v : TransferView) (word : ℕ) (second : Bool) (step : TryStep) → HasRoom v → CanMeetInTry sizes v word step → PlansLoadedInTry sizes v step → PlansLoaded sizes (met_in_try sizes v word second step)
+keeps_in_try sizes v word second LoadState room can h = tt
+keeps_in_try sizes v word second (LoadRecordWord index) room can h =
+    let loaded : Loaded = record v.loaded { record_words = slice_set v.loaded.record_words index word } in
+    either sizes (nat_lt (loaded_tag v.loaded) (tag_of word)) (try_ended second v) (record_word_loaded sizes second index loaded v) (kept_after_try sizes (try_ended second v) second) (record_word_kept sizes second v index loaded)
+keeps_in_try sizes v word second (LoadCoveredSlot offset) room can h = slot_kept sizes second v offset word h
+keeps_in_try sizes v word second (ExchangeSlot offset) room can h = kept_after_slot sizes (met_in_try sizes v word second (ExchangeSlot offset)) (offset + 1 == overlay_length v.loaded) (offset + 1) h
+keeps_in_try sizes v word second (LoadAnnouncement process) room can h = announcement_kept sizes second v process word (pops_slot sizes.processes v.loaded process word v.plan) refl room (omega (arith, can.few, can.among)) h
+keeps_in_try sizes v word second (LoadPoppedSlot process) room can h = popped_kept sizes second v process word room (omega (arith, can.few, can.among)) h
+keeps_in_try sizes v word second (StoreRecordWord index) room can h = kept_after_stored sizes (met_in_try sizes v word second (StoreRecordWord index)) (index + 1 == record_words sizes) (index + 1) h
+keeps_in_try sizes v word second ExchangeState room can h = either sizes (word == v.loaded.state) (installed v) (try_ended second v) tt (kept_after_try sizes (try_ended second v) second)
+
 keeps_at : (sizes : Sizes) (v : TransferView) (word : ℕ) (next : NextStep) → v.next ≡ next → HasRoom v → CanMeetAt sizes v word next → PlansLoadedAt sizes v next → PlansLoaded sizes (met_at sizes v word next)
 keeps_at sizes v word Rest e room can h = subst (PlansLoadedAt sizes v) (sym e) tt
 keeps_at sizes v word Announce e room can h = tt
-keeps_at sizes v word LoadState e room can h = tt
-keeps_at sizes v word (LoadRecordWord index) e room can h =
-    either sizes (nat_lt (loaded_tag v.loaded) (tag_of word)) (try_ended v) (record_word_loaded sizes index (record v.loaded { record_words = slice_set v.loaded.record_words index word }) v) (kept_after_try sizes (try_ended v) (v.turn == 1)) (record_word_kept sizes v index (record v.loaded { record_words = slice_set v.loaded.record_words index word }))
-keeps_at sizes v word (LoadCoveredSlot offset) e room can h =
-    slot_kept sizes (met_at sizes v word (LoadCoveredSlot offset)) (nat_lt (tag_of word) (loaded_tag v.loaded)) offset (same_none sizes.processes v.loaded (record v.loaded { slots = slice_set v.loaded.slots offset word }) v.plan refl h)
-keeps_at sizes v word (ExchangeSlot offset) e room can h = kept_after_slot sizes (met_at sizes v word (ExchangeSlot offset)) (offset + 1 == overlay_length v.loaded) (offset + 1) h
-keeps_at sizes v word (LoadAnnouncement process) e room can h = announcement_kept sizes v process word (pops_slot sizes.processes v.loaded process word v.plan) refl room (omega (arith, can.few, can.among)) h
-keeps_at sizes v word (LoadPoppedSlot process) e room can h = popped_kept sizes v process word room (omega (arith, can.few, can.among)) h
-keeps_at sizes v word (StoreRecordWord index) e room can h = kept_after_stored sizes (met_at sizes v word (StoreRecordWord index)) (index + 1 == record_words sizes) (index + 1) h
-keeps_at sizes v word ExchangeState e room can h = either sizes (word == v.loaded.state) (installed v) (try_ended v) tt (kept_after_try sizes (try_ended v) (v.turn == 1))
+keeps_at sizes v word (Try second step) e room can h = keeps_in_try sizes v word second step room can h
 keeps_at sizes v word LoadFinalState e room can h = tt
 keeps_at sizes v word LoadReply e room can h = tt
 

@@ -9,7 +9,10 @@ use Rattle.transfer_machine.specs.Opening.{opening_word, opening_record}
 -- the words of these names are those of the opening, all others are as they were
 pub record Fills (sizes : Sizes) (filled : WordName → Bool) (old new : List ℕ) : Type 0 where
   pub same_length : length new ≡ length old
-  pub each : (name : WordName) → InRange sizes name → word_at sizes new name ≡ (if filled name then opening_word sizes name else word_at sizes old name)
+  pub each :
+      (name : WordName)
+      → InRange sizes name
+      → word_at sizes new name ≡ (if filled name then opening_word sizes name else word_at sizes old name)
 
 -- the first so many words of the opening record
 abbrev pub opening_record_below : Sizes → ℕ → WordName → Bool

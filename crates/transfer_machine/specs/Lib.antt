@@ -2,8 +2,6 @@ pub mod Loads
 pub mod Stages
 pub mod Tries
 pub mod Machine
-pub mod Pools
-pub mod Phases
 pub mod Words
 pub mod Opening
 pub mod Filling

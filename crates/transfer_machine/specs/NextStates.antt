@@ -39,5 +39,11 @@ state_after loaded heard s = next_of heard (λ i. slice_index loaded.announcemen
 
 -- the plan of the loaded words has the content and the replies of the next state
 abbrev pub PlansAreNextStates : Type 0
-PlansAreNextStates = (processes : ℕ) (loaded : Loaded) (s : StackState) (heard : ℕ) → processes ≤ 32 → heard ≤ processes → IsLoaded processes loaded s → PopsContent processes loaded s
-    → HasContent (planned processes loaded heard) s (state_after loaded heard s) × HasReplies heard (planned processes loaded heard) s (state_after loaded heard s)
+PlansAreNextStates =
+    (processes : ℕ) (loaded : Loaded) (s : StackState) (heard : ℕ)
+    → processes ≤ 32
+    → heard ≤ processes
+    → IsLoaded processes loaded s
+    → PopsContent processes loaded s
+    → HasContent (planned processes loaded heard) s (state_after loaded heard s)
+    × HasReplies heard (planned processes loaded heard) s (state_after loaded heard s)

@@ -48,7 +48,13 @@ pub record AreOpening (sizes : Sizes) (words : List ℕ) : Type 0 where
 
 -- nothing is loaded
 abbrev pub nothing_loaded : Loaded
-nothing_loaded = record { state = 0; record_words = replicate 66 0; slots = replicate 32 0; announcements = replicate 32 0; popped = replicate 32 0 }
+nothing_loaded = record {
+  state = 0;
+  record_words = replicate 66 0;
+  slots = replicate 32 0;
+  announcements = replicate 32 0;
+  popped = replicate 32 0;
+}
 
 -- nothing is planned
 abbrev pub nothing_planned : TryPlan
@@ -63,7 +69,6 @@ opening_transfer process = record {
   installed = 0;
   first_loaded = 0;
   wish = Take;
-  turn = 0;
   next = Rest;
   loaded = nothing_loaded;
   plan = nothing_planned;

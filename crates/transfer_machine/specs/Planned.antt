@@ -9,12 +9,17 @@ use Rattle.transfer_machine.specs.declared.loaded.Loaded.{Loaded}
 use Rattle.transfer_machine.specs.declared.try_plan.TryPlan.{TryPlan}
 use Rattle.transfer_machine.specs.declared.transfer.TransferView.{TransferView}
 use Rattle.transfer_machine.specs.declared.stage.NextStep.{NextStep}
-use Rattle.transfer_machine.specs.declared.stage.NextStep.TheVariants.{Rest, Announce, LoadState, LoadRecordWord, LoadCoveredSlot, ExchangeSlot, LoadAnnouncement, LoadPoppedSlot, StoreRecordWord, ExchangeState, LoadFinalState, LoadReply}
+use Rattle.transfer_machine.specs.declared.stage.NextStep.TheVariants.{Rest, Announce, Try, LoadFinalState, LoadReply}
+use Rattle.transfer_machine.specs.declared.stage.TryStep.{TryStep}
+use Rattle.transfer_machine.specs.declared.stage.TryStep.TheVariants.{LoadState, LoadRecordWord, LoadCoveredSlot, ExchangeSlot}
+use Rattle.transfer_machine.specs.declared.stage.TryStep.TheVariants.{LoadAnnouncement, LoadPoppedSlot, StoreRecordWord, ExchangeState}
 
 -- the plan once the loaded announcements of the first so many processes are applied, in the order of their numbers
 unfoldable pub planned : ℕ → Loaded → ℕ → TryPlan
 planned processes loaded zero = begun_plan loaded nothing_planned
-planned processes loaded (suc process) = after_announcement processes loaded process (slice_index loaded.announcements process) (popped_head loaded process) (planned processes loaded process)
+planned processes loaded (suc process) =
+    let announcement = slice_index loaded.announcements process in
+    after_announcement processes loaded process announcement (popped_head loaded process) (planned processes loaded process)
 
 -- two plans after so many announcements say the same: past the overlay and the met replies nothing is said
 pub record SamePlan (heard : ℕ) (kept plan : TryPlan) : Type 0 where
@@ -31,18 +36,22 @@ pub record HasRoom (v : TransferView) : Type 0 where
   pub heads : length v.plan.heads ≡ 32
   pub replies : length v.plan.replies ≡ 32
 
--- the plan that a view keeps is that of the words that it loaded
+-- in a try the plan that a view keeps is that of the words that it loaded: after so many announcements as it met
+abbrev pub PlansLoadedInTry : Sizes → TransferView → TryStep → Type 0
+PlansLoadedInTry sizes v LoadState = Unit {0}
+PlansLoadedInTry sizes v (LoadRecordWord index) = Unit {0}
+PlansLoadedInTry sizes v (LoadCoveredSlot offset) = SamePlan 0 v.plan (planned sizes.processes v.loaded 0)
+PlansLoadedInTry sizes v (ExchangeSlot offset) = SamePlan 0 v.plan (planned sizes.processes v.loaded 0)
+PlansLoadedInTry sizes v (LoadAnnouncement process) = SamePlan process v.plan (planned sizes.processes v.loaded process)
+PlansLoadedInTry sizes v (LoadPoppedSlot process) = SamePlan process v.plan (planned sizes.processes v.loaded process)
+PlansLoadedInTry sizes v (StoreRecordWord index) = SamePlan sizes.processes v.plan (planned sizes.processes v.loaded sizes.processes)
+PlansLoadedInTry sizes v ExchangeState = SamePlan sizes.processes v.plan (planned sizes.processes v.loaded sizes.processes)
+
+-- the plan that a view keeps at a step is that of the words that it loaded
 abbrev pub PlansLoadedAt : Sizes → TransferView → NextStep → Type 0
 PlansLoadedAt sizes v Rest = Unit {0}
 PlansLoadedAt sizes v Announce = Unit {0}
-PlansLoadedAt sizes v LoadState = Unit {0}
-PlansLoadedAt sizes v (LoadRecordWord index) = Unit {0}
-PlansLoadedAt sizes v (LoadCoveredSlot offset) = SamePlan 0 v.plan (planned sizes.processes v.loaded 0)
-PlansLoadedAt sizes v (ExchangeSlot offset) = SamePlan 0 v.plan (planned sizes.processes v.loaded 0)
-PlansLoadedAt sizes v (LoadAnnouncement process) = SamePlan process v.plan (planned sizes.processes v.loaded process)
-PlansLoadedAt sizes v (LoadPoppedSlot process) = SamePlan process v.plan (planned sizes.processes v.loaded process)
-PlansLoadedAt sizes v (StoreRecordWord index) = SamePlan sizes.processes v.plan (planned sizes.processes v.loaded sizes.processes)
-PlansLoadedAt sizes v ExchangeState = SamePlan sizes.processes v.plan (planned sizes.processes v.loaded sizes.processes)
+PlansLoadedAt sizes v (Try second step) = PlansLoadedInTry sizes v step
 PlansLoadedAt sizes v LoadFinalState = Unit {0}
 PlansLoadedAt sizes v LoadReply = Unit {0}
 
@@ -52,4 +61,6 @@ PlansLoaded sizes v = PlansLoadedAt sizes v v.next
 
 -- whatever word its next step meets, a view goes on keeping the plan of the words that it loaded
 abbrev pub StepsKeepPlan : Type 0
-StepsKeepPlan = (sizes : Sizes) (v : TransferView) (word : ℕ) → HasRoom v → CanAct sizes v → CanMeet sizes v word → PlansLoaded sizes v → PlansLoaded sizes (met_of sizes v word)
+StepsKeepPlan =
+    (sizes : Sizes) (v : TransferView) (word : ℕ) → HasRoom v → CanAct sizes v → CanMeet sizes v word → PlansLoaded sizes v
+    → PlansLoaded sizes (met_of sizes v word)

@@ -7,7 +7,7 @@ use Rattle.word_layout.specs.declared.reply.Reply.{Reply}
 use Rattle.word_layout.specs.declared.reply.Reply.TheVariants.{Nothing, Took, Gave}
 use Rattle.transfer_machine.specs.Tries.{is_odd_transfer, is_pending, announced_wish}
 
--- a state: the heads of the content by their places, the places that the state before it left alone, each process's reply, and how many of its transfers are applied
+-- a state: its content's heads by their places, how many the state before left alone, and each process's reply and applied transfers
 pub record StackState : Type 0 where
   pub base : ℕ
   pub height : ℕ

@@ -41,11 +41,15 @@ pops_slot processes loaded process word plan =
 
 -- the batch at the place below the working base: from the loaded overlay, or the one that was popped
 abbrev pub batch_below : Loaded → ℕ → TryPlan → ℕ
-batch_below loaded popped plan = if nat_lt (plan.base - 1) (loaded_base loaded) then popped else overlay_head loaded (plan.base - 1 - loaded_base loaded)
+batch_below loaded popped plan =
+    if nat_lt (plan.base - 1) (loaded_base loaded) then popped else overlay_head loaded (plan.base - 1 - loaded_base loaded)
 
 -- what a take is answered: the last batch of the working overlay, else the one below the working base
 abbrev pub take_reply : Loaded → ℕ → TryPlan → Reply
-take_reply loaded popped plan = if nat_lt 0 plan.overlay then Took (slice_index plan.heads (plan.overlay - 1)) else (if plan.base == 0 then Nothing else Took (batch_below loaded popped plan))
+take_reply loaded popped plan =
+    if nat_lt 0 plan.overlay
+    then Took (slice_index plan.heads (plan.overlay - 1))
+    else (if plan.base == 0 then Nothing else Took (batch_below loaded popped plan))
 
 -- what a wish is answered
 abbrev pub wish_reply : Loaded → ℕ → TryPlan → Wish → Reply
@@ -65,7 +69,8 @@ replied process reply plan = record plan { replies = slice_set plan.replies proc
 abbrev pub after_announcement : ℕ → Loaded → ℕ → ℕ → ℕ → TryPlan → TryPlan
 after_announcement processes loaded process word popped plan =
     if is_pending word (loaded_reply processes loaded process)
-    then replied process (reply_value (is_odd_transfer word) (wish_reply loaded popped plan (announced_wish word))) (granted (announced_wish word) plan)
+    then (let wish = announced_wish word in
+    replied process (reply_value (is_odd_transfer word) (wish_reply loaded popped plan wish)) (granted wish plan))
     else replied process (loaded_reply processes loaded process) plan
 
 -- the value of a word of the record that the plan is for: the base, the overlay's length, the overlay and zeros, the replies

@@ -4,14 +4,13 @@
 //! that has every pending wish applied; so a process that stops is helped by the others. The design follows
 //! Blelloch and Wei (2020) for the pools, and the helping of Fatourou and Kallimanis (P-Sim, 2011).
 //!
-//! The machine is pure data. A [`ProcessView`] is what one process knows. Its [`Action`] names the one word
-//! that its next step is on; `meet` says what the view becomes once that step met a word; [`step_words`]
-//! makes the whole step on a list of words. `specs/` has the definitions that these are proved equal to.
+//! The machine is pure data. A [`TransferView`] is what one process knows of the transfers. Its [`Action`]
+//! names the one word that its next step is on; `meet` says what the view becomes once that step met a word;
+//! [`step_transfer`] makes the whole step on a list of words. `specs/` has the definitions that these are
+//! proved equal to.
 #![tactic(auto)]
 
 mod action;
-mod call;
-mod heads;
 mod kind;
 pub mod laws;
 mod loaded;
@@ -22,16 +21,13 @@ mod step;
 mod tests;
 mod transfer;
 mod try_plan;
-mod view;
+mod try_steps;
 
 pub use action::Action;
-pub use call::{Call, CallStage, CallView, Way};
-pub use heads::Heads;
 pub use kind::Kind;
 pub use loaded::Loaded;
 pub use opening::opening_words;
-pub use stage::{NextStep, Phase, Stage};
-pub use step::{act, can_step, step_transfer, step_words};
+pub use stage::{NextStep, Stage, TryStep};
+pub use step::{act, can_step, step_transfer};
 pub use transfer::TransferView;
 pub use try_plan::TryPlan;
-pub use view::{PoolView, ProcessView, begin_transfer};

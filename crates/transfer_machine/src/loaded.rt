@@ -1,7 +1,9 @@
 // What a transfer has loaded.
-ghost use Rattle.std.specs.Prelude.{◌≡◌, ◌+◌, ◌^◌, ◌<◌, ◌≤◌};
+ghost use Rattle.std.specs.Prelude.{◌≡◌, ◌+◌, ◌<◌, ◌≤◌};
+ghost use Rattle.word_layout.specs.Packing.{value_limit, tag_limit};
 ghost use Rattle.transfer_machine.specs.Opening.{nothing_loaded};
-ghost use Rattle.transfer_machine.specs.Loads.{record_value, loaded_base, overlay_length, overlay_head, loaded_reply, loaded_tag, loaded_record};
+ghost use Rattle.transfer_machine.specs.Loads.{record_value, loaded_base, overlay_length, overlay_head, loaded_reply};
+ghost use Rattle.transfer_machine.specs.Loads.{loaded_tag, loaded_record};
 
 use word_layout::Tagged;
 
@@ -38,7 +40,7 @@ impl Loaded {
     /// The number of the loaded state.
     pub fn tag(&self) -> u64
         ensures tag { result ≡ loaded_tag self.now }
-        ensures small { result < 2 ^ 40 }
+        ensures small { result < tag_limit }
     {
         Tagged::tag(self.state)
     }
@@ -46,7 +48,7 @@ impl Loaded {
     /// The record of the loaded state.
     pub fn row(&self) -> u32
         ensures row { result ≡ loaded_record self.now }
-        ensures small { result < 2 ^ 24 }
+        ensures small { result < value_limit }
     {
         Tagged::value(self.state)
     }
@@ -55,7 +57,7 @@ impl Loaded {
     pub fn value(&self, index: u32) -> u32
         requires { index < 66 }
         ensures value { result ≡ record_value self.now index }
-        ensures small { result < 2 ^ 24 }
+        ensures small { result < value_limit }
     {
         Tagged::value(self.record_words[index as usize])
     }
@@ -63,7 +65,7 @@ impl Loaded {
     /// How many slots hold true content.
     pub fn base(&self) -> u32
         ensures base { result ≡ loaded_base self.now }
-        ensures small { result < 2 ^ 24 }
+        ensures small { result < value_limit }
     {
         self.value(0)
     }
@@ -71,7 +73,7 @@ impl Loaded {
     /// How many slots the overlay covers.
     pub fn overlay_length(&self) -> u32
         ensures value { result ≡ overlay_length self.now }
-        ensures small { result < 2 ^ 24 }
+        ensures small { result < value_limit }
     {
         self.value(1)
     }
@@ -80,7 +82,7 @@ impl Loaded {
     pub fn overlay_head(&self, offset: u32) -> u32
         requires { offset < 64 }
         ensures head { result ≡ overlay_head self.now offset }
-        ensures small { result < 2 ^ 24 }
+        ensures small { result < value_limit }
     {
         self.value(2 + offset)
     }
@@ -90,7 +92,7 @@ impl Loaded {
         requires few { processes ≤ 32 }
         requires process { process < processes }
         ensures value { result ≡ loaded_reply processes self.now process }
-        ensures small { result < 2 ^ 24 }
+        ensures small { result < value_limit }
     {
         self.value(processes + 2 + process)
     }

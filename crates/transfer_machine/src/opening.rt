@@ -85,7 +85,7 @@ fn head_of(shape: &Shape, batch: u32) -> u64
     ensures { result ≡ batch * shape.now.length }
 {
     let blocks = shape.blocks();
-    prove!(blocks <= 4194304);
+    prove!(blocks <= Shape::MOST_BLOCKS);
     u64::from(batch * shape.length())
 }
 

@@ -1,13 +1,24 @@
 use crate::kind::Kind;
 
-/// The next step of a transfer.
+/// The next step of a transfer: the announcement, two tries, and the end.
 #[derive(Clone, Copy, Debug, PartialEq, Eq, Hash)]
 pub enum NextStep {
     /// No transfer is begun.
     Rest,
     /// Store the own announcement.
     Announce,
-    /// Load the state, at the beginning of a try.
+    /// A step of the first try, or of the second.
+    Try { second: bool, step: TryStep },
+    /// Load the state, at the end of the transfer.
+    LoadFinalState,
+    /// Load the own reply.
+    LoadReply,
+}
+
+/// The next step of a try.
+#[derive(Clone, Copy, Debug, PartialEq, Eq, Hash)]
+pub enum TryStep {
+    /// Load the state, at the beginning of the try.
     LoadState,
     /// Load word `index` of the loaded state's record.
     LoadRecordWord { index: u32 },
@@ -23,10 +34,6 @@ pub enum NextStep {
     StoreRecordWord { index: u32 },
     /// Exchange the state for one with the next record.
     ExchangeState,
-    /// Load the state, at the end of the transfer.
-    LoadFinalState,
-    /// Load the own reply.
-    LoadReply,
 }
 
 /// Where a transfer stands.
@@ -40,20 +47,20 @@ pub struct Stage {
     pub index: u32,
 }
 
-/// What a process is at.
-#[derive(Clone, Copy, Debug, PartialEq, Eq, Hash)]
-pub enum Phase {
-    /// Between two calls, or at rest.
-    Between,
-    /// In a transfer, at this stage.
-    Moving(Stage),
-    /// At the own step of a call.
-    Own,
-}
-
 impl NextStep {
     ghost use Rattle.std.specs.Prelude.{◌≡◌};
-    ghost use Rattle.transfer_machine.specs.Stages.{kind_of, index_of};
+    ghost use Rattle.transfer_machine.specs.Stages.{turn_of, kind_of, index_of};
+
+    /// 0 for the announcement and at rest, 1 and 2 in the two tries, 3 at the end.
+    pub fn turn(&self) -> u32
+        ensures { result ≡ turn_of self.now }
+    {
+        match self {
+            NextStep::Rest | NextStep::Announce => 0,
+            NextStep::Try { second, .. } => { if *second { 2 } else { 1 } }
+            NextStep::LoadFinalState | NextStep::LoadReply => 3,
+        }
+    }
 
     /// The kind of the step. Rest has that of a load of the state that changes nothing.
     pub fn kind(&self) -> Kind
@@ -62,14 +69,7 @@ impl NextStep {
         match self {
             NextStep::Rest => Kind::K19,
             NextStep::Announce => Kind::K1,
-            NextStep::LoadState => Kind::K2,
-            NextStep::LoadRecordWord { .. } => Kind::K3,
-            NextStep::LoadCoveredSlot { .. } => Kind::K4,
-            NextStep::ExchangeSlot { .. } => Kind::K5,
-            NextStep::LoadAnnouncement { .. } => Kind::K6,
-            NextStep::LoadPoppedSlot { .. } => Kind::K7,
-            NextStep::StoreRecordWord { .. } => Kind::K8,
-            NextStep::ExchangeState => Kind::K9,
+            NextStep::Try { step, .. } => step.kind(),
             NextStep::LoadFinalState => Kind::K10,
             NextStep::LoadReply => Kind::K11,
         }
@@ -80,18 +80,42 @@ impl NextStep {
         ensures { result ≡ index_of self.now }
     {
         match self {
-            NextStep::Rest => 0,
-            NextStep::Announce => 0,
-            NextStep::LoadState => 0,
-            NextStep::LoadRecordWord { index } => *index,
-            NextStep::LoadCoveredSlot { offset } => *offset,
-            NextStep::ExchangeSlot { offset } => *offset,
-            NextStep::LoadAnnouncement { process } => *process,
-            NextStep::LoadPoppedSlot { process } => *process,
-            NextStep::StoreRecordWord { index } => *index,
-            NextStep::ExchangeState => 0,
-            NextStep::LoadFinalState => 0,
-            NextStep::LoadReply => 0,
+            NextStep::Try { step, .. } => step.index(),
+            NextStep::Rest | NextStep::Announce | NextStep::LoadFinalState | NextStep::LoadReply =>
+                0,
+        }
+    }
+}
+
+impl TryStep {
+    ghost use Rattle.std.specs.Prelude.{◌≡◌};
+    ghost use Rattle.transfer_machine.specs.Stages.{try_kind, try_index};
+
+    /// The kind of the step.
+    pub fn kind(&self) -> Kind
+        ensures { result ≡ try_kind self.now }
+    {
+        match self {
+            TryStep::LoadState => Kind::K2,
+            TryStep::LoadRecordWord { .. } => Kind::K3,
+            TryStep::LoadCoveredSlot { .. } => Kind::K4,
+            TryStep::ExchangeSlot { .. } => Kind::K5,
+            TryStep::LoadAnnouncement { .. } => Kind::K6,
+            TryStep::LoadPoppedSlot { .. } => Kind::K7,
+            TryStep::StoreRecordWord { .. } => Kind::K8,
+            TryStep::ExchangeState => Kind::K9,
+        }
+    }
+
+    /// The record word, the place in the loaded overlay or the process that the step is about, else 0.
+    pub fn index(&self) -> u32
+        ensures { result ≡ try_index self.now }
+    {
+        match self {
+            TryStep::LoadRecordWord { index } | TryStep::StoreRecordWord { index } => *index,
+            TryStep::LoadCoveredSlot { offset } | TryStep::ExchangeSlot { offset } => *offset,
+            TryStep::LoadAnnouncement { process } | TryStep::LoadPoppedSlot { process } => *process,
+            TryStep::LoadState | TryStep::ExchangeState => 0,
         }
     }
 }

@@ -3,14 +3,12 @@ ghost use Rattle.std.specs.Prelude.{◌≡◌, ◌≢◌, ◌↔◌, IsTrue, len
 ghost use Rattle.word_layout.specs.Names.{table_words, InRange};
 ghost use Rattle.transfer_machine.specs.declared.stage.NextStep.TheVariants.{Rest};
 ghost use Rattle.transfer_machine.specs.Machine.{action_of, met_of};
-ghost use Rattle.transfer_machine.specs.Pools.{view_met, CanCount, CanMeetPool};
 ghost use Rattle.transfer_machine.specs.Stages.{kind_of};
 ghost use Rattle.transfer_machine.specs.Words.{acted, met_word, name_of, CanStep};
 
 use crate::action::Action;
 use crate::kind::Kind;
 use crate::transfer::TransferView;
-use crate::view::ProcessView;
 use word_layout::Shape;
 
 /// Whether a view can make its next step on these words.
@@ -36,24 +34,6 @@ pub fn step_transfer(words: &mut [u64], view: &mut TransferView, shape: &Shape) 
 {
     let kind = view.next.kind();
     let action = view.action(shape);
-    let word = act(words, action, shape);
-    view.meet(shape, word);
-    kind
-}
-
-/// Makes the next step of a process's transfer on the words, and answers its kind. The process's private
-/// pool counts the step, and gets the batch where it is the last step of a take.
-pub fn step_words(words: &mut [u64], view: &mut ProcessView, shape: &Shape) -> Kind
-    requires busy { view.old.transfer.next ≢ Rest }
-    requires can { CanStep shape.now words.old view.old.transfer }
-    requires count { CanCount view.old.pool }
-    requires end { CanMeetPool (met_word shape.now words.old (action_of shape.now view.old.transfer)) view.old.pool view.old.transfer.next }
-    ensures kind { result ≡ kind_of view.old.transfer.next }
-    ensures words { words.new ≡ acted shape.now words.old (action_of shape.now view.old.transfer) }
-    ensures view { view.new ≡ view_met shape.now view.old (met_word shape.now words.old (action_of shape.now view.old.transfer)) }
-{
-    let kind = view.transfer.next.kind();
-    let action = view.transfer.action(shape);
     let word = act(words, action, shape);
     view.meet(shape, word);
     kind

@@ -1,7 +1,4 @@
-use crate::{
-    Kind, NextStep, Phase, ProcessView, Stage, TransferView, begin_transfer, can_step,
-    opening_words, step_transfer, step_words,
-};
+use crate::{Kind, NextStep, TransferView, can_step, opening_words, step_transfer};
 use std::process::Abort;
 use std::test::Fail;
 use word_layout::{Announced, Reply, Shape, Tagged, Wish};
@@ -50,31 +47,13 @@ fn answers(rt: &impl Abort, shape: &Shape, words: &mut [u64], rows: &[Row]) -> (
 #[test]
 fn opening_words_of_a_small_shape(rt: HostRuntime) -> Result<(), Fail> {
     let shape = Shape::new(1, 10, 0)?;
-    let mut words = opening_words(rt.alloc(), &shape)?;
+    let words = opening_words(rt.alloc(), &shape)?;
     assert_eq!(rt; words.len(), 64);
     assert_eq!(rt;
         [
             words[0], words[14], words[21], words[24], words[26], words[27]
         ],
         [16777218, 8, 36, 2, 4, 0]
-    );
-    let mut view = ProcessView::open(&shape, 0);
-    assert_eq!(rt; (view.phase(), view.waiting()), (Phase::Between, None));
-    begin_transfer(&mut view, Wish::Take);
-    let announce = Stage {
-        turn: 0,
-        kind: Kind::K1,
-        index: 0,
-    };
-    assert_eq!(rt;
-        (view.phase(), view.waiting()),
-        (Phase::Moving(announce), None)
-    );
-    assert!(rt; can_step(&words, &view.transfer, &shape));
-    assert_eq!(rt; step_words(&mut words, &mut view, &shape), Kind::K1);
-    assert_eq!(rt;
-        (words[1], view.pool.plan.done(), view.pool.heads.len()),
-        (16777216, 1, 1)
     );
     Ok(())
 }

@@ -1,9 +1,10 @@
 // The plan of a try.
 ghost use Rattle.std.specs.Prelude.{◌≡◌, ◌+◌, ◌*◌, ◌%◌, ◌<◌, ◌≤◌, ◌==◌, ◌↔◌, if◌then◌else◌, not, IsTrue};
-ghost use Rattle.word_layout.specs.Packing.{is_odd_reply, FitsReply};
+ghost use Rattle.word_layout.specs.Packing.{is_odd_reply};
 ghost use Rattle.transfer_machine.specs.Opening.{nothing_planned};
 ghost use Rattle.transfer_machine.specs.Loads.{loaded_base};
-ghost use Rattle.transfer_machine.specs.Tries.{pops_slot, begun_plan, after_announcement, granted, wish_reply, take_reply, planned_value, CanApply};
+ghost use Rattle.transfer_machine.specs.Tries.{pops_slot, begun_plan, after_announcement, granted, CanApply};
+ghost use Rattle.transfer_machine.specs.Tries.{wish_reply, take_reply, planned_value};
 
 use crate::loaded::Loaded;
 use word_layout::{Announced, Reply, Wish};
@@ -35,16 +36,6 @@ fn is_pending(odd: bool, reply: u32) -> bool
 {
     let (replied_odd, _) = Reply::read(reply);
     odd != replied_odd
-}
-
-/// Whether a reply fits its word: a head is a block.
-fn fits(reply: Reply) -> bool
-    ensures { IsTrue result ↔ FitsReply reply }
-{
-    match reply {
-        Reply::Took(head) => head < 1 << 22,
-        Reply::Nothing | Reply::Gave => true,
-    }
 }
 
 impl TryPlan {
@@ -98,7 +89,9 @@ impl TryPlan {
             && process < processes
             && self.overlay < 32
             && self.base <= loaded.base() + 64
-            && fits(self.answer(loaded, Announced::read(word).wish, popped))
+            && self
+                .answer(loaded, Announced::read(word).wish, popped)
+                .fits()
     }
 
     /// Applies the announcement of one more process. `popped` is the batch of the slot that it takes, where

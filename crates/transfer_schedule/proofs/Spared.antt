@@ -18,14 +18,22 @@ pub record Spared (x : Numbers) (age : ℕ) : Type 0 where
   pub give_late : is_giving x.pending ≡ true → x.spares ≡ 3 → x.current ≤ age
   pub aged : is_idle x.pending ≡ false → x.quantum * age ≤ x.done
 
-pub spared_standing : (x : Numbers) (steps made entries begun ended : ℕ) → Standing x made entries begun ended → Spared (after_steps steps x) (entries - begun)
-spared_standing x steps made entries begun ended s = let some = quantum_some x.length x.bound x.quantum s.sizes.some s.sizes.soon in grind (arith, nat_tests)
+pub spared_standing : (x : Numbers) (steps made entries begun ended : ℕ)
+    → Standing x made entries begun ended
+    → Spared (after_steps steps x) (entries - begun)
+spared_standing x steps made entries begun ended s =
+    let some = quantum_some x.length x.bound x.quantum s.sizes.some s.sizes.soon in grind (arith, nat_tests)
 
 times_less_one : (q n : ℕ) → q * n ≤ q * (n + 1)
 times_less_one q n = omega arith
 
 pub spared_ready : (x : Numbers) (entries begun ended : ℕ) → Ready x entries begun ended → Spared x (entries - begun)
-spared_ready x entries begun ended r = let some = quantum_some x.length x.bound x.quantum r.sizes.some r.sizes.soon in grind (arith, nat_tests, times_less_one x.quantum (entries - begun))
+spared_ready x entries begun ended r =
+    let some = quantum_some x.length x.bound x.quantum r.sizes.some r.sizes.soon in grind (
+      arith,
+      nat_tests,
+      times_less_one x.quantum (entries - begun),
+    )
 
 pub spared_table : (x : Numbers) (age : ℕ) → Spared x age → InTable x
 spared_table x age s = record {
@@ -34,7 +42,8 @@ spared_table x age s = record {
   take = λ e. s.take_spares (ap is_taking e);
   take_late = λ e two. omega (arith, s.take_late (ap is_taking e) two, whole_rounded x.done x.quantum age s.some (s.aged (ap is_idle e)));
   give = λ e. s.give_spares (ap is_giving e);
-  give_late = λ e three. omega (arith, s.give_late (ap is_giving e) three, whole_rounded x.done x.quantum age s.some (s.aged (ap is_idle e)));
+  give_late =
+      λ e three. omega (arith, s.give_late (ap is_giving e) three, whole_rounded x.done x.quantum age s.some (s.aged (ap is_idle e)));
 }
 
 -- with nothing pending at most four batches are kept

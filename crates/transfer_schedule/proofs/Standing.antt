@@ -46,44 +46,84 @@ pub record Ready (x : Numbers) (entries begun ended : ℕ) : Type 0 where
   pub done_low : is_idle x.pending ≡ false → x.done < x.bound
 
 -- a pending transfer is younger than `length` calls
-pub young : (x : Numbers) (made entries begun ended : ℕ) → Standing x made entries begun ended → is_idle x.pending ≡ false → entries < x.length + begun
-young x made entries begun ended s busy = omega (arith, less_of_times x.quantum (entries - begun) x.length (omega (arith, s.sizes.soon, s.done_low busy, s.done_now busy)), s.begun_before busy)
+pub young : (x : Numbers) (made entries begun ended : ℕ)
+    → Standing x made entries begun ended
+    → is_idle x.pending ≡ false
+    → entries < x.length + begun
+young x made entries begun ended s busy = omega (
+  arith,
+  less_of_times x.quantum (entries - begun) x.length (omega (arith, s.sizes.soon, s.done_low busy, s.done_now busy)),
+  s.begun_before busy,
+)
 
-pub young_ready : (x : Numbers) (entries begun ended : ℕ) → Ready x entries begun ended → is_idle x.pending ≡ false → entries + 1 < x.length + begun
-young_ready x entries begun ended r busy = omega (arith, less_of_times x.quantum (entries - begun + 1) x.length (omega (arith, r.sizes.soon, r.done_low busy, r.done_now busy)), r.begun_before busy)
+pub young_ready : (x : Numbers) (entries begun ended : ℕ)
+    → Ready x entries begun ended
+    → is_idle x.pending ≡ false
+    → entries + 1 < x.length + begun
+young_ready x entries begun ended r busy = omega (
+  arith,
+  less_of_times x.quantum (entries - begun + 1) x.length (omega (arith, r.sizes.soon, r.done_low busy, r.done_now busy)),
+  r.begun_before busy,
+)
 
 pub opening_stands : (length bound quantum : ℕ) → AreSizes length bound quantum → Standing (opening length bound quantum) 0 0 0 0
 opening_stands length bound quantum sizes = grind (arith, nat_tests)
 
 -- a call begins, with a transfer or in the midst of one
-pub choice_stands : (x : Numbers) (entries begun ended : ℕ) → Standing x 0 entries begun ended → is_idle x.pending ≡ true → Standing (after_choice x) 0 entries entries ended
+pub choice_stands : (x : Numbers) (entries begun ended : ℕ)
+    → Standing x 0 entries begun ended
+    → is_idle x.pending ≡ true
+    → Standing (after_choice x) 0 entries entries ended
 choice_stands x entries begun ended s idle = grind (arith, nat_tests, times_two)
 
 -- a call begins without a transfer
-pub choice_ready : (x : Numbers) (entries begun ended : ℕ) → Standing x 0 entries begun ended → is_idle (after_choice x).pending ≡ true → Ready (after_choice x) entries begun ended
+pub choice_ready : (x : Numbers) (entries begun ended : ℕ)
+    → Standing x 0 entries begun ended
+    → is_idle (after_choice x).pending ≡ true
+    → Ready (after_choice x) entries begun ended
 choice_ready x entries begun ended s idle = grind (arith, nat_tests, times_two)
 
 -- the transfer makes steps and goes on
-pub steps_stand : (x : Numbers) (steps made entries begun ended : ℕ) → Standing x made entries begun ended → is_idle x.pending ≡ false → x.done + steps < x.bound → Standing (after_steps steps x) (made + steps) entries begun ended
+pub steps_stand : (x : Numbers) (steps made entries begun ended : ℕ)
+    → Standing x made entries begun ended
+    → is_idle x.pending ≡ false
+    → x.done + steps < x.bound
+    → Standing (after_steps steps x) (made + steps) entries begun ended
 steps_stand x steps made entries begun ended s busy low = grind (arith, nat_tests)
 
 -- a quantum of steps was made
-pub steps_ready : (x : Numbers) (entries begun ended : ℕ) → Standing x x.quantum entries begun ended → is_idle x.pending ≡ false → Ready x entries begun ended
+pub steps_ready : (x : Numbers) (entries begun ended : ℕ)
+    → Standing x x.quantum entries begun ended
+    → is_idle x.pending ≡ false
+    → Ready x entries begun ended
 steps_ready x entries begun ended s busy = grind (arith, nat_tests, times_more x.quantum (entries - begun))
 
 -- the transfer ends
-pub end_ready : (x : Numbers) (found : Bool) (made entries begun ended : ℕ) → Standing x made entries begun ended → is_idle x.pending ≡ false → Ready (after_end found x) entries begun (if is_taking x.pending then begun else ended)
-end_ready x found made entries begun ended s busy = grind (arith, nat_tests, young x made entries begun ended s busy, times_more x.length x.spares, one_more_few x.spares)
+pub end_ready : (x : Numbers) (found : Bool) (made entries begun ended : ℕ)
+    → Standing x made entries begun ended
+    → is_idle x.pending ≡ false
+    → Ready (after_end found x) entries begun (if is_taking x.pending then begun else ended)
+end_ready x found made entries begun ended s busy =
+    grind (arith, nat_tests, young x made entries begun ended s busy, times_more x.length x.spares, one_more_few x.spares)
 
-pub took_stands : (x : Numbers) (entries begun ended : ℕ) → Ready x entries begun ended → Standing (after_took_one x) 0 (entries + 1) begun ended
+pub took_stands : (x : Numbers) (entries begun ended : ℕ)
+    → Ready x entries begun ended
+    → Standing (after_took_one x) 0 (entries + 1) begun ended
 took_stands x entries begun ended r = grind (arith, nat_tests, times_less x.length x.spares)
 
-pub gave_stands : (x : Numbers) (entries begun ended : ℕ) → Ready x entries begun ended → Standing (after_gave_one x) 0 (entries + 1) begun ended
-gave_stands x entries begun ended r = grind (arith, nat_tests, times_more x.length x.spares, one_more_few x.spares, young_ready x entries begun ended r)
+pub gave_stands : (x : Numbers) (entries begun ended : ℕ)
+    → Ready x entries begun ended
+    → Standing (after_gave_one x) 0 (entries + 1) begun ended
+gave_stands x entries begun ended r =
+    grind (arith, nat_tests, times_more x.length x.spares, one_more_few x.spares, young_ready x entries begun ended r)
 
 -- before an own step that finds no block the plan says dry, and the last ended take began fewer than two batches of entries ago
-pub nothing_dry : (x : Numbers) (entries begun ended : ℕ) → Ready x entries begun ended → source_of x ≡ Nothing → (x.dry ≡ true) × (entries + 1 < ended + 2 * x.length)
-nothing_dry x entries begun ended r none = (grind (arith, nat_tests, young_ready x entries begun ended r), grind (arith, nat_tests, young_ready x entries begun ended r))
+pub nothing_dry : (x : Numbers) (entries begun ended : ℕ)
+    → Ready x entries begun ended
+    → source_of x ≡ Nothing
+    → (x.dry ≡ true) × (entries + 1 < ended + 2 * x.length)
+nothing_dry x entries begun ended r none =
+    (grind (arith, nat_tests, young_ready x entries begun ended r), grind (arith, nat_tests, young_ready x entries begun ended r))
 
 pub standing_spares : (x : Numbers) (made entries begun ended : ℕ) → Standing x made entries begun ended → x.spares ≤ 3
 standing_spares x made entries begun ended s = grind (arith, nat_tests)

@@ -10,7 +10,9 @@ use Rattle.transfer_schedule.proofs.Operations.{one_more_few}
 pub choice_kept : (x : Numbers) → kept (after_choice x) ≡ kept x
 choice_kept x = grind (arith, nat_tests, times_two, times_three)
 
-pub end_stock : (x : Numbers) (found : Bool) → x.spares ≤ 3 → stock (after_end found x) ≡ stock x + (if is_taking x.pending then (if found then x.length else 0) else 0)
+pub end_stock : (x : Numbers) (found : Bool)
+    → x.spares ≤ 3
+    → stock (after_end found x) ≡ stock x + (if is_taking x.pending then (if found then x.length else 0) else 0)
 end_stock x found few = grind (arith, nat_tests, times_more x.length x.spares, one_more_few x.spares)
 
 pub took_stock : (x : Numbers) → source_of x ≢ Nothing → 1 ≤ x.length → stock (after_took_one x) + 1 ≡ stock x

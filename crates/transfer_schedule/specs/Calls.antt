@@ -35,7 +35,8 @@ own_answer Free x = Gave (target_of x)
 abbrev pub after_calls : List PlannedCall → Numbers → Numbers
 after_calls calls x = fold after_call x calls
 
--- a call is made as the schedule says: without a transfer no step; else a quantum of steps or fewer where the transfer ends, which it has done when it has made its most steps
+-- a call is made as the schedule says: without a transfer no step; else a quantum of steps, or fewer where the transfer ends;
+-- it has ended when it has made its most steps
 pub record Fits (call : PlannedCall) (x : Numbers) : Type 0 where
   pub idle_steps : (after_choice x).pending ≡ Idle → call.steps ≡ 0
   pub idle_end : (after_choice x).pending ≡ Idle → call.end ≡ None
@@ -71,7 +72,8 @@ pub record EndsEmpty (calls : List PlannedCall) (x : Numbers) : Type 0 where
 -- y are the numbers x between two calls, or at a moment of the next call up to its own step
 pub data IsMoment (x : Numbers) : Numbers → Type 0 where
   between : IsMoment x x
-  moving : (steps : ℕ) → (after_choice x).pending ≢ Idle → steps ≤ x.quantum → (after_choice x).done + steps ≤ x.bound → IsMoment x (after_steps steps (after_choice x))
+  moving : (steps : ℕ) → (after_choice x).pending ≢ Idle → steps ≤ x.quantum → (after_choice x).done + steps ≤ x.bound
+      → IsMoment x (after_steps steps (after_choice x))
   ready : (call : PlannedCall) → Fits call x → IsMoment x (ready_for call x)
 
 -- a fact of the numbers at each of these moments

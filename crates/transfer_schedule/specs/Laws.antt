@@ -25,7 +25,8 @@ pub record IsSound (a : Account) : Type 0 where
   pub net : 2 * a.plan.length + a.backs ≤ kept a.plan + a.gots
   pub net_giving : a.plan.pending ≡ Giving → 3 * a.plan.length + a.backs ≤ kept a.plan + a.gots
   pub dry : kept a.plan < a.plan.length - 1 - since a → a.plan.dry ≡ true
-  pub recent : kept a.plan < a.plan.length - 1 - since a → (if is_idle a.plan.pending then a.entries else a.begun) ≤ a.ended + a.plan.length
+  pub recent : kept a.plan < a.plan.length - 1 - since a
+      → (if is_idle a.plan.pending then a.entries else a.begun) ≤ a.ended + a.plan.length
 
 -- a pending transfer is in its first `length` calls
 abbrev pub EndsInTime : Account → Type 0
@@ -44,7 +45,9 @@ pub record FoundNothing (n : ℕ) (a : Account) : Type 0 where
 
 -- a take begins with fewer than length - 1 blocks only where the last ended take found nothing and began within the last `length` entries
 abbrev pub BeginsShort : Account → Type 0
-BeginsShort a = a.phase ≡ Between → a.plan.pending ≡ Idle → (after_choice a.plan).pending ≡ Taking → stock a.plan < a.plan.length - 1 → FoundNothing a.plan.length a
+BeginsShort a =
+    a.phase ≡ Between → a.plan.pending ≡ Idle → (after_choice a.plan).pending ≡ Taking → stock a.plan < a.plan.length - 1
+    → FoundNothing a.plan.length a
 
 -- an `allocate` finds no block only where the last ended take found nothing and began within the last 2 * length - 2 entries
 abbrev pub RefusesSoon : Account → Type 0

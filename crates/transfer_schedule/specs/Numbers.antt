@@ -1,6 +1,7 @@
-use Rattle.std.specs.Prelude.{◌≡◌, ℕ, ◌+◌, ◌-◌, ◌*◌, ◌^◌, ◌≤◌, ◌==◌, Bool, true, false, if◌then◌else◌, nat_lt, min, not}
+use Rattle.std.specs.Prelude.{◌≡◌, ℕ, ◌+◌, ◌-◌, ◌*◌, ◌^◌, ◌≤◌, Bool, true, false, if◌then◌else◌, nat_lt, min, not}
 use Rattle.transfer_schedule.specs.declared.pending.Pending.{Pending}
 use Rattle.transfer_schedule.specs.declared.pending.Pending.TheVariants.{Idle, Taking, Giving}
+use Rattle.transfer_schedule.specs.Beginning.{due_with}
 use Rattle.transfer_schedule.specs.declared.own_step.Source.{Source}
 use Rattle.transfer_schedule.specs.declared.own_step.Target.{Target}
 use Rattle.transfer_schedule.specs.declared.own_step.Source.TheVariants as source
@@ -35,7 +36,8 @@ is_giving Idle = false
 is_giving Taking = false
 is_giving Giving = true
 
--- the sizes of a schedule: a batch has two blocks at least, and a transfer, of at most `bound` steps, ends within `length` calls of `quantum` steps
+-- the sizes of a schedule: a batch has two blocks at least, and a transfer of at most `bound` steps ends within `length` calls
+-- of `quantum` steps
 pub record AreSizes (length bound quantum : ℕ) : Type 0 where
   pub long : 2 ≤ length
   pub some : 1 ≤ bound
@@ -54,13 +56,16 @@ one_more n = min (n + 1) (2 ^ 32 - 1)
 
 -- the numbers at the opening of a pool: a full current list and one spare
 abbrev pub opening : ℕ → ℕ → ℕ → Numbers
-opening length bound quantum = record { length = length; bound = bound; quantum = quantum; current = length; spares = 1; pending = Idle; done = 0; dry = false }
-
--- a transfer may begin with so many spares: a take with at most one, a give with one at least
-abbrev pub MayBegin : Pending → ℕ → Type 0
-MayBegin Idle spares = ⊥
-MayBegin Taking spares = spares ≤ 1
-MayBegin Giving spares = 1 ≤ spares
+opening length bound quantum = record {
+  length = length;
+  bound = bound;
+  quantum = quantum;
+  current = length;
+  spares = 1;
+  pending = Idle;
+  done = 0;
+  dry = false;
+}
 
 -- a transfer begins: the batch of a give leaves the spares at once
 abbrev pub after_begin : Pending → Numbers → Numbers
@@ -68,21 +73,36 @@ after_begin Idle x = x
 after_begin Taking x = record x { pending = Taking; done = 0 }
 after_begin Giving x = record x { pending = Giving; done = 0; spares = x.spares - 1 }
 
--- a call begins: where nothing is pending, at most one spare begins a take, and three begin a give
+-- the transfer that is due as a call begins: none where one is pending
+abbrev pub due : Numbers → Pending
+due x = if is_idle x.pending then due_with x.spares else Idle
+
+-- a call begins, and the transfer that is due with it
 abbrev pub after_choice : Numbers → Numbers
-after_choice x = if is_idle x.pending then (if nat_lt x.spares 2 then after_begin Taking x else (if x.spares == 3 then after_begin Giving x else x)) else x
+after_choice x = after_begin (due x) x
 
 -- so many transfer steps were made
 abbrev pub after_steps : ℕ → Numbers → Numbers
 after_steps steps x = record x { done = x.done + steps }
 
--- the pending transfer ends: a take that found a batch adds a spare
+-- the pending take ends: where it found a batch, that is a spare
+abbrev pub after_take : Bool → Numbers → Numbers
+after_take found x = record x {
+  pending = Idle;
+  done = 0;
+  spares = if found then one_more x.spares else x.spares;
+  dry = not found;
+}
+
+-- the pending transfer ends
 abbrev pub after_end : Bool → Numbers → Numbers
-after_end found x = if is_taking x.pending then record x { pending = Idle; done = 0; spares = if found then one_more x.spares else x.spares; dry = not found } else record x { pending = Idle; done = 0 }
+after_end found x = if is_taking x.pending then after_take found x else record x { pending = Idle; done = 0 }
 
 -- the block of an `allocate` leaves: from the current list, or from the newest spare where that list is empty
 abbrev pub after_took_one : Numbers → Numbers
-after_took_one x = if nat_lt 0 x.current then record x { current = x.current - 1 } else (if nat_lt 0 x.spares then record x { current = x.length - 1; spares = x.spares - 1 } else x)
+after_took_one x =
+    if nat_lt 0 x.current then record x { current = x.current - 1 }
+    else (if nat_lt 0 x.spares then record x { current = x.length - 1; spares = x.spares - 1 } else x)
 
 -- where that block comes from
 abbrev pub source_of : Numbers → Source
@@ -90,7 +110,9 @@ source_of x = if nat_lt 0 x.current then source.Current else (if nat_lt 0 x.spar
 
 -- the block of a `free` comes: to the current list, or to a fresh one where that list is full
 abbrev pub after_gave_one : Numbers → Numbers
-after_gave_one x = if nat_lt x.current x.length then record x { current = x.current + 1 } else record x { current = 1; spares = one_more x.spares }
+after_gave_one x =
+    if nat_lt x.current x.length then record x { current = x.current + 1 }
+    else record x { current = 1; spares = one_more x.spares }
 
 -- where that block goes
 abbrev pub target_of : Numbers → Target

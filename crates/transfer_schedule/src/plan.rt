@@ -1,6 +1,7 @@
 // The plan of one process.
 ghost use Rattle.std.specs.Prelude.{◌≡◌, ◌≢◌, ◌↔◌, ◌+◌, ◌-◌, ◌*◌, ◌<◌, ◌≤◌, IsTrue};
-ghost use Rattle.transfer_schedule.specs.Numbers.{opening, MayBegin, after_begin, after_choice, after_steps, after_end, after_took_one, source_of, after_gave_one, target_of, stock, kept, withheld};
+ghost use Rattle.transfer_schedule.specs.Numbers.{opening, due, after_begin, after_choice, after_steps, after_end, after_took_one, source_of, after_gave_one, target_of, stock, kept, withheld};
+ghost use Rattle.transfer_schedule.specs.Beginning.{MayBegin, may_begin, few_spares, many_spares};
 ghost use Rattle.transfer_schedule.specs.Table.{InTable};
 ghost use Rattle.transfer_schedule.specs.Calls.{Fits, ready_for, after_call, own_answer, FitAll, after_calls, EndWithin, EndsEmpty, EachMoment, RefusesOnlyDry};
 
@@ -65,6 +66,12 @@ impl Model for Plan {
 }
 
 impl Plan {
+    /// With at most so many spares a take is due.
+    const FEW_SPARES: u32 = 1;
+
+    /// With so many spares a give is due.
+    const MANY_SPARES: u32 = 3;
+
     /// The plan of a pool at its opening: a full current list and one spare, with nothing pending.
     ///
     /// A batch has `length` blocks. A transfer takes at most `bound` steps, of which a call makes at most
@@ -134,6 +141,35 @@ impl Plan {
         self.dry
     }
 
+    /// What is due as a call begins: where nothing is pending, a take with at most one spare, and a give of
+    /// the newest one with three.
+    pub fn due(&self) -> Pending
+        ensures { result ≡ due self.now }
+    {
+        if self.pending != Pending::Idle {
+            Pending::Idle
+        } else if self.spares <= Plan::FEW_SPARES {
+            Pending::Taking
+        } else if self.spares == Plan::MANY_SPARES {
+            Pending::Giving
+        } else {
+            Pending::Idle
+        }
+    }
+
+    /// Whether a transfer may begin, also outside any call: a take with at most one spare, a give with one at
+    /// least.
+    pub fn may_begin(&self, wish: Pending) -> bool
+        ensures value { result ≡ may_begin wish self.now.spares }
+        ensures may { IsTrue result ↔ MayBegin wish self.now.spares }
+    {
+        match wish {
+            Pending::Idle => false,
+            Pending::Taking => self.spares <= Plan::FEW_SPARES,
+            Pending::Giving => self.spares >= 1,
+        }
+    }
+
     /// Begins a transfer outside the rule of [`Plan::before_call`]. The batch of a give leaves the spares.
     pub fn begin(&mut self, wish: Pending)
         requires idle { self.old.pending ≡ Pending.Idle }
@@ -149,23 +185,20 @@ impl Plan {
 
     /// Begins the transfer that is due as a call begins, and answers what is pending then.
     ///
-    /// Where nothing is pending, at most one spare begins a take and three begin a give of the newest one.
+    /// Where nothing is pending, few spares begin a take and many begin a give of the newest one.
     pub fn before_call(&mut self) -> Pending
         ensures numbers { self.new ≡ after_choice self.old }
         ensures pending { result ≡ self.new.pending }
 
         // What is begun, where nothing was pending.
         ensures take { self.old.pending ≡ Pending.Idle
-            → ((result ≡ Pending.Taking) ↔ (self.old.spares ≤ 1)) }
+            → ((result ≡ Pending.Taking) ↔ (self.old.spares ≤ few_spares)) }
         ensures give { self.old.pending ≡ Pending.Idle
-            → ((result ≡ Pending.Giving) ↔ (self.old.spares ≡ 3)) }
+            → ((result ≡ Pending.Giving) ↔ (self.old.spares ≡ many_spares)) }
     {
-        if self.pending == Pending::Idle {
-            if self.spares <= 1 {
-                self.begin(Pending::Taking);
-            } else if self.spares == 3 {
-                self.begin(Pending::Giving);
-            }
+        let wish = self.due();
+        if wish != Pending::Idle {
+            self.begin(wish);
         }
         self.pending
     }

@@ -183,3 +183,17 @@ fn whole_calls_run(rt: HostRuntime) {
     let plan = Plan::after(4, 31, 8, &[]);
     assert_eq!(rt; plan, Plan::open(1));
 }
+
+#[test]
+fn what_may_begin_at_the_opening(rt: HostRuntime) {
+    let plan = Plan::open(1);
+    assert_eq!(rt; plan.due(), Pending::Taking);
+    let cases = [
+        (Pending::Idle, false),
+        (Pending::Taking, true),
+        (Pending::Giving, true),
+    ];
+    for (wish, may) in cases {
+        assert_eq!(rt; plan.may_begin(wish), may);
+    }
+}

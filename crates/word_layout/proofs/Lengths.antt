@@ -4,7 +4,7 @@ use Rattle.std.proofs.Math.Nat.{mul-le-mul_right}
 use Rattle.std.proofs.lemmas.Bool.{cases_lt}
 use Rattle.std.proofs.lemmas.Grind.{div_ceil_times}
 use Rattle.std.specs.Int.{div_ceil}
-use Rattle.word_layout.specs.Sizes.{IsLength}
+use Rattle.word_layout.specs.Sizes.{IsLength, transfer_steps}
 
 -- nothing below a quotient that was rounded up is enough
 least_quotient : (bound q d n : ℕ) → d * q < bound + q → bound ≤ q * n → d ≤ n
@@ -15,12 +15,12 @@ least_quotient bound q d n low h =
     ]
 
 -- the quotient that was rounded up is the least number that is enough
-pub quotient_is_length : (processes q l : ℕ) → 1 ≤ q → l ≡ div_ceil (16 * processes + 15) q → IsLength processes q l
+pub quotient_is_length : (processes q l : ℕ) → 1 ≤ q → l ≡ div_ceil (transfer_steps processes) q → IsLength processes q l
 quotient_is_length processes q l some is =
-    let bounds = div_ceil_times (16 * processes + 15) q (omega arith) in
+    let bounds = div_ceil_times (transfer_steps processes) q (omega arith) in
     record {
       enough = rw is (omega (arith, bounds.0));
-      least = λ n h. rw is (least_quotient (16 * processes + 15) q (div_ceil (16 * processes + 15) q) n bounds.1 h);
+      least = λ n h. rw is (least_quotient (transfer_steps processes) q (div_ceil (transfer_steps processes) q) n bounds.1 h);
     }
 
 -- there is one such number

@@ -19,12 +19,16 @@ place_below sizes (Slot slot) h = omega arith
 place_below sizes (Next block) h = omega arith
 place_below sizes (Data block index) h = omega (arith, mul-add-lt block sizes.words index (blocks sizes) h.0 h.1)
 
+-- the name of a record's word, counted from the first record's first
+abbrev record_word_name : Sizes → ℕ → WordName
+record_word_name sizes at = RecordWord (at / record_words sizes) (at % record_words sizes)
+
 -- the name of a place
 unfoldable pub name_at : Sizes → ℕ → WordName
 name_at sizes n =
     cond (eqb n 0) State
     (cond (ltb n (1 + sizes.processes)) (Announcement (n - 1))
-    (cond (ltb n (slots_start sizes)) (RecordWord ((n - (1 + sizes.processes)) / record_words sizes) ((n - (1 + sizes.processes)) % record_words sizes))
+    (cond (ltb n (slots_start sizes)) (record_word_name sizes (n - (1 + sizes.processes)))
     (cond (ltb n (nexts_start sizes)) (Slot (n - slots_start sizes))
     (cond (ltb n (data_start sizes)) (Next (n - nexts_start sizes))
     (Data ((n - data_start sizes) / sizes.words) ((n - data_start sizes) % sizes.words))))))
@@ -33,13 +37,24 @@ state_named : (sizes : Sizes) → name_at sizes (place sizes State) ≡ State
 unfolding place name_at
 state_named sizes = grind (arith, nat_tests)
 
-announcement_named : (sizes : Sizes) (process : ℕ) → process < sizes.processes → name_at sizes (place sizes (Announcement process)) ≡ Announcement process
+announcement_named : (sizes : Sizes) (process : ℕ)
+    → process < sizes.processes
+    → name_at sizes (place sizes (Announcement process)) ≡ Announcement process
 unfolding place name_at
 announcement_named sizes process h = grind (arith, nat_tests)
 
-record_word_named : (sizes : Sizes) (row index : ℕ) → row < records sizes → index < record_words sizes → name_at sizes (place sizes (RecordWord row index)) ≡ RecordWord row index
+record_word_named : (sizes : Sizes) (row index : ℕ)
+    → row < records sizes
+    → index < record_words sizes
+    → name_at sizes (place sizes (RecordWord row index)) ≡ RecordWord row index
 unfolding place name_at slots_start
-record_word_named sizes row index h k = grind (arith, nat_tests, mul-add-lt row (record_words sizes) index (records sizes) h k, div-mul-add row (record_words sizes) index k, mod-mul-add row (record_words sizes) index k)
+record_word_named sizes row index h k = grind (
+  arith,
+  nat_tests,
+  mul-add-lt row (record_words sizes) index (records sizes) h k,
+  div-mul-add row (record_words sizes) index k,
+  mod-mul-add row (record_words sizes) index k,
+)
 
 slot_named : (sizes : Sizes) (slot : ℕ) → slot < sizes.batches → name_at sizes (place sizes (Slot slot)) ≡ Slot slot
 unfolding place name_at nexts_start slots_start
@@ -49,9 +64,18 @@ next_named : (sizes : Sizes) (block : ℕ) → block < blocks sizes → name_at 
 unfolding place name_at data_start nexts_start slots_start
 next_named sizes block h = grind (arith, nat_tests)
 
-data_named : (sizes : Sizes) (block index : ℕ) → block < blocks sizes → index < sizes.words → name_at sizes (place sizes (Data block index)) ≡ Data block index
+data_named : (sizes : Sizes) (block index : ℕ)
+    → block < blocks sizes
+    → index < sizes.words
+    → name_at sizes (place sizes (Data block index)) ≡ Data block index
 unfolding place name_at data_start nexts_start slots_start
-data_named sizes block index h k = grind (arith, nat_tests, mul-add-lt block sizes.words index (blocks sizes) h k, div-mul-add block sizes.words index k, mod-mul-add block sizes.words index k)
+data_named sizes block index h k = grind (
+  arith,
+  nat_tests,
+  mul-add-lt block sizes.words index (blocks sizes) h k,
+  div-mul-add block sizes.words index k,
+  mod-mul-add block sizes.words index k,
+)
 
 -- the place of a name leads back to the name
 pub name_at-place : (sizes : Sizes) (name : WordName) → InRange sizes name → name_at sizes (place sizes name) ≡ name
@@ -71,14 +95,21 @@ pub places_apart : (sizes : Sizes) (x y : WordName) → InRange sizes x → InRa
 places_apart sizes x y hx hy apart e = apart (same_from_place sizes x y hx hy e)
 
 -- a word that was set is read
-pub word_at-set_word_same : (sizes : Sizes) (words : List ℕ) (name : WordName) (word : ℕ) → length words ≡ table_words sizes → InRange sizes name → word_at sizes (set_word sizes words name word) name ≡ word
+pub word_at-set_word_same : (sizes : Sizes) (words : List ℕ) (name : WordName) (word : ℕ)
+    → length words ≡ table_words sizes
+    → InRange sizes name
+    → word_at sizes (set_word sizes words name word) name ≡ word
 unfolding word_at set_word
 word_at-set_word_same sizes words name word whole h =
     let within : place sizes name < length words = omega (arith, place_below sizes name h) in
     get_or-set_same words (place sizes name) word 0 within
 
 -- and every other word stays
-pub word_at-set_word_other : (sizes : Sizes) (words : List ℕ) (name other : WordName) (word : ℕ) → InRange sizes name → InRange sizes other → other ≢ name → word_at sizes (set_word sizes words name word) other ≡ word_at sizes words other
+pub word_at-set_word_other : (sizes : Sizes) (words : List ℕ) (name other : WordName) (word : ℕ)
+    → InRange sizes name
+    → InRange sizes other
+    → other ≢ name
+    → word_at sizes (set_word sizes words name word) other ≡ word_at sizes words other
 unfolding word_at set_word
 word_at-set_word_other sizes words name other word h k apart =
     get_or-set_other words (place sizes name) (place sizes other) word 0 (places_apart sizes other name k h apart)
@@ -92,7 +123,10 @@ some_factor a b n h =
     ]
 
 -- n lies in the records: its name
-record_word_at : (sizes : Sizes) (n : ℕ) → 1 + sizes.processes ≤ n → n < slots_start sizes → (name : WordName) × InRange sizes name × (place sizes name ≡ n)
+record_word_at : (sizes : Sizes) (n : ℕ)
+    → 1 + sizes.processes ≤ n
+    → n < slots_start sizes
+    → (name : WordName) × InRange sizes name × (place sizes name ≡ n)
 unfolding place slots_start
 record_word_at sizes n low high =
     let at : ℕ = n - (1 + sizes.processes) in
@@ -103,7 +137,10 @@ record_word_at sizes n low high =
     )
 
 -- n lies past the next words: its name
-data_at : (sizes : Sizes) (n : ℕ) → data_start sizes ≤ n → n < table_words sizes → (name : WordName) × InRange sizes name × (place sizes name ≡ n)
+data_at : (sizes : Sizes) (n : ℕ)
+    → data_start sizes ≤ n
+    → n < table_words sizes
+    → (name : WordName) × InRange sizes name × (place sizes name ≡ n)
 unfolding place table_words
 data_at sizes n low high =
     let at : ℕ = n - data_start sizes in

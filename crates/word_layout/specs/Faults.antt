@@ -1,5 +1,5 @@
-use Rattle.std.specs.Prelude.{◌≡◌, ℕ, ◌*◌, ◌^◌, ◌<◌}
-use Rattle.word_layout.specs.Sizes.{IsQuantum, IsLength}
+use Rattle.std.specs.Prelude.{◌≡◌, ℕ, ◌*◌, ◌<◌}
+use Rattle.word_layout.specs.Sizes.{IsQuantum, IsLength, most_blocks}
 use Rattle.word_layout.specs.declared.fault.ShapeFault.{ShapeFault}
 use Rattle.word_layout.specs.declared.fault.ShapeFault.TheVariants.{NoProcess, ManyProcesses, FewBatches, BadQuantum, ManyBlocks, WideBlock}
 
@@ -19,7 +19,7 @@ HasFault processes batches words quantum ManyProcesses = 32 < processes
 HasFault processes batches words quantum FewBatches = batches < 2 * processes
 HasFault processes batches words quantum BadQuantum = ¬ IsQuantum quantum
 HasFault processes batches words quantum ManyBlocks =
-    (length : ℕ) × IsLength processes quantum length × (2 ^ 22 < batches * length)
+    (length : ℕ) × IsLength processes quantum length × (most_blocks < batches * length)
 HasFault processes batches words quantum WideBlock = 8 < words
 
 -- which fault is told where there are several: the quantum's stands before those of blocks and words

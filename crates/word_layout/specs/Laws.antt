@@ -3,7 +3,7 @@ use Rattle.std.specs.Prelude.{◌≡◌, ◌≢◌, ℕ, ◌+◌, ◌*◌, ◌^�
 use Rattle.word_layout.specs.Sizes.{Sizes, IsShape, IsLength, blocks}
 use Rattle.word_layout.specs.Faults.{HasFault, IsFirstFault}
 use Rattle.word_layout.specs.Names.{InRange, place, table_words, word_at, set_word}
-use Rattle.word_layout.specs.Packing.{tagged, tag_of, value_of, FitsAnnounced, announced_word, announced_of, FitsReply, reply_value, reply_of, is_odd_reply}
+use Rattle.word_layout.specs.Packing.{value_limit, tag_limit, tagged, tag_of, value_of, FitsAnnounced, announced_word, announced_of, FitsReply, reply_value, reply_of, is_odd_reply}
 use Rattle.word_layout.specs.declared.announced.Announced.{Announced}
 use Rattle.word_layout.specs.declared.fault.ShapeFault.{ShapeFault}
 use Rattle.word_layout.specs.declared.name.WordName.{WordName}
@@ -16,7 +16,10 @@ LengthIsOne = (processes quantum l m : ℕ) → IsLength processes quantum l →
 -- numbers that have a first fault have no other first fault
 abbrev pub FirstFaultIsOne : Type 0
 FirstFaultIsOne =
-    (processes batches words quantum : ℕ) (x y : ShapeFault) → IsFirstFault processes batches words quantum x → IsFirstFault processes batches words quantum y → x ≡ y
+    (processes batches words quantum : ℕ) (x y : ShapeFault)
+    → IsFirstFault processes batches words quantum x
+    → IsFirstFault processes batches words quantum y
+    → x ≡ y
 
 -- the numbers of a shape have no fault
 abbrev pub ShapesHaveNoFault : Type 0
@@ -46,20 +49,27 @@ PlacesHaveNames = (sizes : Sizes) (n : ℕ) → n < table_words sizes → (name 
 -- a word that is set at a name is read there
 abbrev pub SetWordIsRead : Type 0
 SetWordIsRead =
-    (sizes : Sizes) (words : List ℕ) (name : WordName) (word : ℕ) → length words ≡ table_words sizes → InRange sizes name → word_at sizes (set_word sizes words name word) name ≡ word
+    (sizes : Sizes) (words : List ℕ) (name : WordName) (word : ℕ)
+    → length words ≡ table_words sizes
+    → InRange sizes name
+    → word_at sizes (set_word sizes words name word) name ≡ word
 
 -- and at every other name the old word is read
 abbrev pub OtherWordsStay : Type 0
 OtherWordsStay =
-    (sizes : Sizes) (words : List ℕ) (name other : WordName) (word : ℕ) → InRange sizes name → InRange sizes other → other ≢ name → word_at sizes (set_word sizes words name word) other ≡ word_at sizes words other
+    (sizes : Sizes) (words : List ℕ) (name other : WordName) (word : ℕ)
+    → InRange sizes name
+    → InRange sizes other
+    → other ≢ name
+    → word_at sizes (set_word sizes words name word) other ≡ word_at sizes words other
 
 -- a tagged word fits 64 bits
 abbrev pub TaggedFits : Type 0
-TaggedFits = (tag value : ℕ) → tag < 2 ^ 40 → value < 2 ^ 24 → tagged tag value < 2 ^ 64
+TaggedFits = (tag value : ℕ) → tag < tag_limit → value < value_limit → tagged tag value < 2 ^ 64
 
 -- a tag and a value are read back
 abbrev pub TaggedReadsBack : Type 0
-TaggedReadsBack = (tag value : ℕ) → value < 2 ^ 24 → (tag_of (tagged tag value) ≡ tag) × (value_of (tagged tag value) ≡ value)
+TaggedReadsBack = (tag value : ℕ) → value < value_limit → (tag_of (tagged tag value) ≡ tag) × (value_of (tagged tag value) ≡ value)
 
 -- the word of an announcement fits 64 bits
 abbrev pub AnnouncedFits : Type 0
@@ -71,9 +81,11 @@ AnnouncedReadsBack = (announced : Announced) → FitsAnnounced announced → ann
 
 -- a reply is a value
 abbrev pub ReplyFits : Type 0
-ReplyFits = (odd : Bool) (reply : Reply) → FitsReply reply → reply_value odd reply < 2 ^ 24
+ReplyFits = (odd : Bool) (reply : Reply) → FitsReply reply → reply_value odd reply < value_limit
 
 -- a reply and its parity are read back
 abbrev pub ReplyReadsBack : Type 0
 ReplyReadsBack =
-    (odd : Bool) (reply : Reply) → FitsReply reply → (is_odd_reply (reply_value odd reply) ≡ odd) × (reply_of (reply_value odd reply) ≡ reply)
+    (odd : Bool) (reply : Reply)
+    → FitsReply reply
+    → (is_odd_reply (reply_value odd reply) ≡ odd) × (reply_of (reply_value odd reply) ≡ reply)

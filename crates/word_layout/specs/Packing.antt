@@ -1,21 +1,38 @@
 use Rattle.std.specs.Prelude.{ℕ, ◌+◌, ◌-◌, ◌*◌, ◌/◌, ◌%◌, ◌^◌, ◌<◌, ◌≤◌, zero, suc, Bool, ◌==◌, if◌then◌else◌}
+use Rattle.word_layout.specs.Sizes.{most_blocks}
 use Rattle.word_layout.specs.declared.announced.Announced.{Announced}
 use Rattle.word_layout.specs.declared.announced.Wish.{Wish}
 use Rattle.word_layout.specs.declared.announced.Wish.TheVariants.{Take, Give}
 use Rattle.word_layout.specs.declared.reply.Reply.{Reply}
 use Rattle.word_layout.specs.declared.reply.Reply.TheVariants.{Nothing, Took, Gave}
 
+-- a value is below this
+abbrev pub value_limit : ℕ
+value_limit = 2 ^ 24
+
+-- a tag is below this
+abbrev pub tag_limit : ℕ
+tag_limit = 2 ^ 40
+
+-- the number of a process's last transfer
+abbrev pub most_age : ℕ
+most_age = 2 ^ 32
+
+-- what an odd number adds to the value of a reply
+abbrev pub parity : ℕ
+parity = 2 ^ 23
+
 -- a tagged word
 unfoldable pub tagged : ℕ → ℕ → ℕ
-tagged tag value = tag * 2 ^ 24 + value
+tagged tag value = tag * value_limit + value
 
 -- the tag of a tagged word
 unfoldable pub tag_of : ℕ → ℕ
-tag_of word = word / 2 ^ 24
+tag_of word = word / value_limit
 
 -- the value of a tagged word
 unfoldable pub value_of : ℕ → ℕ
-value_of word = word % 2 ^ 24
+value_of word = word % value_limit
 
 -- the code of a wish: 0 for a take, the head plus 1 for a give
 abbrev pub wish_code : Wish → ℕ
@@ -27,14 +44,14 @@ abbrev pub wish_of : ℕ → Wish
 wish_of zero = Take
 wish_of (suc head) = Give head
 
--- a head is a block
+-- the head of a wish is a block
 abbrev pub FitsWish : Wish → Type 0
 FitsWish Take = Unit {0}
-FitsWish (Give head) = head < 2 ^ 22
+FitsWish (Give head) = head < most_blocks
 
 -- the number of a transfer and its head are within their limits
 abbrev pub FitsAnnounced : Announced → Type 0
-FitsAnnounced announced = (announced.number ≤ 2 ^ 32) × FitsWish announced.wish
+FitsAnnounced announced = (announced.number ≤ most_age) × FitsWish announced.wish
 
 -- the word of an announcement: the transfer's number is the tag
 abbrev pub announced_word : Announced → ℕ
@@ -46,7 +63,7 @@ announced_of word = record { number = tag_of word; wish = wish_of (value_of word
 
 -- the code of a give, above those of all heads
 abbrev pub gave_code : ℕ
-gave_code = 2 ^ 22 + 1
+gave_code = most_blocks + 1
 
 -- the code of a reply: 0 for nothing, the head plus 1 for a batch
 abbrev pub reply_code : Reply → ℕ
@@ -54,19 +71,19 @@ reply_code Nothing = 0
 reply_code (Took head) = head + 1
 reply_code Gave = gave_code
 
--- a head is a block
+-- the head of a reply is a block
 abbrev pub FitsReply : Reply → Type 0
 FitsReply Nothing = Unit {0}
-FitsReply (Took head) = head < 2 ^ 22
+FitsReply (Took head) = head < most_blocks
 FitsReply Gave = Unit {0}
 
 -- the value of a reply to a transfer with an odd or an even number
 unfoldable pub reply_value : Bool → Reply → ℕ
-reply_value odd reply = (if odd then 2 ^ 23 else 0) + reply_code reply
+reply_value odd reply = (if odd then parity else 0) + reply_code reply
 
 -- whether a value replies to a transfer with an odd number
 unfoldable pub is_odd_reply : ℕ → Bool
-is_odd_reply value = value / 2 ^ 23 % 2 == 1
+is_odd_reply value = value / parity % 2 == 1
 
 -- the reply of a code
 abbrev pub coded_reply : ℕ → Reply
@@ -74,4 +91,4 @@ coded_reply code = if code == 0 then Nothing else (if code == gave_code then Gav
 
 -- the reply of a value
 unfoldable pub reply_of : ℕ → Reply
-reply_of value = coded_reply (value % 2 ^ 23)
+reply_of value = coded_reply (value % parity)

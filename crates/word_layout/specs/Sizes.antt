@@ -1,4 +1,5 @@
 use Rattle.std.specs.Prelude.{◌≡◌, ℕ, ◌+◌, ◌*◌, ◌^◌, ◌≤◌, ◌⊎◌}
+use Rattle.pool_model.specs.Limits.{Limits}
 
 -- the numbers of a pool: its processes, its batches, the data words of a block, the quantum, the blocks of a batch
 pub record Sizes : Type 0 where
@@ -21,6 +22,10 @@ pub record IsLength (processes quantum length : ℕ) : Type 0 where
   pub enough : transfer_steps processes ≤ quantum * length
   pub least : (n : ℕ) → transfer_steps processes ≤ quantum * n → length ≤ n
 
+-- the most blocks of a pool
+abbrev pub most_blocks : ℕ
+most_blocks = 2 ^ 22
+
 -- how many blocks there are
 unfoldable pub blocks : Sizes → ℕ
 blocks sizes = sizes.batches * sizes.length
@@ -32,21 +37,13 @@ pub record IsShape (sizes : Sizes) : Type 0 where
   pub two_batches_each : 2 * sizes.processes ≤ sizes.batches
   pub a_quantum : IsQuantum sizes.quantum
   pub least_length : IsLength sizes.processes sizes.quantum sizes.length
-  pub few_blocks : blocks sizes ≤ 2 ^ 22
+  pub few_blocks : blocks sizes ≤ most_blocks
   pub few_words : sizes.words ≤ 8
 
--- a refused call has had a moment with at most so many unheld blocks
-unfoldable pub slack : Sizes → ℕ
-slack sizes = 5 * (sizes.processes * sizes.length)
-
--- and that moment lies within its caller's last so many calls
-abbrev pub window : Sizes → ℕ
-window sizes = 2 * sizes.length
+-- the numbers by which a history of the pool is judged: its slack and its windows follow from them
+abbrev pub limits_of : Sizes → Limits
+limits_of sizes = record { processes = sizes.processes; blocks = blocks sizes; batch_length = sizes.length }
 
 -- a transfer takes at most so many steps
 abbrev pub transfer_bound : Sizes → ℕ
 transfer_bound sizes = transfer_steps sizes.processes
-
--- a call takes at most so many steps
-abbrev pub call_bound : Sizes → ℕ
-call_bound sizes = sizes.quantum + 1

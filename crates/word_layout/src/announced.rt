@@ -1,6 +1,7 @@
 // What a process announces.
-ghost use Rattle.std.specs.Prelude.{◌≡◌, ◌^◌, ◌<◌};
+ghost use Rattle.std.specs.Prelude.{◌≡◌, ◌↔◌, IsTrue};
 
+use crate::shape::Shape;
 use crate::tagged::Tagged;
 
 /// What a transfer is to do.
@@ -10,6 +11,20 @@ pub enum Wish {
     Take,
     /// Give the batch with this head to the shared stack.
     Give(u32),
+}
+
+impl Wish {
+    ghost use Rattle.word_layout.specs.Packing.{FitsWish};
+
+    /// Whether the wish's head is a block of some pool.
+    pub fn fits(&self) -> bool
+        ensures { IsTrue result ↔ FitsWish self.now }
+    {
+        match self {
+            Wish::Take => true,
+            Wish::Give(head) => *head < Shape::MOST_BLOCKS,
+        }
+    }
 }
 
 /// An announcement: which transfer of its process it is, and what it is to do. Process and helpers learn a
@@ -23,6 +38,9 @@ pub struct Announced {
 
 impl Announced {
     ghost use Rattle.word_layout.specs.Packing.{announced_word, announced_of, FitsAnnounced};
+
+    /// The number of a process's last transfer.
+    pub const MOST_AGE: u64 = 1 << 32;
 
     /// The word of an announcement.
     pub fn pack(&self) -> u64

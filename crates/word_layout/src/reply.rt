@@ -1,5 +1,7 @@
 // What a transfer is answered.
-ghost use Rattle.std.specs.Prelude.{◌≡◌, ◌^◌, ◌<◌};
+ghost use Rattle.std.specs.Prelude.{◌≡◌, ◌<◌, ◌↔◌, IsTrue};
+
+use crate::shape::Shape;
 
 /// How the last applied transfer of a process was answered.
 #[derive(Clone, Copy, Debug, PartialEq, Eq, Hash)]
@@ -13,13 +15,23 @@ pub enum Reply {
 }
 
 impl Reply {
-    ghost use Rattle.word_layout.specs.Packing.{reply_value, reply_of, FitsReply, is_odd_reply};
+    ghost use Rattle.word_layout.specs.Packing.{value_limit, reply_value, reply_of, FitsReply, is_odd_reply};
 
     /// What an odd number adds to the value of a reply.
     const PARITY: u32 = 1 << 23;
 
     /// The code of a give: one more than that of the last head.
-    const GAVE: u32 = (1 << 22) + 1;
+    const GAVE: u32 = Shape::MOST_BLOCKS + 1;
+
+    /// Whether the reply's head is a block of some pool.
+    pub fn fits(&self) -> bool
+        ensures { IsTrue result ↔ FitsReply self.now }
+    {
+        match self {
+            Reply::Took(head) => *head < Shape::MOST_BLOCKS,
+            Reply::Nothing | Reply::Gave => true,
+        }
+    }
 
     /// The value of a reply. `odd` says whether the number of the transfer is odd, so that a helper sees
     /// whether an announcement was applied already.
@@ -27,7 +39,7 @@ impl Reply {
     pub fn pack(&self, odd: bool) -> u32
         requires { FitsReply self.now }
         ensures value { result ≡ reply_value odd self.now }
-        ensures small { result < 2 ^ 24 }
+        ensures small { result < value_limit }
     {
         let code = match self {
             Reply::Nothing => 0,

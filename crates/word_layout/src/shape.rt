@@ -1,6 +1,6 @@
 // The numbers of a pool.
 ghost use Rattle.std.specs.Prelude.{◌≡◌, ◌≤◌, ◌↔◌, IsTrue, IfOk, IfErr};
-ghost use Rattle.word_layout.specs.Sizes.{IsLength, IsQuantum};
+ghost use Rattle.word_layout.specs.Sizes.{IsLength, IsQuantum, transfer_steps};
 ghost use Rattle.word_layout.specs.Faults.{IsFirstFault};
 
 mod places;
@@ -23,21 +23,40 @@ impl Model for Shape {
 
     ghost Value = { Sizes };
 
-    ghost view = { λ shape. record { processes = shape.processes; batches = shape.batches; words = shape.words; quantum = shape.quantum; length = shape.length } };
+    ghost view = { λ shape. record {
+      processes = shape.processes;
+      batches = shape.batches;
+      words = shape.words;
+      quantum = shape.quantum;
+      length = shape.length;
+    } };
 
-    ghost invariant = { λ shape. IsShape (record { processes = shape.processes; batches = shape.batches; words = shape.words; quantum = shape.quantum; length = shape.length }) };
+    ghost invariant = { λ shape. IsShape (record {
+      processes = shape.processes;
+      batches = shape.batches;
+      words = shape.words;
+      quantum = shape.quantum;
+      length = shape.length;
+    }) };
 
-    ghost inverse = { λ sizes. record { processes = sizes.processes; batches = sizes.batches; words = sizes.words; quantum = sizes.quantum; length = sizes.length } };
+    ghost inverse = { λ sizes. record {
+      processes = sizes.processes;
+      batches = sizes.batches;
+      words = sizes.words;
+      quantum = sizes.quantum;
+      length = sizes.length;
+    } };
 }
 
 impl Shape {
-    ghost use Rattle.word_layout.specs.Sizes.{Sizes, IsShape, blocks, slack, transfer_bound};
+    ghost use Rattle.word_layout.specs.Sizes.{Sizes, IsShape, blocks, limits_of, transfer_bound};
+    ghost use Rattle.pool_model.specs.Limits.{slack};
 
     /// The most processes of a pool.
     const MOST_PROCESSES: u32 = 32;
 
     /// The most blocks of a pool.
-    const MOST_BLOCKS: u64 = 1 << 22;
+    pub const MOST_BLOCKS: u32 = 1 << 22;
 
     /// The most data words of a block.
     const MOST_WORDS: u32 = 8;
@@ -86,7 +105,7 @@ impl Shape {
         }
         let length = least_length(processes, quantum);
         let blocks = u64::from(batches) * u64::from(length);
-        if blocks > Shape::MOST_BLOCKS {
+        if blocks > u64::from(Shape::MOST_BLOCKS) {
             return Err(ShapeFault::ManyBlocks);
         }
         if words > Shape::MOST_WORDS {
@@ -151,18 +170,17 @@ impl Shape {
     }
 
     /// How many blocks may be unheld at most at some moment shortly before a refusal.
-    #[tactic(auto, unfolding(crate::specs::Sizes::slack))]
     pub fn slack(&self) -> u32
-        ensures { result ≡ slack self.now }
+        ensures { result ≡ slack (limits_of self.now) }
     {
-        5 * (self.processes * self.length)
+        5 * self.processes * self.length
     }
 
     /// How many steps a transfer takes at most.
     pub fn transfer_bound(&self) -> u32
         ensures { result ≡ transfer_bound self.now }
     {
-        16 * self.processes + 15
+        transfer_steps(self.processes)
     }
 }
 
@@ -173,7 +191,15 @@ fn least_length(processes: u32, quantum: u32) -> u32
     requires some_step { 1 ≤ quantum }
     ensures { IsLength processes quantum result }
 {
-    (16 * processes + 15).div_ceil(quantum)
+    transfer_steps(processes).div_ceil(quantum)
+}
+
+/// How many steps a transfer among so many processes takes at most.
+fn transfer_steps(processes: u32) -> u32
+    requires { processes ≤ 32 }
+    ensures { result ≡ transfer_steps processes }
+{
+    16 * processes + 15
 }
 
 /// Whether a call may have this quantum.

@@ -126,3 +126,15 @@ fn packed_words(rt: HostRuntime) {
         (8388645, 4194305)
     );
 }
+
+#[test]
+fn heads_that_fit(rt: HostRuntime) {
+    for (head, fits) in [(0, true), (4194303, true), (4194304, false)] {
+        assert_eq!(rt;
+            (Wish::Give(head).fits(), Reply::Took(head).fits()),
+            (fits, fits),
+            "{head}"
+        );
+    }
+    assert!(rt; Wish::Take.fits() && Reply::Nothing.fits() && Reply::Gave.fits());
+}

@@ -1,9 +1,8 @@
 use super::{event, whole_call};
-use crate::{CoreRun, Happened};
+use crate::{Call, CoreRun, Happened, Kind};
 use pool_model::Entry;
 use std::process::Abort;
 use std::test::Fail;
-use transfer_machine::{Call, Kind};
 use word_layout::{Shape, Wish};
 
 /// A whole allocate of a process: the block that it got, if any, and how many steps it made.

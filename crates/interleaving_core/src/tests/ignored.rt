@@ -1,10 +1,9 @@
 use super::{event, holder, whole_call, word};
-use crate::{CoreRun, Happened};
+use crate::{Call, CallView, CoreRun, Happened};
 use pool_model::NoMemory;
 use std::alloc::Global;
 use std::process::Abort;
 use std::test::Fail;
-use transfer_machine::{Call, CallView};
 use word_layout::{Shape, Wish};
 
 /// One turn of a process: a step of a transfer alone, or a step of a call.

@@ -1,10 +1,9 @@
 use super::{event, holder, next_number};
-use crate::{CoreRun, Event, Happened};
+use crate::{Call, CallStage, CoreRun, Event, Happened};
 use pool_model::Entry;
 use std::alloc::Global;
 use std::process::Abort;
 use std::test::Fail;
-use transfer_machine::{Call, CallStage};
 use word_layout::Shape;
 
 /// No pool here has more blocks.

@@ -1,6 +1,6 @@
 // The places of the words. Every call here is `place` at one name.
 ghost use Rattle.std.specs.Prelude.{◌≡◌, ◌+◌, ◌*◌, ◌<◌, ◌≤◌, ◌^◌};
-ghost use Rattle.word_layout.specs.Sizes.{blocks};
+ghost use Rattle.word_layout.specs.Sizes.{blocks, most_blocks};
 ghost use Rattle.word_layout.specs.Names.{place, InRange, table_words, records, record_words, slots_start, nexts_start, data_start};
 
 use crate::name::WordName;
@@ -117,7 +117,7 @@ impl Shape {
     fn nexts_start(&self) -> u32
         ensures start { result ≡ nexts_start self.now }
         ensures small { result < 2 ^ 22 }
-        ensures few_blocks { blocks self.now ≤ 2 ^ 22 }
+        ensures few_blocks { blocks self.now ≤ most_blocks }
     {
         self.slots_start() + self.batches
     }

@@ -2,7 +2,8 @@ use Rattle.chain_invariant.proofs.OwnChains.{quiet_chains, leaving_chains, spare
 use Rattle.chain_invariant.proofs.laws.own_steps.Goals as goal
 
 pub returns-clause-quiet : goal.returns-clause-quiet
-returns-clause-quiet c sizes words new s views after held i x li chains keeps moved stay = quiet_chains sizes words new s views after held i x li chains keeps moved stay
+returns-clause-quiet c sizes words new s views after held i x li chains keeps moved stay =
+    quiet_chains sizes words new s views after held i x li chains keeps moved stay
 
 pub returns-clause-leaving : goal.returns-clause-leaving
 returns-clause-leaving c sizes words new s views after held held_after i block x li chains leaves transfer moved stay gains =

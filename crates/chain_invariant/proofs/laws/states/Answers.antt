@@ -13,5 +13,6 @@ pub returns-clause-same : goal.returns-clause-same
 returns-clause-same c sizes words s t views held chains same = record {
   batch_blocks = chains.batch_blocks;
   current_blocks = chains.current_blocks;
-  hold = carried_chains sizes words s t views chains.batch_blocks chains.current_blocks held chains.hold (same_carried sizes s t views same);
+  hold = carried_chains sizes words s t views chains.batch_blocks chains.current_blocks held chains.hold
+      (same_carried sizes s t views same);
 }

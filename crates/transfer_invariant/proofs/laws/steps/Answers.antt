@@ -8,5 +8,10 @@ use Rattle.transfer_invariant.proofs.laws.steps.Goals as goal
 
 pub returns : goal.returns
 returns c sizes words new views after states i shape li inv fits acted moved =
-    let records = step_kept sizes words new views after states i (views i).next shape.few_processes li inv.records (inv.plans i li) fits refl acted moved in
-    record { records = records; plans = overlays_kept sizes views after i (words (name_of (action_of sizes (views i)))) li inv.plans moved; tags = tags_kept sizes words new views after states i (views i).next shape.few_processes li inv.records inv.tags fits refl acted moved }
+    let v = views i in
+    let few = shape.few_processes in
+    record {
+      records = step_kept sizes words new views after states i v.next few li inv.records (inv.plans i li) fits refl acted moved;
+      plans = overlays_kept sizes views after i (words (name_of (action_of sizes v))) li inv.plans moved;
+      tags = tags_kept sizes words new views after states i v.next few li inv.records inv.tags fits refl acted moved;
+    }

@@ -8,10 +8,15 @@ use Rattle.transfer_schedule.proofs.ShortTakes.{calls_short}
 use Rattle.transfer_schedule.proofs.plan.Plan.after.Goals as goal
 
 pub make_call-requires : goal.make_call-requires
-make_call-requires c = place_fits c.args.calls.now _ c.loop-call.plan c.loop-call.call-index _ c.requires.fit c.loop-call-test.true c.loop-call.invariant
+make_call-requires c =
+    place_fits c.args.calls.now _ c.loop-call.plan c.loop-call.call-index _ c.requires.fit c.loop-call-test.true c.loop-call.invariant
 
 rested : (c : goal.After-loop-call) → Rested c.args.length 0 0 (opening c.args.length c.args.bound c.args.quantum)
-rested c = opening_rested c.args.length c.args.bound c.args.quantum (record { long = c.requires.long; some = c.requires.some; soon = c.requires.soon })
+rested c = opening_rested c.args.length c.args.bound c.args.quantum (record {
+  long = c.requires.long;
+  some = c.requires.some;
+  soon = c.requires.soon;
+})
 
 at_end : (c : goal.After-loop-call) → c.loop-call.plan ≡ after_calls c.args.calls.now (opening c.args.length c.args.bound c.args.quantum)
 at_end c = grind (arith, common_steps)

@@ -5,7 +5,9 @@ use Rattle.word_layout.proofs.shape.Shape.with_quantum.Goals as goal
 pub invariant_of-result : goal.invariant_of-result
 invariant_of-result c =
     let a = c.args in
-    shape_is a.processes a.batches a.words a.quantum c.least_length-length.result (omega arith) (omega arith) (omega arith) (c.if-not-is_quantum.ensures.0 refl) c.least_length-length.ensures (grind arith) (omega arith)
+    let is_quantum = c.if-not-is_quantum.ensures.0 refl in
+    shape_is a.processes a.batches a.words a.quantum c.least_length-length.result (omega arith) (omega arith) (omega arith)
+    is_quantum c.least_length-length.ensures (grind arith) (omega arith)
 
 pub returns-clause-shape : goal.returns-clause-shape
 returns-clause-shape c = invariant_of-result c

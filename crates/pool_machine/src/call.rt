@@ -1,0 +1,65 @@
+// The calls of a process.
+ghost use Rattle.std.specs.Prelude.{◌≡◌};
+ghost use Rattle.pool_machine.specs.Pools.{opening_calls};
+
+/// What a process calls for.
+#[derive(Clone, Copy, Debug, PartialEq, Eq, Hash)]
+pub enum Call {
+    /// Get a block.
+    Allocate,
+    /// Give a held block back.
+    Free { block: u32 },
+    /// Load data word `index` of a held block.
+    Read { block: u32, index: u32 },
+    /// Store a value as data word `index` of a held block.
+    Write { block: u32, index: u32, value: u64 },
+}
+
+/// How a process has used its pool so far.
+#[derive(Clone, Copy, Debug, PartialEq, Eq, Hash)]
+pub enum Way {
+    /// It has begun nothing.
+    Fresh,
+    /// It has begun a transfer alone, outside any call.
+    Alone,
+    /// It has begun a call.
+    Calls,
+}
+
+/// Where a process stands in its call.
+#[derive(Clone, Copy, Debug, PartialEq, Eq, Hash)]
+pub enum CallStage {
+    /// In no call.
+    Between,
+    /// At a step of the pending transfer.
+    Moving,
+    /// At the own step of the call.
+    Own,
+}
+
+/// What a process keeps for its calls.
+#[derive(Clone, Copy, Debug, PartialEq, Eq, Hash)]
+pub struct CallView {
+    /// Where it stands in the call.
+    pub stage: CallStage,
+    /// The present call.
+    pub call: Option<Call>,
+    /// How many steps of the pending transfer the call has made.
+    pub steps: u32,
+    /// How the process has used its pool so far.
+    pub way: Way,
+}
+
+impl CallView {
+    /// The view of a process at the opening.
+    pub fn open() -> CallView
+        ensures { result ≡ opening_calls }
+    {
+        CallView {
+            stage: CallStage::Between,
+            call: None,
+            steps: 0,
+            way: Way::Fresh,
+        }
+    }
+}
