@@ -136,8 +136,8 @@ phases_here : (history : List Entry) (s : CoreState) → RunFits s history → (
 phases_here history s fits i li =
     let v = view_at s i in
     phase_fits s.sizes v v.calls.way v.calls.stage (is_rest v.transfer.next) refl refl refl
-        (fresh_rests s.sizes (word_at s.sizes s.words) (view_at s) history i li fits.meets)
-        (alone_between s.sizes (word_at s.sizes s.words) (view_at s) history i li fits.meets)
+    (fresh_rests s.sizes (word_at s.sizes s.words) (view_at s) history i li fits.meets)
+    (alone_between s.sizes (word_at s.sizes s.words) (view_at s) history i li fits.meets)
 
 pub phases_fit : PhasesFit
 phases_fit = every_run _ phases_here

@@ -1,6 +1,6 @@
 -- a call that has begun is answered
 use Rattle.std.proofs.Common.{◌≡◌, ◌≢◌, ℕ, ◌+◌, ◌<◌, ◌≤◌, ◌==◌, ◌⊎◌, Bool, true, false, List, [], ◌∷◌, refl, sym, ap, ◌∙◌, inl, inr, arith}
-use Rattle.std.specs.Prelude.{nat_lt, ◌&&◌, ◌||◌, if◌then◌else◌}
+use Rattle.std.specs.Prelude.{nat_lt, ◌&&◌, ◌||◌}
 use Rattle.std.proofs.lemmas.Bool.{cases_eq}
 use Rattle.std.proofs.lemmas.Bool.Decides.{nat_tests}
 use Rattle.word_layout.specs.Sizes.{Sizes}
@@ -62,7 +62,7 @@ inside_calls : (s : CoreState) (history : List Entry) (i : ℕ) → RunFits s hi
     → is_in_call (view_at s i).calls.stage ≡ true → (view_at s i).calls.way ≡ Calls
 inside_calls s history i fits li inside =
     sym (ap (λ x. x.calls.way) (inside_view Allocate (view_at s i) true inside refl))
-        ∙ (turn_calls history s i Allocate fits (in_call_made s i Allocate li inside)).way
+    ∙ (turn_calls history s i Allocate fits (in_call_made s i Allocate li inside)).way
 
 no_move : (s : CoreState) (i : ℕ) (wish : Wish) → (view_at s i).calls.way ≡ Calls → is_made (Moves i wish) s ≡ false
 no_move s i wish e = rw e (none_second (nat_lt i s.sizes.processes))
@@ -146,8 +146,8 @@ own_inside sizes i call more li later past history s run inside left =
       | inl told ↦ answered_first s i call more told
       | inr goes ↦ answered_later s i (Events i call) more
           (later _ _ (after_turn (Events i call) s) (turns past history s (Events i call) run) goes
-              (one_less (steps_left sizes.quantum (view_at (after_turn (Events i call) s) i).calls)
-                  (rw (events_own i call more) at left) less))
+          (one_less (steps_left sizes.quantum (view_at (after_turn (Events i call) s) i).calls)
+          (rw (events_own i call more) at left) less))
     ]
 
 -- and by any other turn none
@@ -155,10 +155,10 @@ other_inside : (sizes : Sizes) (i : ℕ) (turn : Turn) (more : List Turn) → i 
     → IsAnsweredInside sizes i more → IsAnsweredInside sizes i (turn ∷ more)
 other_inside sizes i turn more li none later past history s run inside left =
     let same = other_turn s history i turn (run_fits sizes past history s run)
-        (low_there sizes s i (shapes_stay sizes past history s run) li) inside none in
+    (low_there sizes s i (shapes_stay sizes past history s run) li) inside none in
     answered_later s i turn more
     (later _ _ (after_turn turn s) (turns past history s turn run) (ap (λ x. is_in_call x.calls.stage) same ∙ inside)
-        (rw same (rw (events_other i turn more none) at left)))
+    (rw same (rw (events_other i turn more none) at left)))
 
 none_left : (sizes : Sizes) (i : ℕ) → IsAnsweredInside sizes i []
 none_left sizes i past history s run inside left =
@@ -183,7 +183,7 @@ calls_are_answered sizes past history s run i call more between made many =
       | inl told ↦ answered_first s i call more told
       | inr goes ↦ answered_later s i (Events i call) more
           (inside_answered sizes i more li _ _ (after_turn (Events i call) s) (turns past history s (Events i call) run) goes
-              (all_left _ (most_moves sizes call) (events_of i more) first (rw (events_own i call more) at many)))
+          (all_left _ (most_moves sizes call) (events_of i more) first (rw (events_own i call more) at many)))
     ]
   where
     all_left : (left most events : ℕ) → left + 1 ≤ most + 1 → most + 1 ≤ 1 + events → left ≤ events

@@ -57,7 +57,7 @@ call_begins : (s : CoreState) (i : ℕ) (call : Call) → StandsBetween s.sizes 
 call_begins s i call stands names =
     let v = view_at s i in
     let young = both_are (nat_lt v.transfer.age most_age) (names_fit s.sizes (holds_for s.holders i call) call)
-        (is_less v.transfer.age most_age stands.young) names in
+    (is_less v.transfer.age most_age stands.young) names in
     let may = both_are (may_use_calls v.calls.way) _ (uses_calls v.calls.way stands.way) young in
     both_are (nat_lt i s.sizes.processes) _ (is_less i s.sizes.processes stands.low) (second_is (is_in_call v.calls.stage) _ may)
 
@@ -80,7 +80,7 @@ reads_here : (history : List Entry) (s : CoreState) → RunFits s history → (i
     → is_made (Events i (Read block index)) s ≡ true
 reads_here history s fits i block index stands holds within =
     call_begins s i (Read block index) stands
-        (both_are (is_holder i (holder_of s block)) (nat_lt index s.sizes.words) holds (is_less index s.sizes.words within))
+    (both_are (is_holder i (holder_of s block)) (nat_lt index s.sizes.words) holds (is_less index s.sizes.words within))
 
 pub reads_begin : laws.ReadsBegin
 reads_begin = every_run _ reads_here
@@ -90,7 +90,7 @@ writes_here : (history : List Entry) (s : CoreState) → RunFits s history → (
     → is_made (Events i (Write block index value)) s ≡ true
 writes_here history s fits i block index value stands holds within =
     call_begins s i (Write block index value) stands
-        (both_are (is_holder i (holder_of s block)) (nat_lt index s.sizes.words) holds (is_less index s.sizes.words within))
+    (both_are (is_holder i (holder_of s block)) (nat_lt index s.sizes.words) holds (is_less index s.sizes.words within))
 
 pub writes_begin : laws.WritesBegin
 writes_begin = every_run _ writes_here
@@ -103,7 +103,7 @@ transfer_begins s i wish stands may =
     let young = both_are (nat_lt v.transfer.age most_age) (may_wish wish v.pool) (is_less v.transfer.age most_age stands.young) may in
     let first = second_is (not (is_rest v.transfer.next)) _ young in
     both_are (nat_lt i s.sizes.processes) _ (is_less i s.sizes.processes stands.low)
-        (both_are (may_use_transfers v.calls.way) _ (uses_transfers v.calls.way stands.way) first)
+    (both_are (may_use_transfers v.calls.way) _ (uses_transfers v.calls.way stands.way) first)
 
 takes_here : (history : List Entry) (s : CoreState) → RunFits s history → (i : ℕ) → StandsAtRest s.sizes i s
     → (view_at s i).pool.plan.spares ≤ 1 → is_made (Moves i Take) s ≡ true
@@ -115,7 +115,7 @@ takes_begin = every_run _ takes_here
 gives_newest : (pool : PoolView) → length pool.heads ≡ pool.plan.spares → 1 ≤ pool.plan.spares → may_wish (Give (newest pool)) pool ≡ true
 gives_newest pool heads some =
     let one = both_are (may_begin Giving pool.plan.spares) (newest pool == newest pool) (is_most 1 pool.plan.spares some)
-        (same (newest pool)) in
+    (same (newest pool)) in
     both_are (nat_lt 0 (length pool.heads)) _ (is_less 0 (length pool.heads) (rw heads some)) one
   where
     same : (n : ℕ) → (n == n) ≡ true
