@@ -49,7 +49,8 @@ use Rattle.interleaving_core.proofs.Joins.{transfers, keeps, scheduled, same_led
 use Rattle.interleaving_core.proofs.Standing.{less, both_first, both_second, wish_fits_at, call_way, call_young, call_names, call_can}
 
 -- a fact of each process, once one has moved
-pub each_moved : (Fact : ℕ → ProcessView → Type 0) (p i : ℕ) (x : ProcessView) (views after : ProcessViews) → MovedProcess i x views after → Fact i x → ((o : ℕ) → o < p → Fact o (views o)) → (o : ℕ)
+pub each_moved : (Fact : ℕ → ProcessView → Type 0) (p i : ℕ) (x : ProcessView) (views after : ProcessViews) → MovedProcess i x views after
+    → Fact i x → ((o : ℕ) → o < p → Fact o (views o)) → (o : ℕ)
     → o < p → Fact o (after o)
 each_moved Fact p i x views after moved here h o lo = elim (cases_eq o i) [
   | inl e ↦ rw e (rw moved.here here)
@@ -61,7 +62,9 @@ begun_knows : (s : StackState) (i : ℕ) (wish : Wish) (t : TransferView) (ledge
 begun_knows s i wish t ledger announced = absurd (grind arith)
 
 -- a transfer begins alone
-pub alone_begins_at : (sizes : Sizes) (words : Words) (views after : ProcessViews) (history : List Entry) (ghosts : Ghosts) (i : ℕ) (wish : Wish) → IsShape sizes → i < sizes.processes
+pub alone_begins_at : (sizes : Sizes) (words : Words) (views after : ProcessViews) (history : List Entry) (ghosts : Ghosts) (i : ℕ)
+    (wish : Wish)
+    → IsShape sizes → i < sizes.processes
     → Holds sizes words views history ghosts
     → MayMove (views i) → (views i).transfer.next ≡ Rest → MayBegin wish (views i).pool → (views i).transfer.age < most_age
     → MovedProcess i (alone_begun wish (views i)) views after → Holds sizes words after history ghosts
@@ -70,29 +73,40 @@ alone_begins_at sizes words views after history ghosts i wish shape li h free re
     let s = ghosts.states (state_tag words) in
     let x = alone_begun wish v in
     record {
-      stack = beginnings_keep_stack sizes words (transfers views) (transfers after) ghosts.states i wish li h.stack rest (transfers_move i x views after moved);
+      stack =
+          beginnings_keep_stack sizes words (transfers views) (transfers after) ghosts.states i wish li h.stack rest
+          (transfers_move i x views after moved);
       chains = record {
         batch_blocks = h.chains.batch_blocks;
         current_blocks = h.chains.current_blocks;
-        hold = beginning_keeps sizes words s views after h.chains.batch_blocks h.chains.current_blocks (held_in ghosts.ledgers) i wish x li h.chains.hold rest begins
+        hold =
+            beginning_keeps sizes words s views after h.chains.batch_blocks h.chains.current_blocks (held_in ghosts.ledgers) i wish x li
+            h.chains.hold rest begins
             (record { transfer = refl; pool = refl }) moved;
       };
       pools = each_moved (λ o w. UsesPool sizes o w (ghosts.ledgers o)) sizes.processes i x views after moved
-          (uses_transfers sizes i x (ghosts.ledgers i) Alone refl (moves_alone sizes i v wish (ghosts.ledgers i) v.calls.way refl (h.pools i li) free rest begins young)) h.pools;
+          (uses_transfers sizes i x (ghosts.ledgers i) Alone refl
+              (moves_alone sizes i v wish (ghosts.ledgers i) v.calls.way refl (h.pools i li) free rest begins young)) h.pools;
       entries = h.entries;
-      empties = each_moved (λ o w. KnowsOfNothing s o w.transfer (ghosts.ledgers o)) sizes.processes i x views after moved (begun_knows s i wish v.transfer (ghosts.ledgers i)) h.empties;
-      names = each_moved (λ o w. NamesHeld sizes (held_in ghosts.ledgers o) w.calls.call) sizes.processes i x views after moved (h.names i li) h.names;
+      empties =
+          each_moved (λ o w. KnowsOfNothing s o w.transfer (ghosts.ledgers o)) sizes.processes i x views after moved
+          (begun_knows s i wish v.transfer (ghosts.ledgers i)) h.empties;
+      names =
+          each_moved (λ o w. NamesHeld sizes (held_in ghosts.ledgers o) w.calls.call) sizes.processes i x views after moved (h.names i li)
+          h.names;
       data_words = h.data_words;
     }
 
-pub alone_begins : (sizes : Sizes) (words : Words) (views after : ProcessViews) (history : List Entry) (i : ℕ) (wish : Wish) → IsShape sizes → i < sizes.processes → Meets sizes words views history
+pub alone_begins : (sizes : Sizes) (words : Words) (views after : ProcessViews) (history : List Entry) (i : ℕ) (wish : Wish) → IsShape sizes
+    → i < sizes.processes → Meets sizes words views history
     → (views i).transfer.next ≡ Rest → may_go_alone wish (views i) ≡ true
     → MovedProcess i (alone_begun wish (views i)) views after → Meets sizes words after history
 alone_begins sizes words views after history i wish shape li (ghosts, h) rest may moved =
     let v = views i in
     let tests : (may_use_transfers v.calls.way && (nat_lt v.transfer.age most_age && may_wish wish v.pool)) ≡ true = rw rest at may in
     let both = both_second (may_use_transfers v.calls.way) (nat_lt v.transfer.age most_age && may_wish wish v.pool) tests in
-    let fits = wish_fits_at sizes words views history ghosts i wish shape li h (both_second (nat_lt v.transfer.age most_age) (may_wish wish v.pool) both) in (
+    let fits = wish_fits_at sizes words views history ghosts i wish shape li h
+        (both_second (nat_lt v.transfer.age most_age) (may_wish wish v.pool) both) in (
       ghosts,
       alone_begins_at sizes words views after history ghosts i wish shape li h
           (by_way v.calls.way (both_first (may_use_transfers v.calls.way) (nat_lt v.transfer.age most_age && may_wish wish v.pool) tests))
@@ -132,9 +146,11 @@ call_named (Read block index) v = refl
 call_named (Write block index value) v = refl
 
 -- the stack, and what is known of an empty take, once that transfer is begun
-stack_begun : (sizes : Sizes) (words : Words) (views after : ProcessViews) (states : States) (i : ℕ) (x : ProcessView) (wish : Option Wish) → i < sizes.processes
+stack_begun : (sizes : Sizes) (words : Words) (views after : ProcessViews) (states : States) (i : ℕ) (x : ProcessView) (wish : Option Wish)
+    → i < sizes.processes
     → StackHolds sizes words (transfers views) states
-    → x.transfer ≡ (begun_if_due wish (views i)).transfer → ((w : Wish) → wish ≡ Some w → (views i).transfer.next ≡ Rest) → MovedProcess i x views after
+    → x.transfer ≡ (begun_if_due wish (views i)).transfer → ((w : Wish) → wish ≡ Some w → (views i).transfer.next ≡ Rest)
+    → MovedProcess i x views after
     → StackHolds sizes words (transfers after) states
 stack_begun sizes words views after states i x None li h e rests moved = rw (fun_ext stays) h
   where
@@ -144,34 +160,45 @@ stack_begun sizes words views after states i x None li h e rests moved = rw (fun
       | inr ne ↦ ap (λ v. v.transfer) (moved.elsewhere o ne)
     ]
 stack_begun sizes words views after states i x (Some wish) li h e rests moved =
-    beginnings_keep_stack sizes words (transfers views) (transfers after) states i wish li h (rests wish refl) (rw e at (transfers_move i x views after moved))
+    beginnings_keep_stack sizes words (transfers views) (transfers after) states i wish li h (rests wish refl)
+        (rw e at (transfers_move i x views after moved))
 
-knows_begun : (s : StackState) (i : ℕ) (wish : Option Wish) (v x : ProcessView) (old new : Ledger) → x.transfer ≡ (begun_if_due wish v).transfer → new.found_nothing ≡ old.found_nothing
+knows_begun : (s : StackState) (i : ℕ) (wish : Option Wish) (v x : ProcessView) (old new : Ledger)
+    → x.transfer ≡ (begun_if_due wish v).transfer → new.found_nothing ≡ old.found_nothing
     → KnowsOfNothing s i v.transfer old
     → KnowsOfNothing s i x.transfer new
 knows_begun s i None v x old new e found h = rw (e, found) h
 knows_begun s i (Some wish) v x old new e found h = rw e (begun_knows s i wish v.transfer new)
 
 -- what the call names is held
-block_named : (sizes : Sizes) (held : List ℕ) (holds : Bool) (call : Call) → names_fit sizes holds call ≡ true → (holds ≡ true → BlockIsHeld held call) → NamesHeld sizes held (Some call)
+block_named : (sizes : Sizes) (held : List ℕ) (holds : Bool) (call : Call) → names_fit sizes holds call ≡ true
+    → (holds ≡ true → BlockIsHeld held call) → NamesHeld sizes held (Some call)
 block_named sizes held holds Allocate fit is = tt
 block_named sizes held holds (Free block) fit is = is fit
-block_named sizes held holds (Read block index) fit is = (is (both_first holds (nat_lt index sizes.words) fit), less index sizes.words (both_second holds (nat_lt index sizes.words) fit))
-block_named sizes held holds (Write block index value) fit is = (is (both_first holds (nat_lt index sizes.words) fit), less index sizes.words (both_second holds (nat_lt index sizes.words) fit))
+block_named sizes held holds (Read block index) fit is =
+    (is (both_first holds (nat_lt index sizes.words) fit), less index sizes.words (both_second holds (nat_lt index sizes.words) fit))
+block_named sizes held holds (Write block index value) fit is =
+    (is (both_first holds (nat_lt index sizes.words) fit), less index sizes.words (both_second holds (nat_lt index sizes.words) fit))
 
-named_so : (sizes : Sizes) (old new : List ℕ) (call : Call) (called : Option Call) → new ≡ old → called ≡ Some call → NamesHeld sizes old (Some call) → NamesHeld sizes new called
-named_so sizes old new call called e is named = subst (λ held. NamesHeld sizes held called) (sym e) (subst (NamesHeld sizes old) (sym is) named)
+named_so : (sizes : Sizes) (old new : List ℕ) (call : Call) (called : Option Call) → new ≡ old → called ≡ Some call
+    → NamesHeld sizes old (Some call) → NamesHeld sizes new called
+named_so sizes old new call called e is named =
+    subst (λ held. NamesHeld sizes held called) (sym e) (subst (NamesHeld sizes old) (sym is) named)
 
 -- a ledger with the same entries says the same of the held blocks
-pub held_stays : (i : ℕ) (ledger : Ledger) (ledgers : Ledgers) → ledger.entries ≡ (ledgers i).entries → (o : ℕ) → held_in (with_ledger i ledger ledgers) o ≡ held_in ledgers o
+pub held_stays : (i : ℕ) (ledger : Ledger) (ledgers : Ledgers) → ledger.entries ≡ (ledgers i).entries → (o : ℕ)
+    → held_in (with_ledger i ledger ledgers) o ≡ held_in ledgers o
 held_stays i ledger ledgers e o = elim (cases_eq o i) [
   | inl is ↦ rw is (ap (λ l. grip l.entries) (replaced_with i ledger ledgers).here ∙ ap grip e)
   | inr ne ↦ ap (λ l. grip l.entries) ((replaced_with i ledger ledgers).elsewhere o ne)
 ]
 
 -- a fact of each process with its ledger, once one has moved with its ledger
-pub each_moved_with : (Fact : ℕ → ProcessView → Ledger → Type 0) (p i : ℕ) (x : ProcessView) (ledger : Ledger) (views after : ProcessViews) (ledgers : Ledgers) → MovedProcess i x views after
-    → Fact i x ledger → ((o : ℕ) → o < p → Fact o (views o) (ledgers o)) → (o : ℕ) → o < p → Fact o (after o) (with_ledger i ledger ledgers o)
+pub each_moved_with : (Fact : ℕ → ProcessView → Ledger → Type 0) (p i : ℕ) (x : ProcessView) (ledger : Ledger) (views after : ProcessViews)
+    (ledgers : Ledgers)
+    → MovedProcess i x views after
+    → Fact i x ledger → ((o : ℕ) → o < p → Fact o (views o) (ledgers o)) → (o : ℕ) → o < p
+    → Fact o (after o) (with_ledger i ledger ledgers o)
 each_moved_with Fact p i x ledger views after ledgers moved here h o lo = elim (cases_eq o i) [
   | inl e ↦ rw e (rw (moved.here, (replaced_with i ledger ledgers).here) here)
   | inr ne ↦ rw (moved.elsewhere o ne, (replaced_with i ledger ledgers).elsewhere o ne) (h o lo)
@@ -184,7 +211,8 @@ pub record CallGoes (sizes : Sizes) (history : List Entry) (i : ℕ) (x : Proces
   pub calls : InCalls sizes i x ledger
   pub goes_on : HistoryHolds (limits_of sizes) (transfer_bound sizes) sizes.quantum history (with_ledger i ledger ledgers)
 
-pub call_goes : (sizes : Sizes) (history : List Entry) (i : ℕ) (v : ProcessView) (ledgers : Ledgers) (call : Call) (t : Bool) → changes_pool (Some call) ≡ t → i < sizes.processes
+pub call_goes : (sizes : Sizes) (history : List Entry) (i : ℕ) (v : ProcessView) (ledgers : Ledgers) (call : Call) (t : Bool)
+    → changes_pool (Some call) ≡ t → i < sizes.processes
     → HistoryHolds (limits_of sizes) (transfer_bound sizes) sizes.quantum history ledgers
     → Scheduled sizes (ledgers i).account → InCalls sizes i v (ledgers i) → v.calls.stage ≡ Between → v.transfer.age < most_age
     → CallGoes sizes history i (call_begun call v) ledgers (ledger_begun call (ledgers i))
@@ -195,7 +223,8 @@ call_goes sizes history i v ledgers call true changes li h s calls between young
       entries = begun_entries call (ledgers i);
       found = begun_found call (ledgers i);
       calls = carries.calls;
-      goes_on = step_kept (limits_of sizes) (transfer_bound sizes) sizes.quantum history ledgers (with_ledger i ledger ledgers) i ledger li h
+      goes_on =
+          step_kept (limits_of sizes) (transfer_bound sizes) sizes.quantum history ledgers (with_ledger i ledger ledgers) i ledger li h
           (going_fits (limits_of sizes) (transfer_bound sizes) sizes.quantum history i (ledgers i) ledger s.fit (h.each i li) carries.goes)
           (going_sees (ledgers i) ledger carries.goes) (replaced_with i ledger ledgers);
     }
@@ -216,13 +245,18 @@ call_goes sizes history i v ledgers call false keeps li h s calls between young 
     stays : (x : ProcessView) → InCalls sizes i x (ledgers i) → CallGoes sizes history i x ledgers (ledgers i)
     stays x same = record { entries = refl; found = refl; calls = same; goes_on = rw (same_ledgers i ledgers) h }
 
-    by_call : (call : Call) → changes_pool (Some call) ≡ false → CallGoes sizes history i (call_begun call v) ledgers (ledger_begun call (ledgers i))
+    by_call : (call : Call) → changes_pool (Some call) ≡ false
+        → CallGoes sizes history i (call_begun call v) ledgers (ledger_begun call (ledgers i))
     by_call Allocate e = absurd (grind arith)
     by_call (Free block) e = absurd (grind arith)
-    by_call (Read block index) e = stays (call_begun (Read block index) v) (keeping_call_begins sizes i v (ledgers i) (Read block index) e between calls)
-    by_call (Write block index value) e = stays (call_begun (Write block index value) v) (keeping_call_begins sizes i v (ledgers i) (Write block index value) e between calls)
+    by_call (Read block index) e =
+        stays (call_begun (Read block index) v) (keeping_call_begins sizes i v (ledgers i) (Read block index) e between calls)
+    by_call (Write block index value) e =
+        stays (call_begun (Write block index value) v) (keeping_call_begins sizes i v (ledgers i) (Write block index value) e between calls)
 
-pub call_begins_at : (sizes : Sizes) (words : Words) (views after : ProcessViews) (history : List Entry) (ghosts : Ghosts) (i : ℕ) (call : Call) → IsShape sizes → i < sizes.processes
+pub call_begins_at : (sizes : Sizes) (words : Words) (views after : ProcessViews) (history : List Entry) (ghosts : Ghosts) (i : ℕ)
+    (call : Call)
+    → IsShape sizes → i < sizes.processes
     → Holds sizes words views history ghosts
     → (views i).transfer.age < most_age → NamesHeld sizes (held_in ghosts.ledgers i) (Some call)
     → CallGoes sizes history i (call_begun call (views i)) ghosts.ledgers (ledger_begun call (ghosts.ledgers i))
@@ -238,20 +272,27 @@ call_begins_at sizes words views after history ghosts i call shape li h young na
     let can = call_can sizes words views history ghosts i shape li h young in
     let kept = keeps sizes words views history ghosts i shape li h in
     record {
-      stack = stack_begun sizes words views after ghosts.states i x (call_wish call v) li h.stack (call_transfer call v) (λ w e. (due_begins sizes v w kept (call_wish_due call v w e)).0) moved;
+      stack =
+          stack_begun sizes words views after ghosts.states i x (call_wish call v) li h.stack (call_transfer call v)
+          (λ w e. (due_begins sizes v w kept (call_wish_due call v w e)).0) moved;
       chains = chains.held_same sizes words s after (held_in ledgers) (held_in (with_ledger i ledger ledgers))
-          (chains.call_begins sizes words s views after (held_in ledgers) i x li h.chains can moved call (record { transfer = refl; pool = refl })) (λ o lo. held_same o);
-      pools = each_moved_with (λ o w l. UsesPool sizes o w l) sizes.processes i x ledger views after ledgers moved (uses_calls sizes i x ledger x.calls.way goes.calls.way goes.calls) h.pools;
+          (chains.call_begins sizes words s views after (held_in ledgers) i x li h.chains can moved call
+              (record { transfer = refl; pool = refl })) (λ o lo. held_same o);
+      pools =
+          each_moved_with (λ o w l. UsesPool sizes o w l) sizes.processes i x ledger views after ledgers moved
+          (uses_calls sizes i x ledger x.calls.way goes.calls.way goes.calls) h.pools;
       entries = goes.goes_on;
       empties = each_moved_with (λ o w l. KnowsOfNothing s o w.transfer l) sizes.processes i x ledger views after ledgers moved
           (knows_begun s i (call_wish call v) v x (ledgers i) ledger (call_transfer call v) goes.found (h.empties i li)) h.empties;
       names = each_moved_with (λ o w l. NamesHeld sizes (grip l.entries) w.calls.call) sizes.processes i x ledger views after ledgers moved
-          (named_so sizes (held_in ledgers i) (grip ledger.entries) call x.calls.call (ap grip goes.entries) (call_named call v) named) h.names;
+          (named_so sizes (held_in ledgers i) (grip ledger.entries) call x.calls.call (ap grip goes.entries) (call_named call v) named)
+              h.names;
       data_words = λ o lo. rw (held_same o) (h.data_words o lo);
     }
 
 -- a call begins
-pub call_begins : (sizes : Sizes) (words : Words) (views after : ProcessViews) (history : List Entry) (i : ℕ) (call : Call) (holds : Bool) → IsShape sizes → i < sizes.processes
+pub call_begins : (sizes : Sizes) (words : Words) (views after : ProcessViews) (history : List Entry) (i : ℕ) (call : Call) (holds : Bool)
+    → IsShape sizes → i < sizes.processes
     → Meets sizes words views history → (views i).calls.stage ≡ Between → may_call sizes holds call (views i) ≡ true
     → (holds ≡ true → BlockIsHeld (grip (own history i)) call)
     → MovedProcess i (call_begun call (views i)) views after → Meets sizes words after history
@@ -265,6 +306,7 @@ call_begins sizes words views after history i call holds shape li (ghosts, h) be
     let calls = calls_used sizes i v (ghosts.ledgers i) v.calls.way way (h.pools i li) in
     let s = scheduled sizes words views history ghosts i shape li h in (
       record ghosts { ledgers = with_ledger i ledger ghosts.ledgers },
-      call_begins_at sizes words views after history ghosts i call shape li h young (subst (λ entries. NamesHeld sizes (grip entries) (Some call)) mine named)
+      call_begins_at sizes words views after history ghosts i call shape li h young
+          (subst (λ entries. NamesHeld sizes (grip entries) (Some call)) mine named)
           (call_goes sizes history i v ghosts.ledgers call (changes_pool (Some call)) refl li h.entries s calls between young) moved,
     )

@@ -26,7 +26,8 @@ use Rattle.call_invariant.proofs.Uses.{idle_pool_rests}
 use Rattle.interleaving_core.specs.Moves.{CoreState, view_at}
 use Rattle.interleaving_core.specs.Runs.{Turn, Moves, Events, IsRun, turns, is_made, turning_view, after_turn, turn_answer, entries_of}
 use Rattle.interleaving_core.specs.Steps.{is_in_call, next_action}
-use Rattle.interleaving_core.specs.CallLaws.{IsIdle, HasPending, PendsSince, pends_first, pends_on, pends_still, pends_too, TransfersAreShort}
+use Rattle.interleaving_core.specs.CallLaws.{IsIdle, HasPending, PendsSince, pends_first, pends_on, pends_still, pends_too}
+use Rattle.interleaving_core.specs.CallLaws.{TransfersAreShort}
 use Rattle.interleaving_core.proofs.Joins.{keeps}
 use Rattle.interleaving_core.proofs.Tables.{between_calls}
 use Rattle.interleaving_core.proofs.Runs.{RunFits}
@@ -36,7 +37,8 @@ use Rattle.interleaving_core.proofs.CallLawsPending.{Aged, own_step_pending, beg
 use Rattle.interleaving_core.proofs.CallLawsTurns.{Calling, turn_calls, after_is, TurnsAge, turns_age, PendingMoves, pending_moves}
 
 -- the view with which a process turns has the age of its pending transfer
-turning_ages : (quantum n : ℕ) (v : ProcessView) (call : Call) (t : Bool) → is_in_call v.calls.stage ≡ t → is_idle v.pool.plan.pending ≡ false → Aged quantum n v → Aged quantum n (if t then v else call_begun call v)
+turning_ages : (quantum n : ℕ) (v : ProcessView) (call : Call) (t : Bool) → is_in_call v.calls.stage ≡ t
+    → is_idle v.pool.plan.pending ≡ false → Aged quantum n v → Aged quantum n (if t then v else call_begun call v)
 turning_ages quantum n v call true inside busy aged = aged
 turning_ages quantum n v call false inside busy aged = begun_ages quantum v n call (between_calls v.calls.stage inside) busy aged
 
@@ -54,12 +56,14 @@ not_idle p pends = elim (cases (is_idle p) refl) [
     idle_is p e = grind arith
 
 -- a turn with nothing pending leaves nothing pending, unless it begins a transfer
-idle_stays : (sizes : Sizes) (v : ProcessView) (word : ℕ) (stage : CallStage) → Calling v → v.calls.stage ≡ stage → v.pool.plan.pending ≡ Idle → (call_met_at sizes v word stage).pool.plan.pending ≡ Idle
+idle_stays : (sizes : Sizes) (v : ProcessView) (word : ℕ) (stage : CallStage) → Calling v → v.calls.stage ≡ stage
+    → v.pool.plan.pending ≡ Idle → (call_met_at sizes v word stage).pool.plan.pending ≡ Idle
 idle_stays sizes v word Between k e idle = idle
 idle_stays sizes v word Moving k e idle = absurd (k.busy e (k.rest idle))
 idle_stays sizes v word Own k e idle = own_step_pending sizes v word Own refl ∙ idle
 
-first_turn_ages : (quantum : ℕ) (v : ProcessView) (call : Call) (t : Bool) → is_in_call v.calls.stage ≡ t → v.pool.plan.pending ≡ Idle → v.pool.plan.done ≡ 0
+first_turn_ages : (quantum : ℕ) (v : ProcessView) (call : Call) (t : Bool) → is_in_call v.calls.stage ≡ t → v.pool.plan.pending ≡ Idle
+    → v.pool.plan.done ≡ 0
     → Aged quantum 0 (if t then v else call_begun call v) ⊎ ((if t then v else call_begun call v).pool.plan.pending ≡ Idle)
 first_turn_ages quantum v call true inside idle none = inr idle
 first_turn_ages quantum v call false inside idle none = elim (first_ages quantum v call idle none) [
@@ -83,7 +87,9 @@ rest_counts history s fits i li idle =
 
 -- the turn that begins a transfer
 abbrev pub FirstTurnsAge : Sizes → List Entry → CoreState → Type 0
-FirstTurnsAge sizes history s = (i : ℕ) (call : Call) → i < sizes.processes → is_made (Events i call) s ≡ true → IsIdle i s → HasPending i (after_turn (Events i call) s) → Aged sizes.quantum 0 (turning_view (Events i call) s)
+FirstTurnsAge sizes history s =
+    (i : ℕ) (call : Call) → i < sizes.processes → is_made (Events i call) s ≡ true → IsIdle i s → HasPending i
+    (after_turn (Events i call) s) → Aged sizes.quantum 0 (turning_view (Events i call) s)
 
 first_turns_age : (history : List Entry) (s : CoreState) → RunFits s history → FirstTurnsAge s.sizes history s
 first_turns_age history s fits i call li made idle pends =
@@ -93,7 +99,9 @@ first_turns_age history s fits i call li made idle pends =
     let k = turn_calls history s i call fits made in
     elim (first_turn_ages s.sizes.quantum v call (is_in_call v.calls.stage) refl idle (rest_counts history s fits i li idle)) [
       | inl aged ↦ aged
-      | inr rest ↦ absurd (pends (ap (λ y. y.pool.plan.pending) (after_is s history i call fits made k.calls) ∙ idle_stays s.sizes x word x.calls.stage k refl rest))
+      | inr rest ↦ absurd (pends
+          (ap (λ y. y.pool.plan.pending) (after_is s history i call fits made k.calls) ∙ idle_stays s.sizes x word x.calls.stage k refl
+          rest))
     ]
 
 -- a run in which process i has its transfer pending, of this age
@@ -106,7 +114,9 @@ pub record AgedRun (sizes : Sizes) (i n : ℕ) (t : CoreState) : Type 0 where
   pub aged : Aged sizes.quantum n (view_at t i)
 
 -- what a made turn of the process leads to
-made_ages : (sizes : Sizes) (past : List Turn) (history : List Entry) (s : CoreState) (i n : ℕ) (call : Call) → i < sizes.processes → IsRun sizes past history s → is_made (Events i call) s ≡ true → Aged sizes.quantum n (turning_view (Events i call) s) → HasPending i (after_turn (Events i call) s)
+made_ages : (sizes : Sizes) (past : List Turn) (history : List Entry) (s : CoreState) (i n : ℕ) (call : Call) → i < sizes.processes
+    → IsRun sizes past history s → is_made (Events i call) s ≡ true → Aged sizes.quantum n (turning_view (Events i call) s)
+    → HasPending i (after_turn (Events i call) s)
     → AgedRun sizes i (n + length (entries_of (turn_answer (Events i call) s))) (after_turn (Events i call) s)
 made_ages sizes past history s i n call li run made aged pends =
     let next = turns past history s (Events i call) run in
@@ -122,8 +132,11 @@ either false e = inr e
 ignored_answer : (s : CoreState) (turn : Turn) → is_made turn s ≡ false → turn_answer turn s ≡ Ignored
 ignored_answer s turn off = rw off refl
 
-no_entry : (sizes : Sizes) (i n : ℕ) (t : CoreState) (answer : Happened) → answer ≡ Ignored → AgedRun sizes i n t → AgedRun sizes i (n + length (entries_of answer)) t
-no_entry sizes i n t answer e r = record { past = r.past; history = r.history; run = r.run; way = r.way; pends = r.pends; aged = rw e (same sizes.quantum n (view_at t i).pool.plan.done _ r.aged) }
+no_entry : (sizes : Sizes) (i n : ℕ) (t : CoreState) (answer : Happened) → answer ≡ Ignored → AgedRun sizes i n t
+    → AgedRun sizes i (n + length (entries_of answer)) t
+no_entry sizes i n t answer e r =
+    record { past = r.past; history = r.history; run = r.run; way = r.way; pends = r.pends; aged = rw e
+    (same sizes.quantum n (view_at t i).pool.plan.done _ r.aged) }
   where
     same : (quantum n done made : ℕ) → done ≡ quantum * n + made → done ≡ quantum * (n + 0) + made
     same quantum n done made aged = omega (arith, aged)
@@ -139,24 +152,33 @@ from_none : (sizes : Sizes) (i n : ℕ) (t : CoreState) → AgedRun sizes i (0 +
 from_none sizes i n t r = let none : 0 + n ≡ n = omega arith in rw none at r
 
 -- so in any turns
-aged_run : (sizes : Sizes) (past : List Turn) (history : List Entry) (i : ℕ) (s : CoreState) (n : ℕ) (t : CoreState) → i < sizes.processes → IsRun sizes past history s → PendsSince i s n t → AgedRun sizes i n t
+aged_run : (sizes : Sizes) (past : List Turn) (history : List Entry) (i : ℕ) (s : CoreState) (n : ℕ) (t : CoreState) → i < sizes.processes
+    → IsRun sizes past history s → PendsSince i s n t → AgedRun sizes i n t
 aged_run sizes past history i s n t li run (pends_first call idle pends) = elim (either (is_made (Events i call) s) refl) [
-  | inl made ↦ from_none sizes i (length (entries_of (turn_answer (Events i call) s))) (after_turn (Events i call) s) (made_ages sizes past history s i 0 call li run made (every_run FirstTurnsAge first_turns_age sizes past history s run i call li made idle pends) pends)
+  | inl made ↦ from_none sizes i (length (entries_of (turn_answer (Events i call) s))) (after_turn (Events i call) s)
+      (made_ages sizes past history s i 0 call li run made
+      (every_run FirstTurnsAge first_turns_age sizes past history s run i call li made idle pends) pends)
   | inr off ↦ absurd (pends (ap (λ u. (view_at u i).pool.plan.pending) (ignored_state s (Events i call) off) ∙ idle))
 ]
 aged_run sizes past history i s n t li run (pends_on m old call since pends) =
     let r = aged_run sizes past history i s m old li run since in
     elim (either (is_made (Events i call) old) refl) [
-      | inl made ↦ made_ages sizes r.past r.history old i m call li r.run made (turning_ages sizes.quantum m (view_at old i) call (is_in_call (view_at old i).calls.stage) refl (not_idle (view_at old i).pool.plan.pending r.pends) r.aged) pends
-      | inr off ↦ no_entry sizes i m (after_turn (Events i call) old) (turn_answer (Events i call) old) (ignored_answer old (Events i call) off) (still_there sizes i m old (after_turn (Events i call) old) (ignored_state old (Events i call) off) r)
+      | inl made ↦ made_ages sizes r.past r.history old i m call li r.run made
+          (turning_ages sizes.quantum m (view_at old i) call (is_in_call (view_at old i).calls.stage) refl
+          (not_idle (view_at old i).pool.plan.pending r.pends) r.aged) pends
+      | inr off ↦ no_entry sizes i m (after_turn (Events i call) old) (turn_answer (Events i call) old)
+          (ignored_answer old (Events i call) off)
+          (still_there sizes i m old (after_turn (Events i call) old) (ignored_state old (Events i call) off) r)
     ]
 aged_run sizes past history i s n t li run (pends_still m old wish since) =
     let r = aged_run sizes past history i s m old li run since in
-    still_there sizes i m old (after_turn (Moves i wish) old) (ignored_state old (Moves i wish) (calls_no_transfer (nat_lt i old.sizes.processes) _ (view_at old i) r.way)) r
+    still_there sizes i m old (after_turn (Moves i wish) old)
+        (ignored_state old (Moves i wish) (calls_no_transfer (nat_lt i old.sizes.processes) _ (view_at old i) r.way)) r
 aged_run sizes past history i s n t li run (pends_too m old turn since ne) =
     let r = aged_run sizes past history i s m old li run since in
     let same = other_view old turn i (is_made turn old) ne in
-    record { past = _; history = _; run = turns r.past r.history old turn r.run; way = rw same r.way; pends = rw same r.pends; aged = rw same r.aged }
+    record { past = _; history = _; run = turns r.past r.history old turn r.run; way = rw same r.way; pends = rw same r.pends;
+        aged = rw same r.aged }
 
 pub transfers_are_short : TransfersAreShort
 transfers_are_short sizes past history s run i n t li since =

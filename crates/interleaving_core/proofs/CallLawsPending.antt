@@ -52,53 +52,68 @@ pool_ended_idle Nothing pool = ended_idle false pool.plan
 pool_ended_idle (Took head) pool = ended_idle true pool.plan
 pool_ended_idle Gave pool = ended_idle true pool.plan
 
-step_counts : (word : ℕ) (pool : PoolView) (s : NextStep) → s ≢ Rest → (pool_met_at word pool s).plan.pending ≢ Idle → (pool_met_at word pool s).plan.done ≡ pool.plan.done + 1
+step_counts : (word : ℕ) (pool : PoolView) (s : NextStep) → s ≢ Rest → (pool_met_at word pool s).plan.pending ≢ Idle
+    → (pool_met_at word pool s).plan.done ≡ pool.plan.done + 1
 step_counts word pool Rest busy pends = absurd (busy refl)
 step_counts word pool Announce busy pends = refl
 step_counts word pool (Try second step) busy pends = refl
 step_counts word pool LoadFinalState busy pends = refl
 step_counts word pool LoadReply busy pends = absurd (pends (pool_ended_idle (reply_of (value_of word)) _))
 
-moving_made : (quantum n done after : ℕ) (calls : CallView) (t : Bool) → after ≡ done + 1 → done ≡ quantum * n + calls.steps → changes_pool calls.call ≡ true → (calls.steps + 1 == quantum) ≡ t
-    → after ≡ quantum * (n + 0) + made_now_at quantum (record calls { stage = if t then Own else Moving; steps = calls.steps + 1 }) (if t then Own else Moving)
+moving_made : (quantum n done after : ℕ) (calls : CallView) (t : Bool) → after ≡ done + 1 → done ≡ quantum * n + calls.steps
+    → changes_pool calls.call ≡ true → (calls.steps + 1 == quantum) ≡ t
+    → after ≡ quantum * (n + 0) + made_now_at quantum (record calls { stage = if t then Own else Moving; steps = calls.steps + 1 })
+    (if t then Own else Moving)
 moving_made quantum n done after calls true counted aged changes e = rw changes (whole quantum n done after calls.steps counted aged e)
   where
-    whole : (quantum n done after made : ℕ) → after ≡ done + 1 → done ≡ quantum * n + made → (made + 1 == quantum) ≡ true → after ≡ quantum * (n + 0) + quantum
-    whole quantum n done after made counted aged e = let same : made + 1 ≡ quantum = grind (arith, nat_tests) in omega (arith, counted, aged, same)
+    whole : (quantum n done after made : ℕ) → after ≡ done + 1 → done ≡ quantum * n + made → (made + 1 == quantum) ≡ true
+        → after ≡ quantum * (n + 0) + quantum
+    whole quantum n done after made counted aged e =
+        let same : made + 1 ≡ quantum = grind (arith, nat_tests) in omega (arith, counted, aged, same)
 moving_made quantum n done after calls false counted aged changes e = omega (arith, counted, aged)
 
 off_either : (a b : Bool) → a ≡ false → (a || b) ≡ b
 off_either true b e = grind arith
 off_either false b e = refl
 
-moving_ages : (sizes : Sizes) (v : ProcessView) (word n : ℕ) → v.calls.stage ≡ Moving → Aged sizes.quantum n v → changes_pool v.calls.call ≡ true → v.transfer.next ≢ Rest
+moving_ages : (sizes : Sizes) (v : ProcessView) (word n : ℕ) → v.calls.stage ≡ Moving → Aged sizes.quantum n v
+    → changes_pool v.calls.call ≡ true → v.transfer.next ≢ Rest
     → is_rest (view_met sizes v word).transfer.next ≡ false → (pool_met_at word v.pool v.transfer.next).plan.pending ≢ Idle
     → Aged sizes.quantum (n + 0) (call_met_at sizes v word Moving)
 moving_ages sizes v word n stage aged changes busy goes pends =
     rw (off_either (is_rest (view_met sizes v word).transfer.next) (v.calls.steps + 1 == sizes.quantum) goes)
-    (moving_made sizes.quantum n v.pool.plan.done (pool_met_at word v.pool v.transfer.next).plan.done v.calls (v.calls.steps + 1 == sizes.quantum) (step_counts word v.pool v.transfer.next busy pends) (rw stage at aged) changes refl)
+    (moving_made sizes.quantum n v.pool.plan.done (pool_met_at word v.pool v.transfer.next).plan.done v.calls
+        (v.calls.steps + 1 == sizes.quantum) (step_counts word v.pool v.transfer.next busy pends) (rw stage at aged) changes refl)
 
 -- an own step that makes an entry ends a call
-one_entry : (number : ℕ) (pool : PoolView) (block : Option ℕ) → length (entries_of (happened (own_kind_for pool (Some Allocate)) (allocate_answer number block))) ≡ 1
+one_entry : (number : ℕ) (pool : PoolView) (block : Option ℕ)
+    → length (entries_of (happened (own_kind_for pool (Some Allocate)) (allocate_answer number block))) ≡ 1
 one_entry number pool None = refl
 one_entry number pool (Some block) = refl
 
-next_call : (quantum n done after entries : ℕ) → after ≡ done → done ≡ quantum * n + quantum → entries ≡ 1 → after ≡ quantum * (n + entries) + 0
+next_call : (quantum n done after entries : ℕ) → after ≡ done → done ≡ quantum * n + quantum → entries ≡ 1
+    → after ≡ quantum * (n + entries) + 0
 next_call quantum n done after entries same aged one = rw one (omega (arith, same, aged))
 
 same_call : (quantum n done : ℕ) → done ≡ quantum * n + 0 → done ≡ quantum * (n + 0) + 0
 same_call quantum n done aged = omega (arith, aged)
 
-own_ages : (quantum : ℕ) (v : ProcessView) (word n : ℕ) (call : Option Call) → v.pool.plan.done ≡ quantum * n + (if changes_pool call then quantum else 0)
-    → (pool_own_met word v.pool call).plan.done ≡ quantum * (n + length (entries_of (happened (own_kind_for v.pool call) (own_answer_for v.transfer.number v.pool word call)))) + 0
+own_ages : (quantum : ℕ) (v : ProcessView) (word n : ℕ) (call : Option Call)
+    → v.pool.plan.done ≡ quantum * n + (if changes_pool call then quantum else 0)
+    → (pool_own_met word v.pool call).plan.done ≡ quantum * (n + length
+    (entries_of (happened (own_kind_for v.pool call) (own_answer_for v.transfer.number v.pool word call)))) + 0
 own_ages quantum v word n None aged = same_call quantum n v.pool.plan.done aged
-own_ages quantum v word n (Some Allocate) aged = next_call quantum n v.pool.plan.done _ _ (allocated_counts word v.pool (source_of v.pool.plan)) aged (one_entry v.transfer.number v.pool (next_block v.pool))
-own_ages quantum v word n (Some (Free block)) aged = next_call quantum n v.pool.plan.done _ 1 (freed_counts block v.pool (target_of v.pool.plan)) aged refl
+own_ages quantum v word n (Some Allocate) aged =
+    next_call quantum n v.pool.plan.done _ _ (allocated_counts word v.pool (source_of v.pool.plan)) aged
+    (one_entry v.transfer.number v.pool (next_block v.pool))
+own_ages quantum v word n (Some (Free block)) aged =
+    next_call quantum n v.pool.plan.done _ 1 (freed_counts block v.pool (target_of v.pool.plan)) aged refl
 own_ages quantum v word n (Some (Read block index)) aged = same_call quantum n v.pool.plan.done aged
 own_ages quantum v word n (Some (Write block index value)) aged = same_call quantum n v.pool.plan.done aged
 
 -- so a step of a call keeps the age of its transfer
-pub step_ages : (sizes : Sizes) (v : ProcessView) (word n : ℕ) (stage : CallStage) → v.calls.stage ≡ stage → Aged sizes.quantum n v → (stage ≡ Moving → changes_pool v.calls.call ≡ true) → (stage ≡ Moving → v.transfer.next ≢ Rest)
+pub step_ages : (sizes : Sizes) (v : ProcessView) (word n : ℕ) (stage : CallStage) → v.calls.stage ≡ stage → Aged sizes.quantum n v
+    → (stage ≡ Moving → changes_pool v.calls.call ≡ true) → (stage ≡ Moving → v.transfer.next ≢ Rest)
     → is_rest (call_met_at sizes v word stage).transfer.next ≡ false → (call_met_at sizes v word stage).pool.plan.pending ≢ Idle
     → Aged sizes.quantum (n + length (entries_of (call_answer_at v word stage))) (call_met_at sizes v word stage)
 step_ages sizes v word n Between e aged changes busy goes pends = plus_none sizes.quantum n v.pool.plan.done _ aged
@@ -115,7 +130,8 @@ busy_due pool busy = rw busy refl
 busy_before : (v : ProcessView) → is_idle v.pool.plan.pending ≡ false → before_call v ≡ v
 busy_before v busy = rw (busy_due v.pool busy) refl
 
-pub begun_ages : (quantum : ℕ) (v : ProcessView) (n : ℕ) (call : Call) → v.calls.stage ≡ Between → is_idle v.pool.plan.pending ≡ false → Aged quantum n v → Aged quantum n (call_begun call v)
+pub begun_ages : (quantum : ℕ) (v : ProcessView) (n : ℕ) (call : Call) → v.calls.stage ≡ Between → is_idle v.pool.plan.pending ≡ false
+    → Aged quantum n v → Aged quantum n (call_begun call v)
 begun_ages quantum v n Allocate stage busy aged = rw (busy_before v busy) (rw busy (rw stage at aged))
 begun_ages quantum v n (Free block) stage busy aged = rw (busy_before v busy) (rw busy (rw stage at aged))
 begun_ages quantum v n (Read block index) stage busy aged = rw stage at aged
@@ -144,8 +160,10 @@ changed_ages quantum v false call e none = inl (none_made quantum v.pool.plan.do
 -- a call that begins none comes to its own step with nothing pending
 pub first_ages : (quantum : ℕ) (v : ProcessView) (call : Call) → v.pool.plan.pending ≡ Idle → v.pool.plan.done ≡ 0
     → Aged quantum 0 (call_begun call v) ⊎ ((call_begun call v).pool.plan.pending ≡ Idle) × ((call_begun call v).calls.stage ≡ Own)
-first_ages quantum v Allocate idle none = changed_ages quantum (before_call v) (is_idle (before_call v).pool.plan.pending) Allocate refl (due_done (due v.pool) v none)
-first_ages quantum v (Free block) idle none = changed_ages quantum (before_call v) (is_idle (before_call v).pool.plan.pending) (Free block) refl (due_done (due v.pool) v none)
+first_ages quantum v Allocate idle none =
+    changed_ages quantum (before_call v) (is_idle (before_call v).pool.plan.pending) Allocate refl (due_done (due v.pool) v none)
+first_ages quantum v (Free block) idle none =
+    changed_ages quantum (before_call v) (is_idle (before_call v).pool.plan.pending) (Free block) refl (due_done (due v.pool) v none)
 first_ages quantum v (Read block index) idle none = inr (idle, refl)
 first_ages quantum v (Write block index value) idle none = inr (idle, refl)
 
@@ -172,5 +190,6 @@ own_pending word pool (Some (Free block)) = freed_pending block pool (target_of 
 own_pending word pool (Some (Read block index)) = refl
 own_pending word pool (Some (Write block index value)) = refl
 
-pub own_step_pending : (sizes : Sizes) (v : ProcessView) (word : ℕ) (stage : CallStage) → stage ≡ Own → (call_met_at sizes v word stage).pool.plan.pending ≡ v.pool.plan.pending
+pub own_step_pending : (sizes : Sizes) (v : ProcessView) (word : ℕ) (stage : CallStage) → stage ≡ Own
+    → (call_met_at sizes v word stage).pool.plan.pending ≡ v.pool.plan.pending
 own_step_pending sizes v word stage e = rw e (own_pending word v.pool v.calls.call)

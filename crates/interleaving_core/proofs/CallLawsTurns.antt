@@ -1,5 +1,6 @@
 -- what a turn of a call makes of the age of its transfer
-use Rattle.std.proofs.Common.{◌≡◌, ◌≢◌, ℕ, ◌+◌, ◌*◌, ◌<◌, ◌≤◌, Bool, true, false, List, length, refl, sym, ap, ◌∙◌, arith, get_or, set, get_or-set_same}
+use Rattle.std.proofs.Common.{◌≡◌, ◌≢◌, ℕ, ◌+◌, ◌*◌, ◌<◌, ◌≤◌, Bool, true, false, List, length, refl, sym, ap, ◌∙◌, arith, get_or, set}
+use Rattle.std.proofs.Common.{get_or-set_same}
 use Rattle.std.specs.Prelude.{if◌then◌else◌}
 use Rattle.word_layout.specs.Sizes.{Sizes}
 use Rattle.word_layout.specs.Names.{word_at}
@@ -44,11 +45,13 @@ pub record Calling (v : ProcessView) : Type 0 where
   pub rest : v.pool.plan.pending ≡ Idle → v.transfer.next ≡ Rest
   pub inside : is_in_call v.calls.stage ≡ true
 
-calling_calls : (call : Call) (v : ProcessView) (t : Bool) → is_in_call v.calls.stage ≡ t → (v.calls.way ≡ Alone → is_in_call v.calls.stage ≡ false) → is_alone (if t then v else call_begun call v).calls.way ≡ false
+calling_calls : (call : Call) (v : ProcessView) (t : Bool) → is_in_call v.calls.stage ≡ t
+    → (v.calls.way ≡ Alone → is_in_call v.calls.stage ≡ false) → is_alone (if t then v else call_begun call v).calls.way ≡ false
 calling_calls call v true inside alone = not_alone v.calls.way v.calls.stage alone inside
 calling_calls call v false inside alone = begun_calls call v
 
-way_is : (way : Way) (stage : CallStage) → is_alone way ≡ false → (way ≡ Fresh → is_in_call stage ≡ false) → is_in_call stage ≡ true → way ≡ Calls
+way_is : (way : Way) (stage : CallStage) → is_alone way ≡ false → (way ≡ Fresh → is_in_call stage ≡ false) → is_in_call stage ≡ true
+    → way ≡ Calls
 way_is Fresh stage calls fresh inside = absurd (both_ways (fresh refl) inside)
   where
     both_ways : {t : Bool} → t ≡ false → t ≡ true → ⊥
@@ -59,7 +62,8 @@ way_is Calls stage calls fresh inside = refl
 inside_is : (v : ProcessView) → is_alone v.calls.way ≡ false → is_busy v ≡ true → is_in_call v.calls.stage ≡ true
 inside_is v calls busy = rw calls at busy
 
-pub turn_calls : (history : List Entry) (s : CoreState) (i : ℕ) (call : Call) → RunFits s history → is_made (Events i call) s ≡ true → Calling (turning_view (Events i call) s)
+pub turn_calls : (history : List Entry) (s : CoreState) (i : ℕ) (call : Call) → RunFits s history → is_made (Events i call) s ≡ true
+    → Calling (turning_view (Events i call) s)
 turn_calls history s i call fits made =
     let turn = Events i call in
     let v = turning_view turn s in
@@ -69,7 +73,8 @@ turn_calls history s i call fits made =
     let words = word_at s.sizes s.words in
     let here : views i ≡ v = get_or-set_same s.views i v (opening_view s.sizes i) (rw fits.seats li) in
     let (ghosts, h) = turn_meets s history turn fits made li in
-    let calls = calling_calls call (view_at s i) (is_in_call (view_at s i).calls.stage) refl (alone_between s.sizes words (view_at s) history i li fits.meets) in
+    let calls = calling_calls call (view_at s i) (is_in_call (view_at s i).calls.stage) refl
+        (alone_between s.sizes words (view_at s) history i li fits.meets) in
     let inside = inside_is v calls (turn_busy s history turn fits made li) in
     let pool = h.pools i li in
     let used = calls_used s.sizes i v (ghosts.ledgers i) v.calls.way (isnt_alone v.calls.way calls) (rw here at pool) in
@@ -84,16 +89,22 @@ turn_calls history s i call fits made =
     }
 
 -- what a turn of a call leaves, and how it is answered
-pub after_is : (s : CoreState) (history : List Entry) (i : ℕ) (call : Call) → RunFits s history → is_made (Events i call) s ≡ true → is_alone (turning_view (Events i call) s).calls.way ≡ false
-    → view_at (after_turn (Events i call) s) i ≡ call_met_at s.sizes (turning_view (Events i call) s) (met_word s.sizes s.words (next_action s.sizes (turning_view (Events i call) s))) (turning_view (Events i call) s).calls.stage
+pub after_is : (s : CoreState) (history : List Entry) (i : ℕ) (call : Call) → RunFits s history → is_made (Events i call) s ≡ true
+    → is_alone (turning_view (Events i call) s).calls.way ≡ false
+    → view_at (after_turn (Events i call) s) i ≡ call_met_at s.sizes (turning_view (Events i call) s)
+    (met_word s.sizes s.words (next_action s.sizes (turning_view (Events i call) s))) (turning_view (Events i call) s).calls.stage
 after_is s history i call fits made calls =
-    made_view s (Events i call) made (rw fits.seats (turn_low s (Events i call) made)) ∙ met_calls s.sizes (turning_view (Events i call) s) _ calls
+    made_view s (Events i call) made (rw fits.seats (turn_low s (Events i call) made)) ∙ met_calls s.sizes (turning_view (Events i call) s)
+        _ calls
   where
-    met_calls : (sizes : Sizes) (v : ProcessView) (word : ℕ) → is_alone v.calls.way ≡ false → next_met sizes v word ≡ call_met_at sizes v word v.calls.stage
+    met_calls : (sizes : Sizes) (v : ProcessView) (word : ℕ) → is_alone v.calls.way ≡ false
+        → next_met sizes v word ≡ call_met_at sizes v word v.calls.stage
     met_calls sizes v word calls = rw calls refl
 
-pub answer_is : (s : CoreState) (i : ℕ) (call : Call) → is_made (Events i call) s ≡ true → is_alone (turning_view (Events i call) s).calls.way ≡ false
-    → turn_answer (Events i call) s ≡ call_answer_at (turning_view (Events i call) s) (met_word s.sizes s.words (next_action s.sizes (turning_view (Events i call) s))) (turning_view (Events i call) s).calls.stage
+pub answer_is : (s : CoreState) (i : ℕ) (call : Call) → is_made (Events i call) s ≡ true
+    → is_alone (turning_view (Events i call) s).calls.way ≡ false
+    → turn_answer (Events i call) s ≡ call_answer_at (turning_view (Events i call) s)
+    (met_word s.sizes s.words (next_action s.sizes (turning_view (Events i call) s))) (turning_view (Events i call) s).calls.stage
 answer_is s i call made calls = rw made (answer_calls (turning_view (Events i call) s) _ calls)
   where
     answer_calls : (v : ProcessView) (word : ℕ) → is_alone v.calls.way ≡ false → next_answer v word ≡ call_answer_at v word v.calls.stage
@@ -106,7 +117,9 @@ met_way sizes v word Own = refl
 
 -- a process with a pending transfer isn't at rest
 abbrev pub PendingMoves : Sizes → List Entry → CoreState → Type 0
-PendingMoves sizes history s = (i : ℕ) → i < sizes.processes → HasPending i s → (is_rest (view_at s i).transfer.next ≡ false) × ((view_at s i).pool.plan.done < sizes.quantum * sizes.length)
+PendingMoves sizes history s =
+    (i : ℕ) → i < sizes.processes → HasPending i s → (is_rest (view_at s i).transfer.next ≡ false)
+    × ((view_at s i).pool.plan.done < sizes.quantum * sizes.length)
 
 pub pending_moves : (history : List Entry) (s : CoreState) → RunFits s history → PendingMoves s.sizes history s
 pending_moves history s fits i li pends =
@@ -116,7 +129,8 @@ pending_moves history s fits i li pends =
     let kept = keeps s.sizes words (view_at s) history ghosts i fits.shape li h in
     let fit = shape_fits s.sizes fits.shape in
     let busy = moves v.transfer.next v.pool.plan.pending kept.runs.kept.idle pends in
-    let count = steps_can_count s.sizes v (some_quantum s.sizes fit) kept (given s.sizes words (view_at s) history ghosts i li h).few (not_rest v.transfer.next busy) in
+    let count = steps_can_count s.sizes v (some_quantum s.sizes fit) kept (given s.sizes words (view_at s) history ghosts i li h).few
+        (not_rest v.transfer.next busy) in
     (busy, low count.within kept.runs.kept.bound fit.soon)
   where
     moves : (s : NextStep) (p : Pending) → (is_moving s ≡ false → p ≡ Idle) → p ≢ Idle → is_rest s ≡ false
@@ -134,9 +148,11 @@ pending_moves history s fits i li pends =
 
 -- a turn of a call keeps the age of the transfer
 abbrev pub TurnsAge : Sizes → List Entry → CoreState → Type 0
-TurnsAge sizes history s = (i n : ℕ) (call : Call) → is_made (Events i call) s ≡ true → Aged sizes.quantum n (turning_view (Events i call) s)
+TurnsAge sizes history s =
+    (i n : ℕ) (call : Call) → is_made (Events i call) s ≡ true → Aged sizes.quantum n (turning_view (Events i call) s)
     → is_rest (view_at (after_turn (Events i call) s) i).transfer.next ≡ false → HasPending i (after_turn (Events i call) s)
-    → Aged sizes.quantum (n + length (entries_of (turn_answer (Events i call) s))) (view_at (after_turn (Events i call) s) i) × ((view_at (after_turn (Events i call) s) i).calls.way ≡ Calls)
+    → Aged sizes.quantum (n + length (entries_of (turn_answer (Events i call) s))) (view_at (after_turn (Events i call) s) i)
+    × ((view_at (after_turn (Events i call) s) i).calls.way ≡ Calls)
 
 pub turns_age : (history : List Entry) (s : CoreState) → RunFits s history → TurnsAge s.sizes history s
 turns_age history s fits i n call made aged goes pends =
@@ -145,10 +161,13 @@ turns_age history s fits i n call made aged goes pends =
     let k = turn_calls history s i call fits made in
     let after = after_is s history i call fits made k.calls in
     let met = call_met_at s.sizes v word v.calls.stage in
-    let ages = step_ages s.sizes v word n v.calls.stage refl aged k.changes k.busy (sym (ap (λ x. is_rest x.transfer.next) after) ∙ goes) (λ e. pends (ap (λ x. x.pool.plan.pending) after ∙ e)) in (
-      both_same s.sizes.quantum n met (view_at (after_turn (Events i call) s) i) (call_answer_at v word v.calls.stage) (turn_answer (Events i call) s) after (answer_is s i call made k.calls) ages,
+    let ages = step_ages s.sizes v word n v.calls.stage refl aged k.changes k.busy (sym (ap (λ x. is_rest x.transfer.next) after) ∙ goes)
+        (λ e. pends (ap (λ x. x.pool.plan.pending) after ∙ e)) in (
+      both_same s.sizes.quantum n met (view_at (after_turn (Events i call) s) i) (call_answer_at v word v.calls.stage)
+          (turn_answer (Events i call) s) after (answer_is s i call made k.calls) ages,
       ap (λ x. x.calls.way) after ∙ met_way s.sizes v word v.calls.stage ∙ k.way,
     )
   where
-    both_same : (quantum n : ℕ) (met after : ProcessView) (told answer : Happened) → after ≡ met → answer ≡ told → Aged quantum (n + length (entries_of told)) met → Aged quantum (n + length (entries_of answer)) after
+    both_same : (quantum n : ℕ) (met after : ProcessView) (told answer : Happened) → after ≡ met → answer ≡ told
+        → Aged quantum (n + length (entries_of told)) met → Aged quantum (n + length (entries_of answer)) after
     both_same quantum n met after told answer e f ages = rw (e, f) ages

@@ -1,5 +1,6 @@
 -- a take that an exchange of the state answers with nothing: few blocks are unheld then
-use Rattle.std.proofs.Common.{◌≡◌, ℕ, zero, suc, ◌+◌, ◌-◌, ◌*◌, ◌<◌, ◌≤◌, ◌==◌, Bool, true, false, List, length, refl, sym, ap, ◌∙◌, inl, inr, arith}
+use Rattle.std.proofs.Common.{◌≡◌, ℕ, zero, suc, ◌+◌, ◌-◌, ◌*◌, ◌<◌, ◌≤◌, ◌==◌, Bool, true, false, List, length, refl, sym, ap, ◌∙◌, inl}
+use Rattle.std.proofs.Common.{inr, arith}
 use Rattle.std.specs.Prelude.{if◌then◌else◌}
 use Rattle.std.proofs.lemmas.Bool.{cases_eq}
 use Rattle.std.proofs.lemmas.Bool.Decides.{nat_tests}
@@ -47,14 +48,16 @@ unfolding next_of
 reply_waits announcements s zero o le = refl
 reply_waits announcements s (suc k) o le =
     let t = next_of k announcements s in
-    either_reply (is_pending (announcements k) (t.reply k)) k _ o t (with_transfer k (announcements k) t) refl (λ e. absurd (omega arith)) ∙ reply_waits announcements s k o (omega arith)
+    either_reply (is_pending (announcements k) (t.reply k)) k _ o t (with_transfer k (announcements k) t) refl (λ e. absurd (omega arith))
+        ∙ reply_waits announcements s k o (omega arith)
 
 -- and a process whose announcement isn't pending keeps it
 off_reply : (t : Bool) (k : ℕ) (s u : StackState) → t ≡ false → (if t then u else s).reply k ≡ s.reply k
 off_reply true k s u off = grind arith
 off_reply false k s u off = refl
 
-pub reply_stays : (announcements : ℕ → ℕ) (s : StackState) (count o : ℕ) → is_pending (announcements o) (s.reply o) ≡ false → (next_of count announcements s).reply o ≡ s.reply o
+pub reply_stays : (announcements : ℕ → ℕ) (s : StackState) (count o : ℕ) → is_pending (announcements o) (s.reply o) ≡ false
+    → (next_of count announcements s).reply o ≡ s.reply o
 unfolding next_of
 reply_stays announcements s zero o off = refl
 reply_stays announcements s (suc k) o off = elim (cases_eq o k) [
@@ -65,11 +68,13 @@ reply_stays announcements s (suc k) o off = elim (cases_eq o k) [
       rw e (off_reply (is_pending word (t.reply k)) k t (with_transfer k word t) now ∙ reply_waits announcements s k k (omega arith))
   | inr ne ↦
       let t = next_of k announcements s in
-      either_reply (is_pending (announcements k) (t.reply k)) k _ o t (with_transfer k (announcements k) t) refl ne ∙ reply_stays announcements s k o off
+      either_reply (is_pending (announcements k) (t.reply k)) k _ o t (with_transfer k (announcements k) t) refl ne ∙ reply_stays
+          announcements s k o off
 ]
 
 -- a reply that says nothing to a pending take comes from a state without content
-reply_names : (odd t : Bool) (head : ℕ) → (t ≡ false → head < most_blocks) → reply_of (reply_value odd (if t then Nothing else Took head)) ≡ Nothing → t ≡ true
+reply_names : (odd t : Bool) (head : ℕ) → (t ≡ false → head < most_blocks)
+    → reply_of (reply_value odd (if t then Nothing else Took head)) ≡ Nothing → t ≡ true
 reply_names odd true head fits says = refl
 reply_names odd false head fits says = absurd (took_nothing head (sym (reply_of-reply_value odd (Took head) (fits refl)) ∙ says))
   where
@@ -87,8 +92,10 @@ takes Take e = refl
 takes (Give head) e = grind arith
 
 pub found_empty : (announcements : ℕ → ℕ) (s : StackState) (count o : ℕ) → o < count
-    → ((k : ℕ) → k ≤ count → (place : ℕ) → place < (next_of k announcements s).height → (next_of k announcements s).content place < most_blocks)
-    → is_pending (announcements o) (s.reply o) ≡ true → is_take (announced_wish (announcements o)) ≡ true → reply_of ((next_of count announcements s).reply o) ≡ Nothing
+    → ((k : ℕ) → k ≤ count → (place : ℕ) → place < (next_of k announcements s).height → (next_of k announcements s).content
+    place < most_blocks)
+    → is_pending (announcements o) (s.reply o) ≡ true → is_take (announced_wish (announcements o)) ≡ true
+    → reply_of ((next_of count announcements s).reply o) ≡ Nothing
     → (next_of o announcements s).height ≡ 0
 unfolding next_of
 found_empty announcements s zero o lt fits pending take says = absurd (omega arith)
@@ -100,7 +107,9 @@ found_empty announcements s (suc k) o lt fits pending take says = elim (cases_eq
       let mine = own_reply (is_pending word (t.reply k)) k _ t (with_transfer k word t) refl now in
       let wish : announced_wish word ≡ Take = takes (announced_wish word) (rw e at take) in
       let told : reply_of (reply_value (is_odd_transfer word) (answer_to (announced_wish word) t)) ≡ Nothing = rw mine at (rw e at says) in
-      rw e (is_empty t.height (reply_names (is_odd_transfer word) (t.height == 0) (t.content (t.height - 1)) (λ some. fits k (omega arith) (t.height - 1) (not_empty t.height some)) (rw wish at told)))
+      rw e (is_empty t.height
+          (reply_names (is_odd_transfer word) (t.height == 0) (t.content (t.height - 1))
+          (λ some. fits k (omega arith) (t.height - 1) (not_empty t.height some)) (rw wish at told)))
   | inr ne ↦
       let t = next_of k announcements s in
       let stays = either_reply (is_pending (announcements k) (t.reply k)) k _ o t (with_transfer k (announcements k) t) refl ne in
@@ -111,7 +120,8 @@ idle_is : (p : Pending) → is_idle p ≡ true → p ≡ Idle
 idle_is p e = grind arith
 
 -- at such an exchange at most the slack is unheld
-pub few_at : (sizes : Sizes) (words : Words) (views : ProcessViews) (history : List Entry) (ghosts : Ghosts) (announcements : ℕ → ℕ) (o : ℕ) → IsShape sizes → o < sizes.processes → Holds sizes words views history ghosts
+pub few_at : (sizes : Sizes) (words : Words) (views : ProcessViews) (history : List Entry) (ghosts : Ghosts) (announcements : ℕ → ℕ) (o : ℕ)
+    → IsShape sizes → o < sizes.processes → Holds sizes words views history ghosts
     → ((k : ℕ) → k < sizes.processes → PendingIsPresent (ghosts.states (state_tag words)) (announcements k) k (views k).transfer)
     → is_pending (announcements o) ((ghosts.states (state_tag words)).reply o) ≡ true → is_take (announced_wish (announcements o)) ≡ true
     → reply_of ((next_of sizes.processes announcements (ghosts.states (state_tag words))).reply o) ≡ Nothing
@@ -121,13 +131,17 @@ few_at sizes words views history ghosts announcements o shape lo h present pendi
     let t = next_of o announcements s in
     let mine = held_in ghosts.ledgers in
     let chains = h.chains in
-    let at : (k : ℕ) → k ≤ sizes.processes → ChainsHold sizes words (next_of k announcements s) views chains.batch_blocks chains.current_blocks mine =
+    let at : (k : ℕ) → k ≤ sizes.processes → ChainsHold sizes words (next_of k announcements s) views chains.batch_blocks
+        chains.current_blocks mine =
     λ k le. next_chains sizes words s views chains.batch_blocks chains.current_blocks mine announcements k shape le chains.hold present in
-    let fits : (k : ℕ) → k ≤ sizes.processes → (place : ℕ) → place < (next_of k announcements s).height → (next_of k announcements s).content place < most_blocks =
-    λ k le place lt. low (content_low sizes words (next_of k announcements s) views chains.batch_blocks chains.current_blocks mine (at k le) place (some_long sizes shape) lt) shape.few_blocks in
+    let fits : (k : ℕ) → k ≤ sizes.processes → (place : ℕ) → place < (next_of k announcements s).height
+        → (next_of k announcements s).content place < most_blocks =
+    λ k le place lt. low (content_low sizes words (next_of k announcements s) views chains.batch_blocks chains.current_blocks mine (at k le)
+        place (some_long sizes shape) lt) shape.few_blocks in
     let empty = found_empty announcements s sizes.processes o lo fits pending take says in
     let counted = blocks_counted sizes words t views chains.batch_blocks chains.current_blocks mine (at o (omega arith)) in
-    let most = total_le sizes.processes (λ i. kept_blocks sizes t i (views i)) (λ i. withheld (views i).pool.plan) (λ i li. withholds sizes t i (views i) (keeps sizes words views history ghosts i shape li h)) in
+    let most = total_le sizes.processes (λ i. kept_blocks sizes t i (views i)) (λ i. withheld (views i).pool.plan)
+        (λ i li. withholds sizes t i (views i) (keeps sizes words views history ghosts i shape li h)) in
     let shared = held_shared (limits_of sizes) (transfer_bound sizes) sizes.quantum history ghosts.ledgers h.entries in
     empty_stack_leaves_few sizes (limits_of sizes) history views refl (λ i li. keeps sizes words views history ghosts i shape li h)
     (enough (blocks sizes) _ _ _ (sizes.length * t.height) (length (held history)) counted (rw empty (omega arith)) most shared.grips.count)
@@ -135,8 +149,12 @@ few_at sizes words views history ghosts announcements o shape lo h present pendi
     low : {a b : ℕ} → a < b → b ≤ most_blocks → a < most_blocks
     low lt le = omega (arith, lt, le)
 
-    withholds : (sizes : Sizes) (t : StackState) (i : ℕ) (v : ProcessView) → PoolKeeps sizes v → kept_blocks sizes t i v ≤ withheld v.pool.plan
-    withholds sizes t i v k = kept_is_withheld sizes t i v (is_idle v.pool.plan.pending) refl (record { size = k.runs.kept.batch; heads = k.heads; idle = λ e. idle_pool_rests sizes v k (idle_is v.pool.plan.pending e) })
+    withholds : (sizes : Sizes) (t : StackState) (i : ℕ) (v : ProcessView) → PoolKeeps sizes v
+        → kept_blocks sizes t i v ≤ withheld v.pool.plan
+    withholds sizes t i v k =
+        kept_is_withheld sizes t i v (is_idle v.pool.plan.pending) refl
+        (record { size = k.runs.kept.batch; heads = k.heads; idle = λ e. idle_pool_rests sizes v k (idle_is v.pool.plan.pending e) })
 
-    enough : (all kept held_blocks withheld_blocks stack_blocks held_length : ℕ) → kept + held_blocks + stack_blocks ≡ all → stack_blocks ≡ 0 → kept ≤ withheld_blocks → held_length ≡ held_blocks → all ≤ held_length + withheld_blocks
+    enough : (all kept held_blocks withheld_blocks stack_blocks held_length : ℕ) → kept + held_blocks + stack_blocks ≡ all
+        → stack_blocks ≡ 0 → kept ≤ withheld_blocks → held_length ≡ held_blocks → all ≤ held_length + withheld_blocks
     enough all kept held_blocks withheld_blocks stack_blocks held_length counted none most count = omega (arith, counted, none, most, count)

@@ -8,7 +8,8 @@ use Rattle.transfer_machine.specs.declared.stage.TryStep.TheVariants.{LoadAnnoun
 use Rattle.interleaving_core.specs.TransferLaws.{IsExchange}
 
 -- of a try
-exchanging_in_try : (second : Bool) (step : TryStep) → IsExchange (Try second step) ⊎ ((other : Bool) → Try second step ≢ Try other ExchangeState)
+exchanging_in_try : (second : Bool) (step : TryStep)
+    → IsExchange (Try second step) ⊎ ((other : Bool) → Try second step ≢ Try other ExchangeState)
 exchanging_in_try second LoadState = inr (λ other e. cc)
 exchanging_in_try second (LoadRecordWord index) = inr (λ other e. cc)
 exchanging_in_try second (LoadCoveredSlot offset) = inr (λ other e. cc)

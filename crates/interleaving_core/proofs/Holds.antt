@@ -43,21 +43,38 @@ outside : false ≡ true → ⊥
 outside e = grind arith
 
 -- the step of a call, by its stage
-call_stage_holds : (sizes : Sizes) (words new : Words) (views after : ProcessViews) (history : List Entry) (ghosts : Ghosts) (i : ℕ) (stage : CallStage) → IsShape sizes → i < sizes.processes → Holds sizes words views history ghosts → (views i).calls.way ≢ Alone → (views i).calls.stage ≡ stage → is_in_call stage ≡ true
+call_stage_holds : (sizes : Sizes) (words new : Words) (views after : ProcessViews) (history : List Entry) (ghosts : Ghosts) (i : ℕ)
+    (stage : CallStage)
+    → IsShape sizes → i < sizes.processes → Holds sizes words views history ghosts → (views i).calls.way ≢ Alone
+    → (views i).calls.stage ≡ stage → is_in_call stage ≡ true
     → Acted sizes (call_action_at sizes (views i) stage) words new
     → MovedProcess i (call_met_at sizes (views i) (words (name_of (call_action_at sizes (views i) stage))) stage) views after
-    → Meets sizes new after (history ++ entries_of (call_answer_at (views i) (words (name_of (call_action_at sizes (views i) stage))) stage))
+    → Meets sizes new after
+    (history ++ entries_of (call_answer_at (views i) (words (name_of (call_action_at sizes (views i) stage))) stage))
 call_stage_holds sizes words new views after history ghosts i Between shape li h calls e busy acted moved = absurd (outside busy)
-call_stage_holds sizes words new views after history ghosts i Moving shape li h calls e busy acted moved = rw (append-nil history) (call_step_holds sizes words new views after history ghosts i shape li h calls e acted moved)
-call_stage_holds sizes words new views after history ghosts i Own shape li h calls e busy acted moved = own_step_holds sizes words new views after history ghosts i shape li h calls e acted moved
+call_stage_holds sizes words new views after history ghosts i Moving shape li h calls e busy acted moved =
+    rw (append-nil history) (call_step_holds sizes words new views after history ghosts i shape li h calls e acted moved)
+call_stage_holds sizes words new views after history ghosts i Own shape li h calls e busy acted moved =
+    own_step_holds sizes words new views after history ghosts i shape li h calls e acted moved
 
 -- the step of a process, by its way
-way_holds : (sizes : Sizes) (words new : Words) (views after : ProcessViews) (history : List Entry) (ghosts : Ghosts) (i : ℕ) (t : Bool) → IsShape sizes → i < sizes.processes → Holds sizes words views history ghosts → is_alone (views i).calls.way ≡ t → (t ≡ false → is_in_call (views i).calls.stage ≡ true)
+way_holds : (sizes : Sizes) (words new : Words) (views after : ProcessViews) (history : List Entry) (ghosts : Ghosts) (i : ℕ) (t : Bool)
+    → IsShape sizes → i < sizes.processes → Holds sizes words views history ghosts → is_alone (views i).calls.way ≡ t
+    → (t ≡ false → is_in_call (views i).calls.stage ≡ true)
     → Acted sizes (if t then action_of sizes (views i).transfer else call_action sizes (views i)) words new
-    → MovedProcess i (if t then view_met sizes (views i) (words (name_of (if t then action_of sizes (views i).transfer else call_action sizes (views i)))) else call_met sizes (views i) (words (name_of (if t then action_of sizes (views i).transfer else call_action sizes (views i))))) views after
-    → Meets sizes new after (history ++ entries_of (if t then Step (kind_of (views i).transfer.next) else call_answer (views i) (words (name_of (if t then action_of sizes (views i).transfer else call_action sizes (views i))))))
-way_holds sizes words new views after history ghosts i true shape li h alone busy acted moved = rw (append-nil history) (alone_step_holds sizes words new views after history ghosts i shape li h (is_alone_way (views i).calls.way alone) acted moved)
-way_holds sizes words new views after history ghosts i false shape li h alone busy acted moved = call_stage_holds sizes words new views after history ghosts i (views i).calls.stage shape li h (isnt_alone (views i).calls.way alone) refl (busy refl) acted moved
+    → MovedProcess i (if t then view_met sizes (views i)
+    (words (name_of (if t then action_of sizes (views i).transfer else call_action sizes (views i)))) else call_met sizes (views i)
+    (words (name_of (if t then action_of sizes (views i).transfer else call_action sizes (views i))))) views after
+    → Meets sizes new after
+    (history ++ entries_of
+    (if t then Step (kind_of (views i).transfer.next) else call_answer (views i)
+    (words (name_of (if t then action_of sizes (views i).transfer else call_action sizes (views i))))))
+way_holds sizes words new views after history ghosts i true shape li h alone busy acted moved =
+    rw (append-nil history)
+    (alone_step_holds sizes words new views after history ghosts i shape li h (is_alone_way (views i).calls.way alone) acted moved)
+way_holds sizes words new views after history ghosts i false shape li h alone busy acted moved =
+    call_stage_holds sizes words new views after history ghosts i (views i).calls.stage shape li h (isnt_alone (views i).calls.way alone)
+    refl (busy refl) acted moved
 
 -- what a process with a next step is at
 in_its_call : (v : ProcessView) (t : Bool) → is_alone v.calls.way ≡ t → is_busy v ≡ true → t ≡ false → is_in_call v.calls.stage ≡ true
@@ -68,12 +85,14 @@ in_its_transfer : (v : ProcessView) → is_busy v ≡ true → is_alone v.calls.
 in_its_transfer v busy alone = rest_not v.transfer.next (rw alone at busy)
 
 -- a process that has a next step makes it
-pub step_holds : (sizes : Sizes) (words new : Words) (views after : ProcessViews) (history : List Entry) (i : ℕ) → IsShape sizes → i < sizes.processes → Meets sizes words views history → is_busy (views i) ≡ true
+pub step_holds : (sizes : Sizes) (words new : Words) (views after : ProcessViews) (history : List Entry) (i : ℕ) → IsShape sizes
+    → i < sizes.processes → Meets sizes words views history → is_busy (views i) ≡ true
     → Acted sizes (next_action sizes (views i)) words new
     → MovedProcess i (next_met sizes (views i) (words (name_of (next_action sizes (views i))))) views after
     → Meets sizes new after (history ++ entries_of (next_answer (views i) (words (name_of (next_action sizes (views i))))))
 step_holds sizes words new views after history i shape li (ghosts, h) busy acted moved =
-    way_holds sizes words new views after history ghosts i (is_alone (views i).calls.way) shape li h refl (in_its_call (views i) (is_alone (views i).calls.way) refl busy) acted moved
+    way_holds sizes words new views after history ghosts i (is_alone (views i).calls.way) shape li h refl
+        (in_its_call (views i) (is_alone (views i).calls.way) refl busy) acted moved
 
 -- the next step of a process can be made: that of a transfer alone, or that of a call
 pub record StepAllowed (sizes : Sizes) (words : Words) (v : ProcessView) : Type 0 where
@@ -86,23 +105,31 @@ pub record StepAllowed (sizes : Sizes) (words : Words) (v : ProcessView) : Type 
   pub call_meet : is_alone v.calls.way ≡ false → CanMeetCall sizes v (words (name_of (call_action sizes v)))
 
 -- the step of a transfer
-transfer_allowed : (sizes : Sizes) (words : Words) (views : ProcessViews) (history : List Entry) (ghosts : Ghosts) (i : ℕ) → IsShape sizes → i < sizes.processes → Holds sizes words views history ghosts
+transfer_allowed : (sizes : Sizes) (words : Words) (views : ProcessViews) (history : List Entry) (ghosts : Ghosts) (i : ℕ) → IsShape sizes
+    → i < sizes.processes → Holds sizes words views history ghosts
     → CanAct sizes (views i).transfer × CanMeet sizes (views i).transfer (words (name_of (action_of sizes (views i).transfer)))
 transfer_allowed sizes words views history ghosts i shape li h =
-    can_be_made sizes words (transfers views) ghosts.states i shape li h.stack (supplied sizes words views history ghosts i shape li h) (λ o lo. (keeps sizes words views history ghosts o shape lo h).runs.age.most)
+    can_be_made sizes words (transfers views) ghosts.states i shape li h.stack (supplied sizes words views history ghosts i shape li h)
+        (λ o lo. (keeps sizes words views history ghosts o shape lo h).runs.age.most)
 
 -- the step of a call, by its stage
-call_allowed : (sizes : Sizes) (words : Words) (views : ProcessViews) (history : List Entry) (ghosts : Ghosts) (i : ℕ) (stage : CallStage) → IsShape sizes → i < sizes.processes → Holds sizes words views history ghosts → (views i).calls.way ≢ Alone → (views i).calls.stage ≡ stage
+call_allowed : (sizes : Sizes) (words : Words) (views : ProcessViews) (history : List Entry) (ghosts : Ghosts) (i : ℕ) (stage : CallStage)
+    → IsShape sizes → i < sizes.processes → Holds sizes words views history ghosts → (views i).calls.way ≢ Alone
+    → (views i).calls.stage ≡ stage
     → CanActCallAt sizes (views i) stage × CanMeetCallAt sizes (views i) (words (name_of (call_action_at sizes (views i) stage))) stage
 call_allowed sizes words views history ghosts i Between shape li h calls e = (tt, tt)
 call_allowed sizes words views history ghosts i Moving shape li h calls e =
     let v = views i in
     let (act, meet) = transfer_allowed sizes words views history ghosts i shape li h in
-    moves_can_be_made sizes i v (words (name_of (action_of sizes v.transfer))) (ghosts.ledgers i) (calls_used sizes i v (ghosts.ledgers i) v.calls.way calls (h.pools i li)) (scheduled sizes words views history ghosts i shape li h) e
+    moves_can_be_made sizes i v (words (name_of (action_of sizes v.transfer))) (ghosts.ledgers i)
+        (calls_used sizes i v (ghosts.ledgers i) v.calls.way calls (h.pools i li)) (scheduled sizes words views history ghosts i shape li h)
+        e
     (given sizes words views history ghosts i li h) act meet
-call_allowed sizes words views history ghosts i Own shape li h calls e = own_step_allowed sizes words views history ghosts i shape li h calls e
+call_allowed sizes words views history ghosts i Own shape li h calls e =
+    own_step_allowed sizes words views history ghosts i shape li h calls e
 
-pub step_allowed : (sizes : Sizes) (words : Words) (views : ProcessViews) (history : List Entry) (i : ℕ) → IsShape sizes → i < sizes.processes → Meets sizes words views history → is_busy (views i) ≡ true → StepAllowed sizes words (views i)
+pub step_allowed : (sizes : Sizes) (words : Words) (views : ProcessViews) (history : List Entry) (i : ℕ) → IsShape sizes
+    → i < sizes.processes → Meets sizes words views history → is_busy (views i) ≡ true → StepAllowed sizes words (views i)
 step_allowed sizes words views history i shape li (ghosts, h) busy =
     let v = views i in
     let word = words (name_of (action_of sizes v.transfer)) in

@@ -40,7 +40,8 @@ abbrev pub transfers : ProcessViews → Views
 transfers views = λ i. (views i).transfer
 
 -- the account of each ledger is one of the schedule
-pub scheduled : (sizes : Sizes) (words : Words) (views : ProcessViews) (history : List Entry) (ghosts : Ghosts) (i : ℕ) → IsShape sizes → i < sizes.processes → Holds sizes words views history ghosts → Scheduled sizes (ghosts.ledgers i).account
+pub scheduled : (sizes : Sizes) (words : Words) (views : ProcessViews) (history : List Entry) (ghosts : Ghosts) (i : ℕ) → IsShape sizes
+    → i < sizes.processes → Holds sizes words views history ghosts → Scheduled sizes (ghosts.ledgers i).account
 scheduled sizes words views history ghosts i shape li h = record { fit = shape_fits sizes shape; reached = (h.entries.each i li).reached }
 
 -- the ledgers with one that is there already
@@ -51,11 +52,15 @@ same_ledgers i ledgers = fun_ext (λ o. elim (cases_eq o i) [
 ])
 
 -- what each process keeps, in whichever way it uses its pool
-pub keeps : (sizes : Sizes) (words : Words) (views : ProcessViews) (history : List Entry) (ghosts : Ghosts) (i : ℕ) → IsShape sizes → i < sizes.processes → Holds sizes words views history ghosts → PoolKeeps sizes (views i)
-keeps sizes words views history ghosts i shape li h = keeps_pool sizes i (views i) (ghosts.ledgers i) (views i).calls.way (h.pools i li) (scheduled sizes words views history ghosts i shape li h)
+pub keeps : (sizes : Sizes) (words : Words) (views : ProcessViews) (history : List Entry) (ghosts : Ghosts) (i : ℕ) → IsShape sizes
+    → i < sizes.processes → Holds sizes words views history ghosts → PoolKeeps sizes (views i)
+keeps sizes words views history ghosts i shape li h =
+    keeps_pool sizes i (views i) (ghosts.ledgers i) (views i).calls.way (h.pools i li)
+    (scheduled sizes words views history ghosts i shape li h)
 
 -- a step of a process is in step with the present state
-pub in_step : (sizes : Sizes) (words : Words) (views : ProcessViews) (history : List Entry) (ghosts : Ghosts) (i : ℕ) → i < sizes.processes → Holds sizes words views history ghosts
+pub in_step : (sizes : Sizes) (words : Words) (views : ProcessViews) (history : List Entry) (ghosts : Ghosts) (i : ℕ) → i < sizes.processes
+    → Holds sizes words views history ghosts
     → InStep (ghosts.states (state_tag words)) i (views i).transfer (words (name_of (action_of sizes (views i).transfer)))
 in_step sizes words views history ghosts i li h =
     record {
@@ -65,7 +70,8 @@ in_step sizes words views history ghosts i li h =
     }
 
 -- a view that installs a state installs the next one
-pub installs_next : (sizes : Sizes) (words : Words) (views : ProcessViews) (history : List Entry) (ghosts : Ghosts) (i : ℕ) (second : Bool) → IsShape sizes → i < sizes.processes → Holds sizes words views history ghosts
+pub installs_next : (sizes : Sizes) (words : Words) (views : ProcessViews) (history : List Entry) (ghosts : Ghosts) (i : ℕ) (second : Bool)
+    → IsShape sizes → i < sizes.processes → Holds sizes words views history ghosts
     → (views i).transfer.next ≡ Try second ExchangeState → words State ≡ (views i).transfer.loaded.state
     → InstallsNext sizes (ghosts.states (state_tag words)) views (views i).transfer
 installs_next sizes words views history ghosts i second shape li h e hit =
@@ -86,18 +92,22 @@ wish_is_block sizes Take h = tt
 wish_is_block sizes (Give head) h = h
 
 -- what the pools and the chains give for the step of a view
-pub supplied : (sizes : Sizes) (words : Words) (views : ProcessViews) (history : List Entry) (ghosts : Ghosts) (i : ℕ) → IsShape sizes → i < sizes.processes → Holds sizes words views history ghosts → Supplied sizes words ghosts.states (views i).transfer
+pub supplied : (sizes : Sizes) (words : Words) (views : ProcessViews) (history : List Entry) (ghosts : Ghosts) (i : ℕ) → IsShape sizes
+    → i < sizes.processes → Holds sizes words views history ghosts → Supplied sizes words ghosts.states (views i).transfer
 supplied sizes words views history ghosts i shape li h =
     let s = ghosts.states (state_tag words) in
     let (begun, pending) = gives_are_blocks sizes words s views (held_in ghosts.ledgers) i shape h.chains li in
     record {
       age = λ e. (keeps sizes words views history ghosts i shape li h).runs.age.below (rw e refl);
       wish = λ e. wish_is_block sizes (views i).transfer.wish (begun e);
-      room = λ second e hit. (plans_have_room sizes words s views (held_in ghosts.ledgers) (views i).transfer shape h.chains (installs_next sizes words views history ghosts i second shape li h e hit)).within;
+      room =
+          λ second e hit. (plans_have_room sizes words s views (held_in ghosts.ledgers) (views i).transfer shape h.chains
+          (installs_next sizes words views history ghosts i second shape li h e hit)).within;
     }
 
 -- the reply that ends a transfer answers its wish
-answers_wish : (wish : Wish) (reply : Reply) → (is_take wish ≡ false → reply ≡ Gave) → (is_take wish ≡ true → reply ≢ Gave) → Answers wish reply
+answers_wish : (wish : Wish) (reply : Reply) → (is_take wish ≡ false → reply ≡ Gave) → (is_take wish ≡ true → reply ≢ Gave)
+    → Answers wish reply
 answers_wish Take Nothing gave took = tt
 answers_wish Take (Took head) gave took = tt
 answers_wish Take Gave gave took = took refl refl
@@ -106,11 +116,14 @@ answers_wish (Give head) (Took batch) gave took = let e = gave refl in grind ari
 answers_wish (Give head) Gave gave took = tt
 
 -- what the other parts give the pool of a view
-pub given : (sizes : Sizes) (words : Words) (views : ProcessViews) (history : List Entry) (ghosts : Ghosts) (i : ℕ) → i < sizes.processes → Holds sizes words views history ghosts → GivenToPool sizes (views i).transfer (words (name_of (action_of sizes (views i).transfer)))
+pub given : (sizes : Sizes) (words : Words) (views : ProcessViews) (history : List Entry) (ghosts : Ghosts) (i : ℕ) → i < sizes.processes
+    → Holds sizes words views history ghosts → GivenToPool sizes (views i).transfer (words (name_of (action_of sizes (views i).transfer)))
 given sizes words views history ghosts i li h =
     let word = words (name_of (action_of sizes (views i).transfer)) in
     let step = in_step sizes words views history ghosts i li h in
     record {
       few = (each_process sizes words (transfers views) ghosts.states i li h.stack).overlay;
-      answers = λ e. let (gave, took) = ends_answer (ghosts.states (state_tag words)) i (views i).transfer word (h.chains.hold.replies i li) step e in answers_wish (views i).transfer.wish (reply_of (value_of word)) gave took;
+      answers =
+          λ e. let (gave, took) = ends_answer (ghosts.states (state_tag words)) i (views i).transfer word (h.chains.hold.replies i li) step
+          e in answers_wish (views i).transfer.wish (reply_of (value_of word)) gave took;
     }

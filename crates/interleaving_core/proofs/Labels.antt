@@ -1,28 +1,33 @@
 -- labels fit the next steps
-use Rattle.std.proofs.Common.{◌≡◌, ℕ, ◌<◌, Bool, true, false, Option, None, Some, List, refl, ap, inl, inr, arith}
+use Rattle.std.proofs.Common.{◌≡◌, ℕ, ◌<◌, ◌⊎◌, Bool, true, false, Option, None, Some, List, refl, ap, inl, inr, arith}
 use Rattle.std.specs.Prelude.{if◌then◌else◌}
 use Rattle.word_layout.specs.Sizes.{Sizes}
 use Rattle.word_layout.specs.Names.{word_at}
 use Rattle.pool_model.specs.declared.entry.Entry.{Entry}
-use Rattle.transfer_machine.specs.Machine.{action_at}
-use Rattle.transfer_machine.specs.Phases.{is_rest, phase_at, phase_of, waiting_in}
-use Rattle.transfer_machine.specs.Stages.{kind_of, index_of}
-use Rattle.transfer_machine.specs.declared.call.Call.{Call}
-use Rattle.transfer_machine.specs.declared.call.Call.TheVariants.{Allocate, Free, Read, Write}
-use Rattle.transfer_machine.specs.declared.call.CallStage.{CallStage}
-use Rattle.transfer_machine.specs.declared.call.CallStage.TheVariants.{Between, Moving, Own}
-use Rattle.transfer_machine.specs.declared.call.Way.{Way}
-use Rattle.transfer_machine.specs.declared.call.Way.TheVariants.{Fresh, Alone, Calls}
+use Rattle.transfer_machine.specs.Machine.{try_action, action_at}
+use Rattle.transfer_machine.specs.Stages.{is_rest}
+use Rattle.pool_machine.specs.Phases.{phase_at, phase_of, waiting_in}
+use Rattle.transfer_machine.specs.Stages.{try_kind, kind_of, try_index, index_of, turn_of}
+use Rattle.pool_machine.specs.declared.call.Call.{Call}
+use Rattle.pool_machine.specs.declared.call.Call.TheVariants.{Allocate, Free, Read, Write}
+use Rattle.pool_machine.specs.declared.call.CallStage.{CallStage}
+use Rattle.pool_machine.specs.declared.call.CallStage.TheVariants.{Between, Moving, Own}
+use Rattle.pool_machine.specs.declared.call.Way.{Way}
+use Rattle.pool_machine.specs.declared.call.Way.TheVariants.{Fresh, Alone, Calls}
 use Rattle.transfer_machine.specs.declared.stage.NextStep.{NextStep}
-use Rattle.transfer_machine.specs.declared.stage.NextStep.TheVariants.{Rest, Announce, LoadState, LoadRecordWord, LoadCoveredSlot, ExchangeSlot, LoadAnnouncement, LoadPoppedSlot, StoreRecordWord, ExchangeState, LoadFinalState, LoadReply}
-use Rattle.transfer_machine.specs.declared.stage.Phase.{Phase}
-use Rattle.transfer_machine.specs.declared.stage.Phase.TheVariants as phase
+use Rattle.transfer_machine.specs.declared.stage.NextStep.TheVariants.{Rest, Announce, Try, LoadFinalState, LoadReply}
+use Rattle.transfer_machine.specs.declared.stage.TryStep.{TryStep}
+use Rattle.transfer_machine.specs.declared.stage.TryStep.TheVariants.{LoadState, LoadRecordWord, LoadCoveredSlot, ExchangeSlot}
+use Rattle.transfer_machine.specs.declared.stage.TryStep.TheVariants.{LoadAnnouncement, LoadPoppedSlot, StoreRecordWord, ExchangeState}
+use Rattle.pool_machine.specs.declared.phase.Phase.{Phase}
+use Rattle.pool_machine.specs.declared.phase.Phase.TheVariants as phase
 use Rattle.transfer_machine.specs.declared.transfer.TransferView.{TransferView}
-use Rattle.transfer_machine.specs.declared.view.PoolView.{PoolView}
-use Rattle.transfer_machine.specs.declared.view.ProcessView.{ProcessView}
+use Rattle.pool_machine.specs.declared.view.PoolView.{PoolView}
+use Rattle.pool_machine.specs.declared.view.ProcessView.{ProcessView}
 use Rattle.pool_machine.specs.OwnSteps.{next_block, allocate_action, allocate_kind, own_action_for, own_kind_for}
 use Rattle.pool_machine.specs.Steps.{call_action_at}
-use Rattle.interleaving_core.specs.LabelLaws.{KindFits, TransferKindsFit, NextKindsFit, PhaseFits, PhasesFit, is_moving, WaitingFits, WaitingsFit}
+use Rattle.interleaving_core.specs.LabelLaws.{KindFits, TransferKindsFit, NextKindsFit, TurnFits, TurnsFit, PhaseFits, PhasesFit}
+use Rattle.interleaving_core.specs.LabelLaws.{is_moving, WaitingFits, WaitingsFit}
 use Rattle.interleaving_core.specs.Moves.{CoreState, view_at}
 use Rattle.interleaving_core.specs.Steps.{is_alone, is_busy, is_in_call, call_kind_at, next_action, next_kind}
 use Rattle.interleaving_core.proofs.Standing.{fresh_rests, alone_between}
@@ -30,29 +35,59 @@ use Rattle.interleaving_core.proofs.Runs.{RunFits}
 use Rattle.interleaving_core.proofs.CallLaws.{every_run}
 
 -- the step of a transfer
+try_fits : (sizes : Sizes) (v : TransferView) (step : TryStep) → KindFits sizes v (try_kind step) (try_index step) (try_action sizes v step)
+try_fits sizes v LoadState = refl
+try_fits sizes v (LoadRecordWord index) = refl
+try_fits sizes v (LoadCoveredSlot offset) = refl
+try_fits sizes v (ExchangeSlot offset) = (_, (_, refl))
+try_fits sizes v (LoadAnnouncement process) = refl
+try_fits sizes v (LoadPoppedSlot process) = (_, refl)
+try_fits sizes v (StoreRecordWord index) = (_, refl)
+try_fits sizes v ExchangeState = (_, (_, refl))
+
 step_fits : (sizes : Sizes) (v : TransferView) (step : NextStep) → KindFits sizes v (kind_of step) (index_of step) (action_at sizes v step)
 step_fits sizes v Rest = refl
 step_fits sizes v Announce = (_, refl)
-step_fits sizes v LoadState = refl
-step_fits sizes v (LoadRecordWord index) = refl
-step_fits sizes v (LoadCoveredSlot offset) = refl
-step_fits sizes v (ExchangeSlot offset) = (_, (_, refl))
-step_fits sizes v (LoadAnnouncement process) = refl
-step_fits sizes v (LoadPoppedSlot process) = (_, refl)
-step_fits sizes v (StoreRecordWord index) = (_, refl)
-step_fits sizes v ExchangeState = (_, (_, refl))
+step_fits sizes v (Try second step) = try_fits sizes v step
 step_fits sizes v LoadFinalState = refl
 step_fits sizes v LoadReply = refl
+
+-- the turn of a transfer that it is in
+tries_in_turn : (step : TryStep) (turn : ℕ) → (turn ≡ 1) ⊎ (turn ≡ 2) → TurnFits (try_kind step) turn
+tries_in_turn LoadState turn e = e
+tries_in_turn (LoadRecordWord index) turn e = e
+tries_in_turn (LoadCoveredSlot offset) turn e = e
+tries_in_turn (ExchangeSlot offset) turn e = e
+tries_in_turn (LoadAnnouncement process) turn e = e
+tries_in_turn (LoadPoppedSlot process) turn e = e
+tries_in_turn (StoreRecordWord index) turn e = e
+tries_in_turn ExchangeState turn e = e
+
+one_or_two : (second : Bool) (step : TryStep) → (turn_of (Try second step) ≡ 1) ⊎ (turn_of (Try second step) ≡ 2)
+one_or_two true step = inr refl
+one_or_two false step = inl refl
+
+turn_fits : (step : NextStep) → TurnFits (kind_of step) (turn_of step)
+turn_fits Rest = refl
+turn_fits Announce = refl
+turn_fits (Try second step) = tries_in_turn step (turn_of (Try second step)) (one_or_two second step)
+turn_fits LoadFinalState = refl
+turn_fits LoadReply = refl
+
+pub turns_fit : TurnsFit
+turns_fit v = turn_fits v.next
 
 pub transfer_kinds_fit : TransferKindsFit
 transfer_kinds_fit sizes v = step_fits sizes v v.next
 
 -- the own step of a call
-allocate_fits : (sizes : Sizes) (v : TransferView) (index : ℕ) (block : Option ℕ) → KindFits sizes v (allocate_kind block) index (allocate_action block)
+allocate_fits : (sizes : Sizes) (v : TransferView) (index : ℕ) (block : Option ℕ)
+    → KindFits sizes v (allocate_kind block) index (allocate_action block)
 allocate_fits sizes v index None = refl
 allocate_fits sizes v index (Some block) = (block, refl)
 
-own_fits : (sizes : Sizes) (v : TransferView) (index : ℕ) (pool : PoolView) (call : Option Call) → KindFits sizes v (own_kind_for pool call) index (own_action_for pool call)
+own_fits : (sizes : Sizes) (v : TransferView) (index : ℕ) (pool : PoolView) (call : Option Call)
+    → KindFits sizes v (own_kind_for pool call) index (own_action_for pool call)
 own_fits sizes v index pool None = refl
 own_fits sizes v index pool (Some Allocate) = allocate_fits sizes v index (next_block pool)
 own_fits sizes v index pool (Some (Free block)) = (block, (_, refl))
@@ -60,14 +95,17 @@ own_fits sizes v index pool (Some (Read block place)) = (block, (place, refl))
 own_fits sizes v index pool (Some (Write block place value)) = (block, (place, (value, refl)))
 
 -- the step of a call, at each stage
-call_fits : (sizes : Sizes) (v : ProcessView) (stage : CallStage) → is_in_call stage ≡ true → KindFits sizes v.transfer (call_kind_at v stage) (index_of v.transfer.next) (call_action_at sizes v stage)
+call_fits : (sizes : Sizes) (v : ProcessView) (stage : CallStage) → is_in_call stage ≡ true
+    → KindFits sizes v.transfer (call_kind_at v stage) (index_of v.transfer.next) (call_action_at sizes v stage)
 call_fits sizes v Between inside = absurd (grind arith)
 call_fits sizes v Moving inside = step_fits sizes v.transfer v.transfer.next
 call_fits sizes v Own inside = own_fits sizes v.transfer (index_of v.transfer.next) v.pool v.calls.call
 
-next_fits : (sizes : Sizes) (v : ProcessView) (t : Bool) → is_alone v.calls.way ≡ t → is_busy v ≡ true → KindFits sizes v.transfer (next_kind v) (index_of v.transfer.next) (next_action sizes v)
+next_fits : (sizes : Sizes) (v : ProcessView) (t : Bool) → is_alone v.calls.way ≡ t → is_busy v ≡ true
+    → KindFits sizes v.transfer (next_kind v) (index_of v.transfer.next) (next_action sizes v)
 next_fits sizes v true alone busy = rw alone (step_fits sizes v.transfer v.transfer.next)
-next_fits sizes v false alone busy = let inside : is_in_call v.calls.stage ≡ true = rw alone at busy in rw alone (call_fits sizes v v.calls.stage inside)
+next_fits sizes v false alone busy =
+    let inside : is_in_call v.calls.stage ≡ true = rw alone at busy in rw alone (call_fits sizes v v.calls.stage inside)
 
 pub next_kinds_fit : NextKindsFit
 next_kinds_fit sizes v busy = next_fits sizes v (is_alone v.calls.way) refl busy
@@ -76,7 +114,8 @@ next_kinds_fit sizes v busy = next_fits sizes v (is_alone v.calls.way) refl busy
 in_both : {t : Bool} → t ≡ false → t ≡ true → ⊥
 in_both e f = grind arith
 
-phase_fits : (sizes : Sizes) (v : ProcessView) (way : Way) (stage : CallStage) (rest : Bool) → v.calls.way ≡ way → v.calls.stage ≡ stage → is_rest v.transfer.next ≡ rest
+phase_fits : (sizes : Sizes) (v : ProcessView) (way : Way) (stage : CallStage) (rest : Bool) → v.calls.way ≡ way → v.calls.stage ≡ stage
+    → is_rest v.transfer.next ≡ rest
     → (way ≡ Fresh → rest ≡ true) → (way ≡ Alone → is_in_call stage ≡ false)
     → PhaseFits sizes v (phase_at v stage)
 phase_fits sizes v Fresh Between true e f g fresh alone = rw (e, f, g) refl
@@ -92,7 +131,8 @@ phase_fits sizes v Calls Between false e f g fresh alone = rw (e, f, g) refl
 phase_fits sizes v Calls Moving rest e f g fresh alone = (refl, rw (e, f) refl, rw (e, f) refl)
 phase_fits sizes v Calls Own rest e f g fresh alone = (f, rw (e, f) refl, rw (e, f) refl)
 
-phases_here : (history : List Entry) (s : CoreState) → RunFits s history → (i : ℕ) → i < s.sizes.processes → PhaseFits s.sizes (view_at s i) (phase_of (view_at s i))
+phases_here : (history : List Entry) (s : CoreState) → RunFits s history → (i : ℕ) → i < s.sizes.processes
+    → PhaseFits s.sizes (view_at s i) (phase_of (view_at s i))
 phases_here history s fits i li =
     let v = view_at s i in
     phase_fits s.sizes v v.calls.way v.calls.stage (is_rest v.transfer.next) refl refl refl
@@ -100,10 +140,11 @@ phases_here history s fits i li =
     (alone_between s.sizes (word_at s.sizes s.words) (view_at s) history i li fits.meets)
 
 pub phases_fit : PhasesFit
-phases_fit = every_run (λ sizes history s. (i : ℕ) → i < sizes.processes → PhaseFits sizes (view_at s i) (phase_of (view_at s i))) phases_here
+phases_fit = every_run _ phases_here
 
 -- where a transfer waits
-waiting_fits : (v : ProcessView) (rest : Bool) (at : Phase) → is_rest v.transfer.next ≡ rest → phase_of v ≡ at → WaitingFits v (if rest then None else waiting_in v at)
+waiting_fits : (v : ProcessView) (rest : Bool) (at : Phase) → is_rest v.transfer.next ≡ rest → phase_of v ≡ at
+    → WaitingFits v (if rest then None else waiting_in v at)
 waiting_fits v true at g e = inl g
 waiting_fits v false phase.Between g e = (refl, g, ap is_moving e)
 waiting_fits v false (phase.Moving stage) g e = inr (ap is_moving e)

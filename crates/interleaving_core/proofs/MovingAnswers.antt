@@ -1,21 +1,21 @@
 -- a call that has begun is answered
 use Rattle.std.proofs.Common.{◌≡◌, ◌≢◌, ℕ, ◌+◌, ◌<◌, ◌≤◌, ◌==◌, ◌⊎◌, Bool, true, false, List, [], ◌∷◌, refl, sym, ap, ◌∙◌, inl, inr, arith}
-use Rattle.std.specs.Prelude.{nat_lt, ◌&&◌, ◌||◌, if◌then◌else◌}
+use Rattle.std.specs.Prelude.{nat_lt, ◌&&◌, ◌||◌}
 use Rattle.std.proofs.lemmas.Bool.{cases_eq}
 use Rattle.std.proofs.lemmas.Bool.Decides.{nat_tests}
 use Rattle.word_layout.specs.Sizes.{Sizes}
 use Rattle.word_layout.specs.declared.announced.Wish.{Wish}
 use Rattle.pool_model.specs.declared.entry.Entry.{Entry}
-use Rattle.transfer_machine.specs.Phases.{is_rest}
-use Rattle.transfer_machine.specs.Pools.{view_met}
+use Rattle.transfer_machine.specs.Stages.{is_rest}
+use Rattle.pool_machine.specs.Pools.{view_met}
 use Rattle.transfer_machine.specs.Words.{met_word}
-use Rattle.transfer_machine.specs.declared.call.Call.{Call}
-use Rattle.transfer_machine.specs.declared.call.Call.TheVariants.{Allocate}
-use Rattle.transfer_machine.specs.declared.call.CallStage.{CallStage}
-use Rattle.transfer_machine.specs.declared.call.CallStage.TheVariants.{Between, Moving, Own}
-use Rattle.transfer_machine.specs.declared.call.Way.TheVariants.{Calls}
+use Rattle.pool_machine.specs.declared.call.Call.{Call}
+use Rattle.pool_machine.specs.declared.call.Call.TheVariants.{Allocate}
+use Rattle.pool_machine.specs.declared.call.CallStage.{CallStage}
+use Rattle.pool_machine.specs.declared.call.CallStage.TheVariants.{Between, Moving, Own}
+use Rattle.pool_machine.specs.declared.call.Way.TheVariants.{Calls}
 use Rattle.transfer_machine.specs.declared.kind.Kind.{Kind}
-use Rattle.transfer_machine.specs.declared.view.ProcessView.{ProcessView}
+use Rattle.pool_machine.specs.declared.view.ProcessView.{ProcessView}
 use Rattle.pool_machine.specs.Laws.{most_moves}
 use Rattle.pool_machine.specs.OwnSteps.{own_kind, own_answer}
 use Rattle.pool_machine.specs.Steps.{call_met_at, call_answer_at, happened}
@@ -26,9 +26,10 @@ use Rattle.interleaving_core.specs.Moves.{CoreState, view_at}
 use Rattle.interleaving_core.specs.MovingLaws.{is_event_of, events_of, answers_call, is_answered, CallsAreAnswered}
 use Rattle.interleaving_core.specs.Runs.{Turn, Moves, Events, IsRun, turns, is_made, turning_view, after_turn, turn_answer}
 use Rattle.interleaving_core.specs.Steps.{is_in_call, next_action}
-use Rattle.interleaving_core.proofs.Runs.{RunFits, run_fits, turn_low}
+use Rattle.interleaving_core.proofs.Runs.{first_inside, RunFits, run_fits, turn_low}
 use Rattle.interleaving_core.proofs.CallLaws.{shapes_stay, every_run}
-use Rattle.interleaving_core.proofs.CallLawsShort.{FirstStepsLeave, first_left, LaterStepsLeave, later_left, in_call_made, inside_view, other_view, ignored_state, low_here}
+use Rattle.interleaving_core.proofs.CallLawsShort.{FirstStepsLeave, first_left, LaterStepsLeave, later_left, in_call_made, inside_view}
+use Rattle.interleaving_core.proofs.CallLawsShort.{other_view, ignored_state, low_here}
 use Rattle.interleaving_core.proofs.CallLawsTurns.{turn_calls, after_is, answer_is}
 
 -- the step of a call at its own step answers it, and the call goes on after any other
@@ -37,14 +38,11 @@ owns_answer kind (answer.Recorded entry) = refl
 owns_answer kind (answer.Loaded word) = refl
 owns_answer kind answer.Stored = refl
 
-stays_inside : (t : Bool) → is_in_call (if t then Own else Moving) ≡ true
-stays_inside true = refl
-stays_inside false = refl
-
 step_answers : (sizes : Sizes) (v : ProcessView) (word : ℕ) (stage : CallStage) → is_in_call stage ≡ true
     → (answers_call (call_answer_at v word stage) ≡ true) ⊎ (is_in_call (call_met_at sizes v word stage).calls.stage ≡ true)
 step_answers sizes v word Between inside = absurd (grind arith)
-step_answers sizes v word Moving inside = inr (stays_inside (is_rest (view_met sizes v word).transfer.next || (v.calls.steps + 1 == sizes.quantum)))
+step_answers sizes v word Moving inside =
+    inr (first_inside (is_rest (view_met sizes v word).transfer.next || (v.calls.steps + 1 == sizes.quantum)))
 step_answers sizes v word Own inside = inl (owns_answer (own_kind v) (own_answer v word))
 
 -- so does a turn of a call
@@ -60,9 +58,11 @@ turn_answers s history i call fits made =
     ]
 
 -- a process in a call makes no transfers alone
-inside_calls : (s : CoreState) (history : List Entry) (i : ℕ) → RunFits s history → i < s.sizes.processes → is_in_call (view_at s i).calls.stage ≡ true → (view_at s i).calls.way ≡ Calls
+inside_calls : (s : CoreState) (history : List Entry) (i : ℕ) → RunFits s history → i < s.sizes.processes
+    → is_in_call (view_at s i).calls.stage ≡ true → (view_at s i).calls.way ≡ Calls
 inside_calls s history i fits li inside =
-    sym (ap (λ x. x.calls.way) (inside_view Allocate (view_at s i) true inside refl)) ∙ (turn_calls history s i Allocate fits (in_call_made s i Allocate li inside)).way
+    sym (ap (λ x. x.calls.way) (inside_view Allocate (view_at s i) true inside refl))
+    ∙ (turn_calls history s i Allocate fits (in_call_made s i Allocate li inside)).way
 
 no_move : (s : CoreState) (i : ℕ) (wish : Wish) → (view_at s i).calls.way ≡ Calls → is_made (Moves i wish) s ≡ false
 no_move s i wish e = rw e (none_second (nat_lt i s.sizes.processes))
@@ -71,6 +71,7 @@ no_move s i wish e = rw e (none_second (nat_lt i s.sizes.processes))
     none_second true = refl
     none_second false = refl
 
+-- tests and numbers
 second_is : (a b : Bool) → b ≡ true → (a || b) ≡ true
 second_is true b e = refl
 second_is false b e = e
@@ -88,22 +89,28 @@ isnt a b ne = grind (arith, nat_tests)
 apart : (a b : ℕ) → (a == b) ≡ false → a ≢ b
 apart a b off = grind (arith, nat_tests)
 
-other_turn : (s : CoreState) (history : List Entry) (i : ℕ) (turn : Turn) → RunFits s history → i < s.sizes.processes → is_in_call (view_at s i).calls.stage ≡ true → is_event_of i turn ≡ false
+other_turn : (s : CoreState) (history : List Entry) (i : ℕ) (turn : Turn) → RunFits s history → i < s.sizes.processes
+    → is_in_call (view_at s i).calls.stage ≡ true → is_event_of i turn ≡ false
     → view_at (after_turn turn s) i ≡ view_at s i
 other_turn s history i (Moves by wish) fits li inside none = elim (cases_eq by i) [
-  | inl same ↦ let off : is_made (Moves by wish) s ≡ false = rw same (no_move s i wish (inside_calls s history i fits li inside)) in ap (λ t. view_at t i) (ignored_state s (Moves by wish) off)
+  | inl same ↦
+      let off : is_made (Moves by wish) s ≡ false = rw same (no_move s i wish (inside_calls s history i fits li inside)) in
+      ap (λ t. view_at t i) (ignored_state s (Moves by wish) off)
   | inr ne ↦ other_view s (Moves by wish) i (is_made (Moves by wish) s) ne
 ]
 other_turn s history i (Events by call) fits li inside none = other_view s (Events by call) i (is_made (Events by call) s) (apart by i none)
 
 -- one turn more
-answered_first : (s : CoreState) (i : ℕ) (call : Call) (more : List Turn) → answers_call (turn_answer (Events i call) s) ≡ true → is_answered i (Events i call ∷ more) s ≡ true
+answered_first : (s : CoreState) (i : ℕ) (call : Call) (more : List Turn) → answers_call (turn_answer (Events i call) s) ≡ true
+    → is_answered i (Events i call ∷ more) s ≡ true
 unfolding is_answered
 answered_first s i call more told = let own : (i == i) ≡ true = grind (arith, nat_tests) in rw (own, told) refl
 
-answered_later : (s : CoreState) (i : ℕ) (turn : Turn) (more : List Turn) → is_answered i more (after_turn turn s) ≡ true → is_answered i (turn ∷ more) s ≡ true
+answered_later : (s : CoreState) (i : ℕ) (turn : Turn) (more : List Turn) → is_answered i more (after_turn turn s) ≡ true
+    → is_answered i (turn ∷ more) s ≡ true
 unfolding is_answered
-answered_later s i turn more later = second_is (is_event_of i turn && answers_call (turn_answer turn s)) (is_answered i more (after_turn turn s)) later
+answered_later s i turn more later =
+    second_is (is_event_of i turn && answers_call (turn_answer turn s)) (is_answered i more (after_turn turn s)) later
 
 events_none : (i : ℕ) → events_of i [] ≡ 0
 unfolding events_of
@@ -125,29 +132,37 @@ some_left quantum made Own inside = omega arith
 
 -- a process in a call has it answered in these turns, if as many of them are its own as the call has steps left
 abbrev IsAnsweredInside : Sizes → ℕ → List Turn → Type 0
-IsAnsweredInside sizes i more = (past : List Turn) (history : List Entry) (s : CoreState) → IsRun sizes past history s → is_in_call (view_at s i).calls.stage ≡ true
+IsAnsweredInside sizes i more =
+    (past : List Turn) (history : List Entry) (s : CoreState) → IsRun sizes past history s → is_in_call (view_at s i).calls.stage ≡ true
     → steps_left sizes.quantum (view_at s i).calls ≤ events_of i more → is_answered i more s ≡ true
 
 -- by a turn of the call one step fewer is left, if it isn't the answer
-own_inside : (sizes : Sizes) (i : ℕ) (call : Call) (more : List Turn) → i < sizes.processes → IsAnsweredInside sizes i more → IsAnsweredInside sizes i (Events i call ∷ more)
+own_inside : (sizes : Sizes) (i : ℕ) (call : Call) (more : List Turn) → i < sizes.processes → IsAnsweredInside sizes i more
+    → IsAnsweredInside sizes i (Events i call ∷ more)
 own_inside sizes i call more li later past history s run inside left =
     let low = low_there sizes s i (shapes_stay sizes past history s run) li in
     let less = every_run LaterStepsLeave later_left sizes past history s run i call li inside in
     elim (turn_answers s history i call (run_fits sizes past history s run) (in_call_made s i call low inside)) [
       | inl told ↦ answered_first s i call more told
       | inr goes ↦ answered_later s i (Events i call) more
-          (later _ _ (after_turn (Events i call) s) (turns past history s (Events i call) run) goes (one_less (steps_left sizes.quantum (view_at (after_turn (Events i call) s) i).calls) (rw (events_own i call more) at left) less))
+          (later _ _ (after_turn (Events i call) s) (turns past history s (Events i call) run) goes
+          (one_less (steps_left sizes.quantum (view_at (after_turn (Events i call) s) i).calls)
+          (rw (events_own i call more) at left) less))
     ]
 
 -- and by any other turn none
-other_inside : (sizes : Sizes) (i : ℕ) (turn : Turn) (more : List Turn) → i < sizes.processes → is_event_of i turn ≡ false → IsAnsweredInside sizes i more → IsAnsweredInside sizes i (turn ∷ more)
+other_inside : (sizes : Sizes) (i : ℕ) (turn : Turn) (more : List Turn) → i < sizes.processes → is_event_of i turn ≡ false
+    → IsAnsweredInside sizes i more → IsAnsweredInside sizes i (turn ∷ more)
 other_inside sizes i turn more li none later past history s run inside left =
-    let same = other_turn s history i turn (run_fits sizes past history s run) (low_there sizes s i (shapes_stay sizes past history s run) li) inside none in
+    let same = other_turn s history i turn (run_fits sizes past history s run)
+    (low_there sizes s i (shapes_stay sizes past history s run) li) inside none in
     answered_later s i turn more
-    (later _ _ (after_turn turn s) (turns past history s turn run) (ap (λ x. is_in_call x.calls.stage) same ∙ inside) (rw same (rw (events_other i turn more none) at left)))
+    (later _ _ (after_turn turn s) (turns past history s turn run) (ap (λ x. is_in_call x.calls.stage) same ∙ inside)
+    (rw same (rw (events_other i turn more none) at left)))
 
 none_left : (sizes : Sizes) (i : ℕ) → IsAnsweredInside sizes i []
-none_left sizes i past history s run inside left = absurd (nothing _ (some_left sizes.quantum (view_at s i).calls.steps (view_at s i).calls.stage inside) (rw (events_none i) at left))
+none_left sizes i past history s run inside left =
+    absurd (nothing _ (some_left sizes.quantum (view_at s i).calls.steps (view_at s i).calls.stage inside) (rw (events_none i) at left))
   where
     nothing : (left : ℕ) → 1 ≤ left → left ≤ 0 → ⊥
     nothing left some none = omega (arith, some, none)
@@ -167,7 +182,8 @@ calls_are_answered sizes past history s run i call more between made many =
     elim (turn_answers s history i call (run_fits sizes past history s run) made) [
       | inl told ↦ answered_first s i call more told
       | inr goes ↦ answered_later s i (Events i call) more
-          (inside_answered sizes i more li _ _ (after_turn (Events i call) s) (turns past history s (Events i call) run) goes (all_left _ (most_moves sizes call) (events_of i more) first (rw (events_own i call more) at many)))
+          (inside_answered sizes i more li _ _ (after_turn (Events i call) s) (turns past history s (Events i call) run) goes
+          (all_left _ (most_moves sizes call) (events_of i more) first (rw (events_own i call more) at many)))
     ]
   where
     all_left : (left most events : ℕ) → left + 1 ≤ most + 1 → most + 1 ≤ 1 + events → left ≤ events

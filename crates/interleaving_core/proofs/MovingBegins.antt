@@ -1,17 +1,20 @@
 -- what a process may begin it begins
-use Rattle.std.proofs.Common.{◌≡◌, ◌≢◌, ℕ, ◌<◌, ◌≤◌, ◌^◌, ◌==◌, Bool, true, false, List, length, refl, arith}
+use Rattle.std.proofs.Common.{◌≡◌, ◌≢◌, ℕ, ◌<◌, ◌≤◌, ◌==◌, Bool, true, false, List, length, refl, arith}
 use Rattle.std.specs.Prelude.{nat_lt, nat_le, ◌&&◌, ◌||◌, not}
 use Rattle.std.proofs.lemmas.Bool.Decides.{nat_tests}
 use Rattle.word_layout.specs.Names.{word_at}
+use Rattle.word_layout.specs.Packing.{most_age}
 use Rattle.word_layout.specs.declared.announced.Wish.{Wish}
 use Rattle.word_layout.specs.declared.announced.Wish.TheVariants.{Take, Give}
 use Rattle.pool_model.specs.declared.entry.Entry.{Entry}
-use Rattle.transfer_machine.specs.Phases.{is_rest}
-use Rattle.transfer_machine.specs.declared.call.Call.{Call}
-use Rattle.transfer_machine.specs.declared.call.Call.TheVariants.{Allocate, Free, Read, Write}
-use Rattle.transfer_machine.specs.declared.call.Way.{Way}
-use Rattle.transfer_machine.specs.declared.call.Way.TheVariants.{Fresh, Alone, Calls}
-use Rattle.transfer_machine.specs.declared.view.PoolView.{PoolView}
+use Rattle.transfer_schedule.specs.Beginning.{may_begin}
+use Rattle.transfer_schedule.specs.declared.pending.Pending.TheVariants.{Giving}
+use Rattle.transfer_machine.specs.Stages.{is_rest}
+use Rattle.pool_machine.specs.declared.call.Call.{Call}
+use Rattle.pool_machine.specs.declared.call.Call.TheVariants.{Allocate, Free, Read, Write}
+use Rattle.pool_machine.specs.declared.call.Way.{Way}
+use Rattle.pool_machine.specs.declared.call.Way.TheVariants.{Fresh, Alone, Calls}
+use Rattle.pool_machine.specs.declared.view.PoolView.{PoolView}
 use Rattle.pool_machine.specs.Beginning.{newest}
 use Rattle.pool_machine.specs.Conditions.{may_use_calls, may_use_transfers, names_fit}
 use Rattle.interleaving_core.specs.Moves.{CoreState, view_at, holder_of, is_holder, holds_for, may_wish}
@@ -26,6 +29,9 @@ use Rattle.interleaving_core.proofs.CallLaws.{every_run}
 -- tests of what is known
 is_less : (a b : ℕ) → a < b → nat_lt a b ≡ true
 is_less a b lt = grind (arith, nat_tests)
+
+is_most : (a b : ℕ) → a ≤ b → nat_le a b ≡ true
+is_most a b le = grind (arith, nat_tests)
 
 both_are : (a b : Bool) → a ≡ true → b ≡ true → (a && b) ≡ true
 both_are a b e f = rw (e, f) refl
@@ -46,69 +52,81 @@ uses_transfers Alone ne = refl
 uses_transfers Calls ne = absurd (ne refl)
 
 -- a call whose names fit begins between two calls
-call_begins : (s : CoreState) (i : ℕ) (call : Call) → StandsBetween s.sizes i s → names_fit s.sizes (holds_for s.holders i call) call ≡ true → is_made (Events i call) s ≡ true
+call_begins : (s : CoreState) (i : ℕ) (call : Call) → StandsBetween s.sizes i s
+    → names_fit s.sizes (holds_for s.holders i call) call ≡ true → is_made (Events i call) s ≡ true
 call_begins s i call stands names =
     let v = view_at s i in
-    let young = both_are (nat_lt v.transfer.age (2 ^ 32)) (names_fit s.sizes (holds_for s.holders i call) call) (is_less v.transfer.age (2 ^ 32) stands.young) names in
+    let young = both_are (nat_lt v.transfer.age most_age) (names_fit s.sizes (holds_for s.holders i call) call)
+    (is_less v.transfer.age most_age stands.young) names in
     let may = both_are (may_use_calls v.calls.way) _ (uses_calls v.calls.way stands.way) young in
     both_are (nat_lt i s.sizes.processes) _ (is_less i s.sizes.processes stands.low) (second_is (is_in_call v.calls.stage) _ may)
 
-allocates_here : (history : List Entry) (s : CoreState) → RunFits s history → (i : ℕ) → StandsBetween s.sizes i s → is_made (Events i Allocate) s ≡ true
+allocates_here : (history : List Entry) (s : CoreState) → RunFits s history → (i : ℕ) → StandsBetween s.sizes i s
+    → is_made (Events i Allocate) s ≡ true
 allocates_here history s fits i stands = call_begins s i Allocate stands refl
 
 pub allocates_begin : laws.AllocatesBegin
-allocates_begin = every_run (λ sizes history s. (i : ℕ) → StandsBetween sizes i s → is_made (Events i Allocate) s ≡ true) allocates_here
+allocates_begin = every_run _ allocates_here
 
-frees_here : (history : List Entry) (s : CoreState) → RunFits s history → (i block : ℕ) → StandsBetween s.sizes i s → is_holder i (holder_of s block) ≡ true → is_made (Events i (Free block)) s ≡ true
+frees_here : (history : List Entry) (s : CoreState) → RunFits s history → (i block : ℕ) → StandsBetween s.sizes i s
+    → is_holder i (holder_of s block) ≡ true → is_made (Events i (Free block)) s ≡ true
 frees_here history s fits i block stands holds = call_begins s i (Free block) stands holds
 
 pub frees_begin : laws.FreesBegin
-frees_begin = every_run (λ sizes history s. (i block : ℕ) → StandsBetween sizes i s → is_holder i (holder_of s block) ≡ true → is_made (Events i (Free block)) s ≡ true) frees_here
+frees_begin = every_run _ frees_here
 
-reads_here : (history : List Entry) (s : CoreState) → RunFits s history → (i block index : ℕ) → StandsBetween s.sizes i s → is_holder i (holder_of s block) ≡ true → index < s.sizes.words
+reads_here : (history : List Entry) (s : CoreState) → RunFits s history → (i block index : ℕ) → StandsBetween s.sizes i s
+    → is_holder i (holder_of s block) ≡ true → index < s.sizes.words
     → is_made (Events i (Read block index)) s ≡ true
 reads_here history s fits i block index stands holds within =
-    call_begins s i (Read block index) stands (both_are (is_holder i (holder_of s block)) (nat_lt index s.sizes.words) holds (is_less index s.sizes.words within))
+    call_begins s i (Read block index) stands
+    (both_are (is_holder i (holder_of s block)) (nat_lt index s.sizes.words) holds (is_less index s.sizes.words within))
 
 pub reads_begin : laws.ReadsBegin
-reads_begin = every_run (λ sizes history s. (i block index : ℕ) → StandsBetween sizes i s → is_holder i (holder_of s block) ≡ true → index < sizes.words → is_made (Events i (Read block index)) s ≡ true) reads_here
+reads_begin = every_run _ reads_here
 
-writes_here : (history : List Entry) (s : CoreState) → RunFits s history → (i block index value : ℕ) → StandsBetween s.sizes i s → is_holder i (holder_of s block) ≡ true → index < s.sizes.words
+writes_here : (history : List Entry) (s : CoreState) → RunFits s history → (i block index value : ℕ) → StandsBetween s.sizes i s
+    → is_holder i (holder_of s block) ≡ true → index < s.sizes.words
     → is_made (Events i (Write block index value)) s ≡ true
 writes_here history s fits i block index value stands holds within =
-    call_begins s i (Write block index value) stands (both_are (is_holder i (holder_of s block)) (nat_lt index s.sizes.words) holds (is_less index s.sizes.words within))
+    call_begins s i (Write block index value) stands
+    (both_are (is_holder i (holder_of s block)) (nat_lt index s.sizes.words) holds (is_less index s.sizes.words within))
 
 pub writes_begin : laws.WritesBegin
-writes_begin = every_run (λ sizes history s. (i block index value : ℕ) → StandsBetween sizes i s → is_holder i (holder_of s block) ≡ true → index < sizes.words → is_made (Events i (Write block index value)) s ≡ true) writes_here
+writes_begin = every_run _ writes_here
 
 -- a transfer that the pool may begin begins at rest
-transfer_begins : (s : CoreState) (i : ℕ) (wish : Wish) → StandsAtRest s.sizes i s → may_wish wish (view_at s i).pool ≡ true → is_made (Moves i wish) s ≡ true
+transfer_begins : (s : CoreState) (i : ℕ) (wish : Wish) → StandsAtRest s.sizes i s → may_wish wish (view_at s i).pool ≡ true
+    → is_made (Moves i wish) s ≡ true
 transfer_begins s i wish stands may =
     let v = view_at s i in
-    let young = both_are (nat_lt v.transfer.age (2 ^ 32)) (may_wish wish v.pool) (is_less v.transfer.age (2 ^ 32) stands.young) may in
+    let young = both_are (nat_lt v.transfer.age most_age) (may_wish wish v.pool) (is_less v.transfer.age most_age stands.young) may in
     let first = second_is (not (is_rest v.transfer.next)) _ young in
-    both_are (nat_lt i s.sizes.processes) _ (is_less i s.sizes.processes stands.low) (both_are (may_use_transfers v.calls.way) _ (uses_transfers v.calls.way stands.way) first)
+    both_are (nat_lt i s.sizes.processes) _ (is_less i s.sizes.processes stands.low)
+    (both_are (may_use_transfers v.calls.way) _ (uses_transfers v.calls.way stands.way) first)
 
-takes_here : (history : List Entry) (s : CoreState) → RunFits s history → (i : ℕ) → StandsAtRest s.sizes i s → (view_at s i).pool.plan.spares ≤ 1 → is_made (Moves i Take) s ≡ true
-takes_here history s fits i stands few = transfer_begins s i Take stands (is_most (view_at s i).pool.plan.spares few)
-  where
-    is_most : (a : ℕ) → a ≤ 1 → nat_le a 1 ≡ true
-    is_most a le = grind (arith, nat_tests)
+takes_here : (history : List Entry) (s : CoreState) → RunFits s history → (i : ℕ) → StandsAtRest s.sizes i s
+    → (view_at s i).pool.plan.spares ≤ 1 → is_made (Moves i Take) s ≡ true
+takes_here history s fits i stands few = transfer_begins s i Take stands (is_most (view_at s i).pool.plan.spares 1 few)
 
 pub takes_begin : laws.TakesBegin
-takes_begin = every_run (λ sizes history s. (i : ℕ) → StandsAtRest sizes i s → (view_at s i).pool.plan.spares ≤ 1 → is_made (Moves i Take) s ≡ true) takes_here
+takes_begin = every_run _ takes_here
 
 gives_newest : (pool : PoolView) → length pool.heads ≡ pool.plan.spares → 1 ≤ pool.plan.spares → may_wish (Give (newest pool)) pool ≡ true
-gives_newest pool heads some = both_are (nat_lt 0 (length pool.heads)) (newest pool == newest pool) (is_less 0 (length pool.heads) (rw heads some)) (same (newest pool))
+gives_newest pool heads some =
+    let one = both_are (may_begin Giving pool.plan.spares) (newest pool == newest pool) (is_most 1 pool.plan.spares some)
+    (same (newest pool)) in
+    both_are (nat_lt 0 (length pool.heads)) _ (is_less 0 (length pool.heads) (rw heads some)) one
   where
     same : (n : ℕ) → (n == n) ≡ true
     same n = grind (arith, nat_tests)
 
-gives_here : (history : List Entry) (s : CoreState) → RunFits s history → (i : ℕ) → StandsAtRest s.sizes i s → 1 ≤ (view_at s i).pool.plan.spares → is_made (Moves i (Give (newest (view_at s i).pool))) s ≡ true
+gives_here : (history : List Entry) (s : CoreState) → RunFits s history → (i : ℕ) → StandsAtRest s.sizes i s
+    → 1 ≤ (view_at s i).pool.plan.spares → is_made (Moves i (Give (newest (view_at s i).pool))) s ≡ true
 gives_here history s fits i stands some =
     let (ghosts, h) = fits.meets in
     let heads = (keeps s.sizes (word_at s.sizes s.words) (view_at s) history ghosts i fits.shape stands.low h).heads in
     transfer_begins s i (Give (newest (view_at s i).pool)) stands (gives_newest (view_at s i).pool heads some)
 
 pub gives_begin : laws.GivesBegin
-gives_begin = every_run (λ sizes history s. (i : ℕ) → StandsAtRest sizes i s → 1 ≤ (view_at s i).pool.plan.spares → is_made (Moves i (Give (newest (view_at s i).pool))) s ≡ true) gives_here
+gives_begin = every_run _ gives_here

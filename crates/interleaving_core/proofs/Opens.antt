@@ -45,7 +45,8 @@ opening_ghosts sizes = record {
 knows_opening : (s : StackState) (sizes : Sizes) (i : ℕ) (ledger : Ledger) → KnowsOfNothing s i (opening_view sizes i).transfer ledger
 knows_opening s sizes i ledger announced = absurd (grind arith)
 
-pub opening_holds : (sizes : Sizes) (words : List ℕ) (views : ProcessViews) → IsShape sizes → AreOpening sizes words → ((i : ℕ) → i < sizes.processes → views i ≡ opening_view sizes i)
+pub opening_holds : (sizes : Sizes) (words : List ℕ) (views : ProcessViews) → IsShape sizes → AreOpening sizes words
+    → ((i : ℕ) → i < sizes.processes → views i ≡ opening_view sizes i)
     → MeetsInvariant sizes words views []
 opening_holds sizes words views shape opening seats = (
   opening_ghosts sizes,
@@ -55,9 +56,13 @@ opening_holds sizes words views shape opening seats = (
         (λ b lt. opening.each (Next b) lt) (opened_height sizes) (λ k lt. opened_content sizes k) seats (λ i li. refl);
     pools = λ i li. rw (seats i li) (opening_calls sizes i);
     entries = histories.opening_holds (limits_of sizes) (transfer_bound sizes) sizes.quantum (opening_ghosts sizes).ledgers (λ i li. refl);
-    empties = λ i li. rw (seats i li) (knows_opening (opening_state sizes) sizes i (opening_ledger sizes.length (transfer_bound sizes) sizes.quantum));
+    empties =
+        λ i li. rw (seats i li)
+        (knows_opening (opening_state sizes) sizes i (opening_ledger sizes.length (transfer_bound sizes) sizes.quantum));
     names = λ i li. rw (seats i li) tt;
-    data_words = λ i li. record { holds = λ block index value e. absurd (grind arith); within = λ block index value e. absurd (grind arith); value = λ block index value e. absurd (grind arith) };
+    data_words =
+        λ i li. record { holds = λ block index value e. absurd (grind arith); within = λ block index value e. absurd (grind arith);
+        value = λ block index value e. absurd (grind arith) };
   },
 )
 
@@ -65,11 +70,13 @@ opening_holds sizes words views shape opening seats = (
 current_low : (sizes : Sizes) (words : Words) (states : States) → CurrentRecord sizes words states → current_record words < records sizes
 current_low sizes words states h = h.row
 
-row_said : (sizes : Sizes) (list : List ℕ) → current_record (word_at sizes list) < records sizes → table.current_record sizes list < records sizes
+row_said : (sizes : Sizes) (list : List ℕ) → current_record (word_at sizes list) < records sizes
+    → table.current_record sizes list < records sizes
 unfolding current_record
 row_said sizes list h = h
 
-said : (sizes : Sizes) (list : List ℕ) (s : StackState) → length list ≡ table_words sizes → table.current_record sizes list < records sizes → TableShows sizes list s → StateFits sizes s
+said : (sizes : Sizes) (list : List ℕ) (s : StackState) → length list ≡ table_words sizes → table.current_record sizes list < records sizes
+    → TableShows sizes list s → StateFits sizes s
     → SaysContent sizes list
 said sizes list s whole row shows fits =
     let base = shows.base in
@@ -79,9 +86,11 @@ said sizes list s whole row shows fits =
     record { whole = whole; row = row; overlay = omega arith; height = omega arith }
 
 -- the words say the content of the stack
-pub content_said : (sizes : Sizes) (list : List ℕ) (views : ProcessViews) (history : List Entry) → length list ≡ table_words sizes → MeetsInvariant sizes list views history → SaysContent sizes list
+pub content_said : (sizes : Sizes) (list : List ℕ) (views : ProcessViews) (history : List Entry) → length list ≡ table_words sizes
+    → MeetsInvariant sizes list views history → SaysContent sizes list
 content_said sizes list views history whole (ghosts, h) =
     let words = word_at sizes list in
     let shows = tables_show sizes list (transfers views) ghosts.states h.stack in
     let fits = h.stack.transfers.records.states_fit (state_tag words) (omega arith) in
-    said sizes list (present words ghosts.states) whole (row_said sizes list (current_low sizes words ghosts.states h.stack.transfers.records.current)) shows fits
+    said sizes list (present words ghosts.states) whole
+        (row_said sizes list (current_low sizes words ghosts.states h.stack.transfers.records.current)) shows fits

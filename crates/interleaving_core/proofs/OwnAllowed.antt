@@ -30,26 +30,32 @@ some_left n e = grind (arith, nat_tests)
 starts_fresh : (plan : schedule.Numbers) (l : ℕ) → plan.length ≡ l → plan.current ≡ l → schedule.target_of plan ≡ target.Fresh
 starts_fresh plan l size full = grind (arith, nat_tests)
 
-module _ (sizes : Sizes) (words : Words) (views : ProcessViews) (history : List Entry) (ghosts : Ghosts) (i : ℕ) (d : OwnDue sizes words views history ghosts i) where
+module _ (sizes : Sizes) (words : Words) (views : ProcessViews) (history : List Entry) (ghosts : Ghosts) (i : ℕ)
+    (d : OwnDue sizes words views history ghosts i) where
   -- of an allocate
   allocate_can : (t u : Bool) → nat_lt 0 (views i).pool.plan.current ≡ t → nat_lt 0 (views i).pool.plan.spares ≡ u
       → CanAllocate sizes (views i).pool (if t then source.Current else (if u then source.Spare else source.Nothing))
-      × CanFollow (words (name_of (allocate_action (block_from (views i).pool (if t then source.Current else (if u then source.Spare else source.Nothing)))))) (if t then source.Current else (if u then source.Spare else source.Nothing))
+      × CanFollow (words (name_of
+          (allocate_action (block_from (views i).pool (if t then source.Current else (if u then source.Spare else source.Nothing))))))
+          (if t then source.Current else (if u then source.Spare else source.Nothing))
   allocate_can true u et eu =
       let some = some_left (views i).pool.plan.current et in
-      let lists = current_lists_are_free sizes words (ghosts.states (state_tag words)) views (held_in ghosts.ledgers) i d.low d.holds.chains in
+      let lists = current_lists_are_free sizes words (ghosts.states (state_tag words)) views (held_in ghosts.ledgers) i d.low d.holds.chains
+          in
       let first = lists.1 (λ e. omega arith) in
       let free = lists.2 (λ e. omega arith) in
       let next = lists.3 (λ e. omega arith) in
       ((first, omega (arith, first, free.low)), omega (arith, next, d.shape.few_blocks))
   allocate_can false true et eu =
       let some : 1 ≤ length (views i).pool.heads = omega (arith, d.goes.heads, some_left (views i).pool.plan.spares eu) in
-      let spare = spares_are_free sizes words (ghosts.states (state_tag words)) views (held_in ghosts.ledgers) i (length (views i).pool.heads - 1) d.shape d.low d.holds.chains (omega (arith, some)) in
+      let spare = spares_are_free sizes words (ghosts.states (state_tag words)) views (held_in ghosts.ledgers) i
+          (length (views i).pool.heads - 1) d.shape d.low d.holds.chains (omega (arith, some)) in
       ((some, spare.0.low), omega (arith, spare.1, d.shape.few_blocks))
   allocate_can false false et eu = (tt, tt)
 
   -- of a free: a process that holds a block has room for one more spare
-  free_room : (block : ℕ) → (views i).calls.call ≡ Some (Free block) → (views i).pool.plan.current ≡ sizes.length → length (views i).pool.heads < 3
+  free_room : (block : ℕ) → (views i).calls.call ≡ Some (Free block) → (views i).pool.plan.current ≡ sizes.length
+      → length (views i).pool.heads < 3
   free_room block call full =
       let g = ghosts.ledgers i in
       let counts = (d.holds.entries.each i d.low).counts in
@@ -60,11 +66,13 @@ module _ (sizes : Sizes) (words : Words) (views : ProcessViews) (history : List 
 
   free_can : (block : ℕ) → (views i).calls.call ≡ Some (Free block) → CanOwnFor sizes (views i).pool (Some (Free block))
   free_can block call =
-      (own_can_at sizes words (ghosts.states (state_tag words)) views (held_in ghosts.ledgers) i d.shape d.low d.holds.chains d.goes.heads (Some (Free block)) d.goes.runs.kept.batch d.goes.runs.kept.room
+      (own_can_at sizes words (ghosts.states (state_tag words)) views (held_in ghosts.ledgers) i d.shape d.low d.holds.chains d.goes.heads
+          (Some (Free block)) d.goes.runs.kept.batch d.goes.runs.kept.room
       (rw call at (names sizes words views history ghosts i d)) (free_room block call)).0
 
   held_low : (block : ℕ) → Contains (held_in ghosts.ledgers i) block → block < blocks sizes
-  held_low block has = (held_are_apart sizes words (ghosts.states (state_tag words)) views (held_in ghosts.ledgers) i block d.low d.holds.chains has).0
+  held_low block has =
+      (held_are_apart sizes words (ghosts.states (state_tag words)) views (held_in ghosts.ledgers) i block d.low d.holds.chains has).0
 
   -- of any call
   own_can : (call : Option Call) → (views i).calls.call ≡ call → NamesHeld sizes (held_in ghosts.ledgers i) call
@@ -75,8 +83,10 @@ module _ (sizes : Sizes) (words : Words) (views : ProcessViews) (history : List 
   own_can (Some (Read block index)) e named = ((held_low block named.0, named.1), tt)
   own_can (Some (Write block index value)) e named = ((held_low block named.0, named.1), tt)
 
-pub own_step_allowed : (sizes : Sizes) (words : Words) (views : ProcessViews) (history : List Entry) (ghosts : Ghosts) (i : ℕ) → IsShape sizes → i < sizes.processes → Holds sizes words views history ghosts
+pub own_step_allowed : (sizes : Sizes) (words : Words) (views : ProcessViews) (history : List Entry) (ghosts : Ghosts) (i : ℕ)
+    → IsShape sizes → i < sizes.processes → Holds sizes words views history ghosts
     → (views i).calls.way ≢ Alone → (views i).calls.stage ≡ Own
     → CanOwn sizes (views i) × CanMeetOwn (views i) (words (name_of (own_action (views i))))
 own_step_allowed sizes words views history ghosts i shape li h ne own =
-    own_can sizes words views history ghosts i (due_of sizes words views history ghosts i shape li h ne own) (views i).calls.call refl (h.names i li)
+    own_can sizes words views history ghosts i (due_of sizes words views history ghosts i shape li h ne own) (views i).calls.call refl
+        (h.names i li)

@@ -30,7 +30,8 @@ use Rattle.history_invariant.proofs.Replacing.{replaced_with}
 use Rattle.history_invariant.proofs.Shared.{legal_shared}
 use Rattle.call_invariant.specs.InCalls.{Scheduled, InCalls}
 use Rattle.call_invariant.specs.Phases.{changes_pool}
-use Rattle.call_invariant.proofs.Owned.{phase_own, gets_leave, refusals_leave, frees_leave, keeping_steps_leave, block_has_source, no_block_has_none}
+use Rattle.call_invariant.proofs.Owned.{phase_own, gets_leave, refusals_leave, frees_leave, keeping_steps_leave, block_has_source}
+use Rattle.call_invariant.proofs.Owned.{no_block_has_none}
 use Rattle.call_invariant.proofs.Uses.{calls_used}
 use Rattle.interleaving_core.specs.Invariant.{Ghosts, held_in, Holds}
 use Rattle.interleaving_core.specs.Runs.{entries_of}
@@ -38,17 +39,20 @@ use Rattle.interleaving_core.proofs.Joins as joins
 use Rattle.interleaving_core.proofs.OwnParts.{ledger_allocated, ledger_by_call}
 
 -- a process that makes calls goes with its ledger
-pub in_calls : (sizes : Sizes) (words : Words) (views : ProcessViews) (history : List Entry) (ghosts : Ghosts) (i : ℕ) → i < sizes.processes → Holds sizes words views history ghosts → (views i).calls.way ≢ Alone
+pub in_calls : (sizes : Sizes) (words : Words) (views : ProcessViews) (history : List Entry) (ghosts : Ghosts) (i : ℕ) → i < sizes.processes
+    → Holds sizes words views history ghosts → (views i).calls.way ≢ Alone
     → InCalls sizes i (views i) (ghosts.ledgers i)
 in_calls sizes words views history ghosts i li h ne = calls_used sizes i (views i) (ghosts.ledgers i) (views i).calls.way ne (h.pools i li)
 
 -- the ledger of its process
-allocated_goes : (sizes : Sizes) (i word : ℕ) (v : ProcessView) (g : Ledger) (history : List Entry) (block : Option ℕ) → InCalls sizes i v g → v.calls.stage ≡ Own → v.calls.call ≡ Some Allocate
+allocated_goes : (sizes : Sizes) (i word : ℕ) (v : ProcessView) (g : Ledger) (history : List Entry) (block : Option ℕ) → InCalls sizes i v g
+    → v.calls.stage ≡ Own → v.calls.call ≡ Some Allocate
     → InCalls sizes i (own_met v word) (ledger_allocated history i block g)
 allocated_goes sizes i word v g history None h own call = refusals_leave sizes i v word g history (Dry i) h own call
 allocated_goes sizes i word v g history (Some block) h own call = gets_leave sizes i v word g history (Got i block) h own call
 
-pub own_goes : (sizes : Sizes) (i word : ℕ) (v : ProcessView) (g : Ledger) (history : List Entry) (call : Option Call) → InCalls sizes i v g → Scheduled sizes g.account → v.calls.stage ≡ Own → v.calls.call ≡ call
+pub own_goes : (sizes : Sizes) (i word : ℕ) (v : ProcessView) (g : Ledger) (history : List Entry) (call : Option Call) → InCalls sizes i v g
+    → Scheduled sizes g.account → v.calls.stage ≡ Own → v.calls.call ≡ call
     → InCalls sizes i (own_met v word) (ledger_by_call history i v.pool call g)
 own_goes sizes i word v g history None h s own e = absurd (h.stage.some own e)
 own_goes sizes i word v g history (Some Allocate) h s own e = allocated_goes sizes i word v g history (next_block v.pool) h own e
@@ -65,7 +69,8 @@ pub record OwnDue (sizes : Sizes) (words : Words) (views : ProcessViews) (histor
   pub scheduled : Scheduled sizes (ghosts.ledgers i).account
   pub own : (views i).calls.stage ≡ Own
 
-pub due_of : (sizes : Sizes) (words : Words) (views : ProcessViews) (history : List Entry) (ghosts : Ghosts) (i : ℕ) → IsShape sizes → i < sizes.processes → Holds sizes words views history ghosts
+pub due_of : (sizes : Sizes) (words : Words) (views : ProcessViews) (history : List Entry) (ghosts : Ghosts) (i : ℕ) → IsShape sizes
+    → i < sizes.processes → Holds sizes words views history ghosts
     → (views i).calls.way ≢ Alone → (views i).calls.stage ≡ Own → OwnDue sizes words views history ghosts i
 due_of sizes words views history ghosts i shape li h ne own = record {
   shape = shape;
@@ -76,7 +81,8 @@ due_of sizes words views history ghosts i shape li h ne own = record {
   own = own;
 }
 
-module _ (sizes : Sizes) (words : Words) (views : ProcessViews) (history : List Entry) (ghosts : Ghosts) (i : ℕ) (d : OwnDue sizes words views history ghosts i) where
+module _ (sizes : Sizes) (words : Words) (views : ProcessViews) (history : List Entry) (ghosts : Ghosts) (i : ℕ)
+    (d : OwnDue sizes words views history ghosts i) where
   is_own : (call : Option Call) → (views i).calls.call ≡ call → changes_pool call ≡ true → (ghosts.ledgers i).account.phase ≡ schedule.Own
   is_own call e changes = phase_own sizes i (views i) (ghosts.ledgers i) d.goes d.own (rw e changes)
 
@@ -91,47 +97,61 @@ module _ (sizes : Sizes) (words : Words) (views : ProcessViews) (history : List 
   unheld_block block free = λ c. let one = shares.holder block c in free.free one.process one.one one.holds
 
   got_history : (block : ℕ) → (views i).calls.call ≡ Some Allocate → next_block (views i).pool ≡ Some block
-      → HistoryHolds (limits_of sizes) (transfer_bound sizes) sizes.quantum (history ++ Got i block ∷ []) (with_ledger i (ledger_allocated history i (Some block) (ghosts.ledgers i)) ghosts.ledgers)
+      → HistoryHolds (limits_of sizes) (transfer_bound sizes) sizes.quantum (history ++ Got i block ∷ [])
+      (with_ledger i (ledger_allocated history i (Some block) (ghosts.ledgers i)) ghosts.ledgers)
   got_history block call e =
-      let free = got_is_free sizes words (ghosts.states (state_tag words)) views (held_in ghosts.ledgers) i d.shape d.low d.holds.chains d.goes.heads block e in
+      let free = got_is_free sizes words (ghosts.states (state_tag words)) views (held_in ghosts.ledgers) i d.shape d.low d.holds.chains
+          d.goes.heads block e in
       let ledger = ghosts.ledgers i in
-      entry_kept (limits_of sizes) (transfer_bound sizes) sizes.quantum history ghosts.ledgers _ (Got i block) i (got_one ledger.account) d.low d.holds.entries refl
-      (got_owes (limits_of sizes) (transfer_bound sizes) sizes.quantum history i block ledger d.low (d.holds.entries.each i d.low) (is_own (Some Allocate) call refl)
+      entry_kept (limits_of sizes) (transfer_bound sizes) sizes.quantum history ghosts.ledgers _ (Got i block) i (got_one ledger.account)
+          d.low d.holds.entries refl
+      (got_owes (limits_of sizes) (transfer_bound sizes) sizes.quantum history i block ledger d.low (d.holds.entries.each i d.low)
+          (is_own (Some Allocate) call refl)
       (rw d.goes.plan (block_has_source (views i).pool block e)) free.low (unheld_block block free))
       (replaced_with i _ ghosts.ledgers)
 
   refused_history : (views i).calls.call ≡ Some Allocate → next_block (views i).pool ≡ None
-      → HistoryHolds (limits_of sizes) (transfer_bound sizes) sizes.quantum (history ++ Dry i ∷ []) (with_ledger i (ledger_allocated history i None (ghosts.ledgers i)) ghosts.ledgers)
+      → HistoryHolds (limits_of sizes) (transfer_bound sizes) sizes.quantum (history ++ Dry i ∷ [])
+      (with_ledger i (ledger_allocated history i None (ghosts.ledgers i)) ghosts.ledgers)
   refused_history call e =
       let ledger = ghosts.ledgers i in
-      entry_kept (limits_of sizes) (transfer_bound sizes) sizes.quantum history ghosts.ledgers _ (Dry i) i (got_none ledger.account) d.low d.holds.entries refl
-      (refusal_owes (limits_of sizes) (transfer_bound sizes) sizes.quantum history i ledger d.scheduled.fit d.low (d.holds.entries.each i d.low) (is_own (Some Allocate) call refl)
+      entry_kept (limits_of sizes) (transfer_bound sizes) sizes.quantum history ghosts.ledgers _ (Dry i) i (got_none ledger.account) d.low
+          d.holds.entries refl
+      (refusal_owes (limits_of sizes) (transfer_bound sizes) sizes.quantum history i ledger d.scheduled.fit d.low
+          (d.holds.entries.each i d.low) (is_own (Some Allocate) call refl)
       (rw d.goes.plan (no_block_has_none (views i).pool e)))
       (replaced_with i _ ghosts.ledgers)
 
   -- the entry of a free
   back_history : (block : ℕ) → (views i).calls.call ≡ Some (Free block)
-      → HistoryHolds (limits_of sizes) (transfer_bound sizes) sizes.quantum (history ++ Back i block ∷ []) (with_ledger i (ledger_by_call history i (views i).pool (Some (Free block)) (ghosts.ledgers i)) ghosts.ledgers)
+      → HistoryHolds (limits_of sizes) (transfer_bound sizes) sizes.quantum (history ++ Back i block ∷ [])
+      (with_ledger i (ledger_by_call history i (views i).pool (Some (Free block)) (ghosts.ledgers i)) ghosts.ledgers)
   back_history block call =
       let ledger = ghosts.ledgers i in
-      entry_kept (limits_of sizes) (transfer_bound sizes) sizes.quantum history ghosts.ledgers _ (Back i block) i (gave_back ledger.account) d.low d.holds.entries refl
-      (back_owes (limits_of sizes) (transfer_bound sizes) sizes.quantum history i block ledger d.low (legal_shared (limits_of sizes) history d.holds.entries.legal) (d.holds.entries.each i d.low) (is_own (Some (Free block)) call refl)
+      entry_kept (limits_of sizes) (transfer_bound sizes) sizes.quantum history ghosts.ledgers _ (Back i block) i (gave_back ledger.account)
+          d.low d.holds.entries refl
+      (back_owes (limits_of sizes) (transfer_bound sizes) sizes.quantum history i block ledger d.low
+          (legal_shared (limits_of sizes) history d.holds.entries.legal) (d.holds.entries.each i d.low)
+          (is_own (Some (Free block)) call refl)
       (rw call at names))
       (replaced_with i _ ghosts.ledgers)
 
   -- a read or a write makes none
-  same_history : HistoryHolds (limits_of sizes) (transfer_bound sizes) sizes.quantum (history ++ []) (with_ledger i (ghosts.ledgers i) ghosts.ledgers)
+  same_history : HistoryHolds (limits_of sizes) (transfer_bound sizes) sizes.quantum (history ++ [])
+      (with_ledger i (ghosts.ledgers i) ghosts.ledgers)
   same_history = rw (append-nil history, joins.same_ledgers i ghosts.ledgers) d.holds.entries
 
   -- the history after the own step of any call
   allocated_history : (by : ℕ) → by ≡ i → (views i).calls.call ≡ Some Allocate → (block : Option ℕ) → next_block (views i).pool ≡ block
-      → HistoryHolds (limits_of sizes) (transfer_bound sizes) sizes.quantum (history ++ entries_of (happened (allocate_kind block) (allocate_answer by block)))
+      → HistoryHolds (limits_of sizes) (transfer_bound sizes) sizes.quantum
+      (history ++ entries_of (happened (allocate_kind block) (allocate_answer by block)))
       (with_ledger i (ledger_allocated history i block (ghosts.ledgers i)) ghosts.ledgers)
   allocated_history by same call None e = rw same (refused_history call e)
   allocated_history by same call (Some block) e = rw same (got_history block call e)
 
   pub own_history : (by word : ℕ) → by ≡ i → (call : Option Call) → (views i).calls.call ≡ call
-      → HistoryHolds (limits_of sizes) (transfer_bound sizes) sizes.quantum (history ++ entries_of (happened (own_kind_for (views i).pool call) (own_answer_for by (views i).pool word call)))
+      → HistoryHolds (limits_of sizes) (transfer_bound sizes) sizes.quantum
+      (history ++ entries_of (happened (own_kind_for (views i).pool call) (own_answer_for by (views i).pool word call)))
       (with_ledger i (ledger_by_call history i (views i).pool call (ghosts.ledgers i)) ghosts.ledgers)
   own_history by word same None e = absurd (d.goes.stage.some d.own e)
   own_history by word same (Some Allocate) e = allocated_history by same e (next_block (views i).pool) refl

@@ -35,7 +35,8 @@ ledger_by_call history i pool (Some (Read block index)) ledger = ledger
 ledger_by_call history i pool (Some (Write block index value)) ledger = ledger
 
 -- the blocks that its process then holds
-allocated_grip : (history : List Entry) (i : ℕ) (block : Option ℕ) (ledger : Ledger) → grip (ledger_allocated history i block ledger).entries ≡ with_got block (grip ledger.entries)
+allocated_grip : (history : List Entry) (i : ℕ) (block : Option ℕ) (ledger : Ledger)
+    → grip (ledger_allocated history i block ledger).entries ≡ with_got block (grip ledger.entries)
 allocated_grip history i None ledger = held_more ledger.entries (Dry i)
 allocated_grip history i (Some block) ledger = held_more ledger.entries (Got i block)
 
@@ -48,11 +49,13 @@ grip_by_call history i pool (Some (Read block index)) ledger = refl
 grip_by_call history i pool (Some (Write block index value)) ledger = refl
 
 -- what its take is known to have found stays
-allocated_finds : (history : List Entry) (i : ℕ) (block : Option ℕ) (ledger : Ledger) → (ledger_allocated history i block ledger).found_nothing ≡ ledger.found_nothing
+allocated_finds : (history : List Entry) (i : ℕ) (block : Option ℕ) (ledger : Ledger)
+    → (ledger_allocated history i block ledger).found_nothing ≡ ledger.found_nothing
 allocated_finds history i None ledger = refl
 allocated_finds history i (Some block) ledger = refl
 
-pub finds_by_call : (history : List Entry) (i : ℕ) (pool : PoolView) (call : Option Call) (ledger : Ledger) → (ledger_by_call history i pool call ledger).found_nothing ≡ ledger.found_nothing
+pub finds_by_call : (history : List Entry) (i : ℕ) (pool : PoolView) (call : Option Call) (ledger : Ledger)
+    → (ledger_by_call history i pool call ledger).found_nothing ≡ ledger.found_nothing
 finds_by_call history i pool None ledger = refl
 finds_by_call history i pool (Some Allocate) ledger = allocated_finds history i (next_block pool) ledger
 finds_by_call history i pool (Some (Free block)) ledger = refl
@@ -71,16 +74,20 @@ loads_state sizes words new a (Slot slot) low is = a.elsewhere (Slot slot) low (
 loads_state sizes words new a (Next block) low is = a.elsewhere (Next block) low (λ e. cc)
 loads_state sizes words new a (Data block index) low is = a.elsewhere (Data block index) low (λ e. cc)
 
-acts_on_other : (sizes : Sizes) (action : Action) (words new : Words) → is_stack_word (name_of action) ≡ false → Acted sizes action words new → StackWordsStay sizes words new
+acts_on_other : (sizes : Sizes) (action : Action) (words new : Words) → is_stack_word (name_of action) ≡ false
+    → Acted sizes action words new → StackWordsStay sizes words new
 acts_on_other sizes action words new isnt a = λ name low is. a.elsewhere name low (differs name (name_of action) is isnt)
 
-allocate_leaves_stack : (sizes : Sizes) (words new : Words) (block : Option ℕ) → Acted sizes (allocate_action block) words new → StackWordsStay sizes words new
+allocate_leaves_stack : (sizes : Sizes) (words new : Words) (block : Option ℕ) → Acted sizes (allocate_action block) words new
+    → StackWordsStay sizes words new
 allocate_leaves_stack sizes words new None a = loads_state sizes words new a
 allocate_leaves_stack sizes words new (Some block) a = acts_on_other sizes (Load (Next block)) words new refl a
 
-pub own_leaves_stack : (sizes : Sizes) (words new : Words) (pool : PoolView) (call : Option Call) → Acted sizes (own_action_for pool call) words new → StackWordsStay sizes words new
+pub own_leaves_stack : (sizes : Sizes) (words new : Words) (pool : PoolView) (call : Option Call)
+    → Acted sizes (own_action_for pool call) words new → StackWordsStay sizes words new
 own_leaves_stack sizes words new pool None a = loads_state sizes words new a
 own_leaves_stack sizes words new pool (Some Allocate) a = allocate_leaves_stack sizes words new (next_block pool) a
 own_leaves_stack sizes words new pool (Some (Free block)) a = acts_on_other sizes (own_action_for pool (Some (Free block))) words new refl a
 own_leaves_stack sizes words new pool (Some (Read block index)) a = acts_on_other sizes (Load (Data block index)) words new refl a
-own_leaves_stack sizes words new pool (Some (Write block index value)) a = acts_on_other sizes (Store (Data block index) value) words new refl a
+own_leaves_stack sizes words new pool (Some (Write block index value)) a =
+    acts_on_other sizes (Store (Data block index) value) words new refl a

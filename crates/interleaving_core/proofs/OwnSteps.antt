@@ -52,7 +52,9 @@ known_here i mine known = grind (arith, nat_tests)
 known_elsewhere : (i o : ℕ) (mine : Known) (known : ℕ → Known) → o ≢ i → with_known i mine known o ≡ known o
 known_elsewhere i o mine known ne = grind (arith, nat_tests)
 
-each_owned : (Fact : ℕ → ProcessView → Ledger → Known → Type 0) (p i : ℕ) (x : ProcessView) (g : Ledger) (mine : Known) (views after : ProcessViews) (ledgers : Ledgers) (known : ℕ → Known) → MovedProcess i x views after
+each_owned : (Fact : ℕ → ProcessView → Ledger → Known → Type 0) (p i : ℕ) (x : ProcessView) (g : Ledger) (mine : Known)
+    (views after : ProcessViews) (ledgers : Ledgers) (known : ℕ → Known)
+    → MovedProcess i x views after
     → Fact i x g mine
     → ((o : ℕ) → o < p → o ≢ i → Fact o (views o) (ledgers o) (known o))
     → (o : ℕ) → o < p → Fact o (after o) (with_ledger i g ledgers o) (with_known i mine known o)
@@ -65,18 +67,23 @@ each_owned Fact p i x g mine views after ledgers known moved here h o lo = elim 
 abbrev transfers : ProcessViews → Views
 transfers views = λ o. (views o).transfer
 
-transfers_stay : (i : ℕ) (x : ProcessView) (views after : ProcessViews) → MovedProcess i x views after → x.transfer ≡ (views i).transfer → transfers after ≡ transfers views
+transfers_stay : (i : ℕ) (x : ProcessView) (views after : ProcessViews) → MovedProcess i x views after → x.transfer ≡ (views i).transfer
+    → transfers after ≡ transfers views
 transfers_stay i x views after moved same = fun_ext (λ o. elim (cases_eq o i) [
   | inl e ↦ rw e (ap (λ v. v.transfer) moved.here ∙ same)
   | inr ne ↦ ap (λ v. v.transfer) (moved.elsewhere o ne)
 ])
 
-pub stack_stays : (sizes : Sizes) (words new : Words) (i : ℕ) (x : ProcessView) (views after : ProcessViews) (states : States) → MovedProcess i x views after → x.transfer ≡ (views i).transfer → StackWordsStay sizes words new
+pub stack_stays : (sizes : Sizes) (words new : Words) (i : ℕ) (x : ProcessView) (views after : ProcessViews) (states : States)
+    → MovedProcess i x views after → x.transfer ≡ (views i).transfer → StackWordsStay sizes words new
     → StackHolds sizes words (transfers views) states → StackHolds sizes new (transfers after) states
-stack_stays sizes words new i x views after states moved same stay h = rw (transfers_stay i x views after moved same) (other_words_keep sizes words new (transfers views) states h stay)
+stack_stays sizes words new i x views after states moved same stay h =
+    rw (transfers_stay i x views after moved same) (other_words_keep sizes words new (transfers views) states h stay)
 
-module _ (sizes : Sizes) (words new : Words) (views after : ProcessViews) (history : List Entry) (ghosts : Ghosts) (i : ℕ) (d : OwnDue sizes words views history ghosts i)
-    (acted : Acted sizes (own_action (views i)) words new) (moved : MovedProcess i (own_met (views i) (words (name_of (own_action (views i))))) views after) where
+module _ (sizes : Sizes) (words new : Words) (views after : ProcessViews) (history : List Entry) (ghosts : Ghosts) (i : ℕ)
+    (d : OwnDue sizes words views history ghosts i)
+    (acted : Acted sizes (own_action (views i)) words new)
+        (moved : MovedProcess i (own_met (views i) (words (name_of (own_action (views i))))) views after) where
   stack_words : StackWordsStay sizes words new
   stack_words = own_leaves_stack sizes words new (views i).pool (views i).calls.call acted
 
@@ -89,42 +96,60 @@ module _ (sizes : Sizes) (words new : Words) (views after : ProcessViews) (histo
       let g = ledger_by_call history i (views i).pool (views i).calls.call (ghosts.ledgers i) in
       let replaced = replaced_with i g ghosts.ledgers in
       record {
-        here = ap (λ ledger. grip ledger.entries) replaced.here ∙ grip_by_call history i (views i).pool (views i).calls.call (ghosts.ledgers i);
+        here =
+            ap (λ ledger. grip ledger.entries) replaced.here ∙ grip_by_call history i (views i).pool (views i).calls.call
+            (ghosts.ledgers i);
         elsewhere = λ o ne. ap (λ ledger. grip ledger.entries) (replaced.elsewhere o ne);
       }
 
-  own_chains : Chains sizes new (ghosts.states (state_tag new)) after (held_in (with_ledger i (ledger_by_call history i (views i).pool (views i).calls.call (ghosts.ledgers i)) ghosts.ledgers))
-  own_chains = rw same_tag (own_chains_at sizes words new (ghosts.states (state_tag words)) views after (held_in ghosts.ledgers) _ i (own_met (views i) (words (name_of (own_action (views i))))) d.shape d.low d.holds.chains
+  own_chains : Chains sizes new (ghosts.states (state_tag new)) after
+      (held_in (with_ledger i (ledger_by_call history i (views i).pool (views i).calls.call (ghosts.ledgers i)) ghosts.ledgers))
+  own_chains =
+      rw same_tag (own_chains_at sizes words new (ghosts.states (state_tag words)) views after (held_in ghosts.ledgers) _ i
+      (own_met (views i) (words (name_of (own_action (views i))))) d.shape d.low d.holds.chains
       d.goes.runs.kept.batch d.goes.heads refl moved (views i).calls.call d.goes.runs.kept.room (d.holds.names i d.low) acted refl lists)
 
   -- held blocks are low, and held by one process
   held_low : (o : ℕ) → o < sizes.processes → HeldAreLow sizes (held_in ghosts.ledgers o)
-  held_low o lo = λ b has. (held_are_apart sizes words (ghosts.states (state_tag words)) views (held_in ghosts.ledgers) o b lo d.holds.chains has).0
+  held_low o lo =
+      λ b has. (held_are_apart sizes words (ghosts.states (state_tag words)) views (held_in ghosts.ledgers) o b lo d.holds.chains has).0
 
-  held_once : (o : ℕ) → o < sizes.processes → o ≢ i → (b : ℕ) → Contains (held_in ghosts.ledgers i) b → ¬ Contains (held_in ghosts.ledgers o) b
-  held_once o lo ne = λ b has. (held_are_apart sizes words (ghosts.states (state_tag words)) views (held_in ghosts.ledgers) i b d.low d.holds.chains has).1 o lo ne
+  held_once : (o : ℕ) → o < sizes.processes → o ≢ i → (b : ℕ) → Contains (held_in ghosts.ledgers i) b
+      → ¬ Contains (held_in ghosts.ledgers o) b
+  held_once o lo ne =
+      λ b has. (held_are_apart sizes words (ghosts.states (state_tag words)) views (held_in ghosts.ledgers) i b d.low d.holds.chains has).1
+      o lo ne
 
   -- what holds of each process
-  own_uses : UsesPool sizes i (own_met (views i) (words (name_of (own_action (views i))))) (ledger_by_call history i (views i).pool (views i).calls.call (ghosts.ledgers i))
+  own_uses : UsesPool sizes i (own_met (views i) (words (name_of (own_action (views i)))))
+      (ledger_by_call history i (views i).pool (views i).calls.call (ghosts.ledgers i))
   own_uses =
       let word = words (name_of (own_action (views i))) in
       let g = ledger_by_call history i (views i).pool (views i).calls.call (ghosts.ledgers i) in
-      uses_calls sizes i (own_met (views i) word) g (views i).calls.way d.goes.way (own_goes sizes i word (views i) (ghosts.ledgers i) history (views i).calls.call d.goes d.scheduled d.own refl)
+      uses_calls sizes i (own_met (views i) word) g (views i).calls.way d.goes.way
+          (own_goes sizes i word (views i) (ghosts.ledgers i) history (views i).calls.call d.goes d.scheduled d.own refl)
 
-  own_finds : KnowsOfNothing (ghosts.states (state_tag words)) i (views i).transfer (ledger_by_call history i (views i).pool (views i).calls.call (ghosts.ledgers i))
-  own_finds = λ announced applied take nothing. finds_by_call history i (views i).pool (views i).calls.call (ghosts.ledgers i) ∙ d.holds.empties i d.low announced applied take nothing
+  own_finds : KnowsOfNothing (ghosts.states (state_tag words)) i (views i).transfer
+      (ledger_by_call history i (views i).pool (views i).calls.call (ghosts.ledgers i))
+  own_finds =
+      λ announced applied take nothing. finds_by_call history i (views i).pool (views i).calls.call (ghosts.ledgers i) ∙ d.holds.empties i
+      d.low announced applied take nothing
 
   own_knows : DataHolds sizes new (grip (ledger_by_call history i (views i).pool (views i).calls.call (ghosts.ledgers i)).entries)
       (known_by_call (words (name_of (own_action (views i)))) (views i).calls.call (ghosts.known i))
   own_knows = rw (grip_by_call history i (views i).pool (views i).calls.call (ghosts.ledgers i))
-      (own_data sizes words new (views i).pool (held_in ghosts.ledgers i) (ghosts.known i) (views i).calls.call (held_low i d.low) (d.holds.names i d.low) acted (d.holds.data_words i d.low))
+      (own_data sizes words new (views i).pool (held_in ghosts.ledgers i) (ghosts.known i) (views i).calls.call (held_low i d.low)
+          (d.holds.names i d.low) acted (d.holds.data_words i d.low))
 
   other_knows : (o : ℕ) → o < sizes.processes → o ≢ i → DataHolds sizes new (held_in ghosts.ledgers o) (ghosts.known o)
-  other_knows o lo ne = data_stays sizes words new (held_in ghosts.ledgers o) (held_in ghosts.ledgers o) (ghosts.known o) (d.holds.data_words o lo)
-      (others_words_stay sizes words new (views i).pool (held_in ghosts.ledgers i) (held_in ghosts.ledgers o) (views i).calls.call (held_low o lo) (held_once o lo ne) (d.holds.names i d.low) acted) (λ b has. has)
+  other_knows o lo ne =
+      data_stays sizes words new (held_in ghosts.ledgers o) (held_in ghosts.ledgers o) (ghosts.known o) (d.holds.data_words o lo)
+      (others_words_stay sizes words new (views i).pool (held_in ghosts.ledgers i) (held_in ghosts.ledgers o) (views i).calls.call
+          (held_low o lo) (held_once o lo ne) (d.holds.names i d.low) acted) (λ b has. has)
 
   -- the whole invariant
-  own_keeps : Holds sizes new after (history ++ entries_of (happened (own_kind (views i)) (own_answer (views i) (words (name_of (own_action (views i)))))))
+  own_keeps : Holds sizes new after
+      (history ++ entries_of (happened (own_kind (views i)) (own_answer (views i) (words (name_of (own_action (views i)))))))
       (own_ghosts history i (views i) (words (name_of (own_action (views i)))) ghosts)
   own_keeps =
       let v = views i in
@@ -136,28 +161,41 @@ module _ (sizes : Sizes) (words new : Words) (views after : ProcessViews) (histo
       record {
         stack = stack_stays sizes words new i x views after ghosts.states moved refl stack_words d.holds.stack;
         chains = own_chains;
-        pools = each_owned (λ o y ledger knows. UsesPool sizes o y ledger) sizes.processes i x g mine views after ghosts.ledgers ghosts.known moved own_uses (λ o lo ne. d.holds.pools o lo);
+        pools =
+            each_owned (λ o y ledger knows. UsesPool sizes o y ledger) sizes.processes i x g mine views after ghosts.ledgers ghosts.known
+            moved own_uses (λ o lo ne. d.holds.pools o lo);
         entries = own_history sizes words views history ghosts i d v.transfer.number word number v.calls.call refl;
-        empties = rw same_tag (each_owned (λ o y ledger knows. KnowsOfNothing (ghosts.states (state_tag words)) o y.transfer ledger) sizes.processes i x g mine views after ghosts.ledgers ghosts.known moved own_finds
+        empties =
+            rw same_tag (each_owned (λ o y ledger knows. KnowsOfNothing (ghosts.states (state_tag words)) o y.transfer ledger)
+            sizes.processes i x g mine views after ghosts.ledgers ghosts.known moved own_finds
             (λ o lo ne. d.holds.empties o lo));
-        names = each_owned (λ o y ledger knows. NamesHeld sizes (grip ledger.entries) y.calls.call) sizes.processes i x g mine views after ghosts.ledgers ghosts.known moved tt (λ o lo ne. d.holds.names o lo);
-        data_words = each_owned (λ o y ledger knows. DataHolds sizes new (grip ledger.entries) knows) sizes.processes i x g mine views after ghosts.ledgers ghosts.known moved own_knows other_knows;
+        names =
+            each_owned (λ o y ledger knows. NamesHeld sizes (grip ledger.entries) y.calls.call) sizes.processes i x g mine views after
+            ghosts.ledgers ghosts.known moved tt (λ o lo ne. d.holds.names o lo);
+        data_words =
+            each_owned (λ o y ledger knows. DataHolds sizes new (grip ledger.entries) knows) sizes.processes i x g mine views after
+            ghosts.ledgers ghosts.known moved own_knows other_knows;
       }
 
 -- the own step of a call keeps the invariant: what proofs know afterwards, and that there is such
-pub own_step_leaves : (sizes : Sizes) (words new : Words) (views after : ProcessViews) (history : List Entry) (ghosts : Ghosts) (i : ℕ) → IsShape sizes → i < sizes.processes → Holds sizes words views history ghosts
+pub own_step_leaves : (sizes : Sizes) (words new : Words) (views after : ProcessViews) (history : List Entry) (ghosts : Ghosts) (i : ℕ)
+    → IsShape sizes → i < sizes.processes → Holds sizes words views history ghosts
     → (views i).calls.way ≢ Alone → (views i).calls.stage ≡ Own
     → Acted sizes (own_action (views i)) words new
     → MovedProcess i (own_met (views i) (words (name_of (own_action (views i))))) views after
-    → Holds sizes new after (history ++ entries_of (happened (own_kind (views i)) (own_answer (views i) (words (name_of (own_action (views i)))))))
+    → Holds sizes new after
+    (history ++ entries_of (happened (own_kind (views i)) (own_answer (views i) (words (name_of (own_action (views i)))))))
     (own_ghosts history i (views i) (words (name_of (own_action (views i)))) ghosts)
 own_step_leaves sizes words new views after history ghosts i shape li h ne own acted moved =
     own_keeps sizes words new views after history ghosts i (due_of sizes words views history ghosts i shape li h ne own) acted moved
 
-pub own_step_holds : (sizes : Sizes) (words new : Words) (views after : ProcessViews) (history : List Entry) (ghosts : Ghosts) (i : ℕ) → IsShape sizes → i < sizes.processes → Holds sizes words views history ghosts
+pub own_step_holds : (sizes : Sizes) (words new : Words) (views after : ProcessViews) (history : List Entry) (ghosts : Ghosts) (i : ℕ)
+    → IsShape sizes → i < sizes.processes → Holds sizes words views history ghosts
     → (views i).calls.way ≢ Alone → (views i).calls.stage ≡ Own
     → Acted sizes (own_action (views i)) words new
     → MovedProcess i (own_met (views i) (words (name_of (own_action (views i))))) views after
-    → Meets sizes new after (history ++ entries_of (happened (own_kind (views i)) (own_answer (views i) (words (name_of (own_action (views i)))))))
+    → Meets sizes new after
+    (history ++ entries_of (happened (own_kind (views i)) (own_answer (views i) (words (name_of (own_action (views i)))))))
 own_step_holds sizes words new views after history ghosts i shape li h ne own acted moved =
-    (own_ghosts history i (views i) (words (name_of (own_action (views i)))) ghosts, own_step_leaves sizes words new views after history ghosts i shape li h ne own acted moved)
+    (own_ghosts history i (views i) (words (name_of (own_action (views i)))) ghosts, own_step_leaves sizes words new views after history
+        ghosts i shape li h ne own acted moved)

@@ -1,5 +1,6 @@
 -- the content changes by exchanges of the state alone, which apply pending transfers
-use Rattle.std.proofs.Common.{◌≡◌, ℕ, ◌<◌, ◌⊎◌, Bool, true, false, Option, None, Some, List, length, get_or, set, get_or-set_same, get_or-set_other, refl, subst, sym, ◌∙◌, ap, inl, inr, arith}
+use Rattle.std.proofs.Common.{◌≡◌, ℕ, ◌<◌, ◌⊎◌, Bool, true, false, Option, None, Some, List, length, get_or, set, get_or-set_same}
+use Rattle.std.proofs.Common.{get_or-set_other, refl, subst, sym, ◌∙◌, ap, inl, inr, arith}
 use Rattle.std.specs.Prelude.{if◌then◌else◌}
 use Rattle.std.proofs.lemmas.Bool.{cases_eq, false≢true}
 use Rattle.word_layout.specs.Sizes.{Sizes, IsShape}
@@ -31,7 +32,8 @@ use Rattle.interleaving_core.specs.Invariant.{Ghosts, Holds}
 use Rattle.interleaving_core.specs.Moves.{CoreState, view_at, with_step}
 use Rattle.interleaving_core.specs.Runs.{Turn, Moves, Events, by_of, is_made, turning_view}
 use Rattle.interleaving_core.specs.Steps.{is_alone, is_busy, is_in_call, next_action, next_met}
-use Rattle.interleaving_core.specs.TransferLaws.{next_step, announced_count, moves_transfer, ShowsState, LeavesContent, AppliesPending, IsExchange, ContentMoves}
+use Rattle.interleaving_core.specs.TransferLaws.{next_step, announced_count, moves_transfer, ShowsState, LeavesContent, AppliesPending}
+use Rattle.interleaving_core.specs.TransferLaws.{IsExchange, ContentMoves}
 use Rattle.interleaving_core.proofs.Holds.{step_allowed}
 use Rattle.interleaving_core.proofs.Joins.{transfers, supplied}
 use Rattle.interleaving_core.proofs.OwnParts.{own_leaves_stack}
@@ -46,11 +48,13 @@ due_exchanges : (wish : Option Wish) (v : ProcessView) → IsExchange (begun_if_
 due_exchanges None v at = at
 due_exchanges (Some wish) v (second, e) = grind arith
 
-moving_exchanges : (wish : Wish) (v : ProcessView) (t : Bool) → IsExchange (if t then alone_begun wish v else v).transfer.next → IsExchange v.transfer.next
+moving_exchanges : (wish : Wish) (v : ProcessView) (t : Bool) → IsExchange (if t then alone_begun wish v else v).transfer.next
+    → IsExchange v.transfer.next
 moving_exchanges wish v true (second, e) = grind arith
 moving_exchanges wish v false at = at
 
-calling_exchanges : (call : Call) (v : ProcessView) (t : Bool) → IsExchange (if t then v else call_begun call v).transfer.next → IsExchange v.transfer.next
+calling_exchanges : (call : Call) (v : ProcessView) (t : Bool) → IsExchange (if t then v else call_begun call v).transfer.next
+    → IsExchange v.transfer.next
 calling_exchanges call v true at = at
 calling_exchanges Allocate v false at = due_exchanges (due v.pool) v at
 calling_exchanges (Free block) v false at = due_exchanges (due v.pool) v at
@@ -80,7 +84,8 @@ turning_age : (turn : Turn) (s : CoreState) → (turning_view turn s).transfer.a
 turning_age (Moves by wish) s = moving_age wish (view_at s by) (is_rest (view_at s by).transfer.next)
 turning_age (Events by call) s = calling_age call (view_at s by) (is_in_call (view_at s by).calls.stage)
 
-ages_of : (sizes : Sizes) (xs : List ProcessView) (i : ℕ) (v : ProcessView) → i < length xs → v.transfer.age ≡ (get_or xs i (opening_view sizes i)).transfer.age → (o : ℕ)
+ages_of : (sizes : Sizes) (xs : List ProcessView) (i : ℕ) (v : ProcessView) → i < length xs
+    → v.transfer.age ≡ (get_or xs i (opening_view sizes i)).transfer.age → (o : ℕ)
     → (get_or (set xs i v) o (opening_view sizes o)).transfer.age ≡ (get_or xs o (opening_view sizes o)).transfer.age
 ages_of sizes xs i v low same o = elim (cases_eq o i) [
   | inl e ↦ rw e (ap (λ w. w.transfer.age) (get_or-set_same xs i v (opening_view sizes i) low) ∙ same)
@@ -88,25 +93,29 @@ ages_of sizes xs i v low same o = elim (cases_eq o i) [
 ]
 
 -- a step is one of the transfer, or the own one of a call
-moves_action : (sizes : Sizes) (v : ProcessView) (t : Bool) (stage : CallStage) → is_alone v.calls.way ≡ t → v.calls.stage ≡ stage → moves_transfer v ≡ true → next_action sizes v ≡ action_of sizes v.transfer
+moves_action : (sizes : Sizes) (v : ProcessView) (t : Bool) (stage : CallStage) → is_alone v.calls.way ≡ t → v.calls.stage ≡ stage
+    → moves_transfer v ≡ true → next_action sizes v ≡ action_of sizes v.transfer
 moves_action sizes v true stage alone here moves = rw alone refl
 moves_action sizes v false Between alone here moves = absurd (false≢true (rw (alone, here) at moves))
 moves_action sizes v false Moving alone here moves = rw (alone, here) refl
 moves_action sizes v false Own alone here moves = absurd (false≢true (rw (alone, here) at moves))
 
-moves_met : (sizes : Sizes) (v : ProcessView) (word : ℕ) (t : Bool) (stage : CallStage) → is_alone v.calls.way ≡ t → v.calls.stage ≡ stage → moves_transfer v ≡ true → (next_met sizes v word).transfer ≡ met_of sizes v.transfer word
+moves_met : (sizes : Sizes) (v : ProcessView) (word : ℕ) (t : Bool) (stage : CallStage) → is_alone v.calls.way ≡ t → v.calls.stage ≡ stage
+    → moves_transfer v ≡ true → (next_met sizes v word).transfer ≡ met_of sizes v.transfer word
 moves_met sizes v word true stage alone here moves = rw alone refl
 moves_met sizes v word false Between alone here moves = absurd (false≢true (rw (alone, here) at moves))
 moves_met sizes v word false Moving alone here moves = rw (alone, here) refl
 moves_met sizes v word false Own alone here moves = absurd (false≢true (rw (alone, here) at moves))
 
-own_acts : (sizes : Sizes) (v : ProcessView) (t : Bool) (stage : CallStage) → is_alone v.calls.way ≡ t → v.calls.stage ≡ stage → is_busy v ≡ true → moves_transfer v ≡ false → next_action sizes v ≡ own_action v
+own_acts : (sizes : Sizes) (v : ProcessView) (t : Bool) (stage : CallStage) → is_alone v.calls.way ≡ t → v.calls.stage ≡ stage
+    → is_busy v ≡ true → moves_transfer v ≡ false → next_action sizes v ≡ own_action v
 own_acts sizes v true stage alone here busy not = absurd (false≢true (sym (rw alone at not)))
 own_acts sizes v false Between alone here busy not = absurd (false≢true (rw (alone, here) at busy))
 own_acts sizes v false Moving alone here busy not = absurd (false≢true (sym (rw (alone, here) at not)))
 own_acts sizes v false Own alone here busy not = rw (alone, here) refl
 
-own_leaves : (sizes : Sizes) (v : ProcessView) (word : ℕ) (t : Bool) (stage : CallStage) → is_alone v.calls.way ≡ t → v.calls.stage ≡ stage → is_busy v ≡ true → moves_transfer v ≡ false → (next_met sizes v word).transfer ≡ v.transfer
+own_leaves : (sizes : Sizes) (v : ProcessView) (word : ℕ) (t : Bool) (stage : CallStage) → is_alone v.calls.way ≡ t → v.calls.stage ≡ stage
+    → is_busy v ≡ true → moves_transfer v ≡ false → (next_met sizes v word).transfer ≡ v.transfer
 own_leaves sizes v word true stage alone here busy not = absurd (false≢true (sym (rw alone at not)))
 own_leaves sizes v word false Between alone here busy not = absurd (false≢true (rw (alone, here) at busy))
 own_leaves sizes v word false Moving alone here busy not = absurd (false≢true (sym (rw (alone, here) at not)))
@@ -115,7 +124,9 @@ own_leaves sizes v word false Own alone here busy not = rw (alone, here) refl
 -- what a step makes of the content
 MoveContent : CoreState → ℕ → ProcessView → Type 0
 MoveContent s by v =
-    LeavesContent s (with_step by v s) ⊎ (IsExchange v.transfer.next × ((announcements : ℕ → ℕ) × ((t : StackState) × AppliesPending s (with_step by v s) announcements t)))
+    LeavesContent s (with_step by v s)
+        ⊎ (IsExchange v.transfer.next
+        × ((announcements : ℕ → ℕ) × ((t : StackState) × AppliesPending s (with_step by v s) announcements t)))
 
 -- of a process among these views, which are those of the moment but for what it has begun
 module _
@@ -128,7 +139,8 @@ module _
     (li : by < s.sizes.processes)
     (h : Holds s.sizes (word_at s.sizes s.words) views history ghosts)
     (acted : Acted s.sizes (next_action s.sizes (views by)) (word_at s.sizes s.words) (word_at s.sizes (with_step by (views by) s).words))
-    (moved : MovedProcess by (next_met s.sizes (views by) (met_word s.sizes s.words (next_action s.sizes (views by)))) views (view_at (with_step by (views by) s)))
+    (moved : MovedProcess by (next_met s.sizes (views by) (met_word s.sizes s.words (next_action s.sizes (views by)))) views
+        (view_at (with_step by (views by) s)))
     (ages : (o : ℕ) → (views o).transfer.age ≡ announced_count s o)
   where
     transfer_content : moves_transfer (views by) ≡ true → MoveContent s by (views by)
@@ -140,10 +152,13 @@ module _
         let new = word_at s.sizes now.words in
         let action = moves_action s.sizes v (is_alone v.calls.way) v.calls.stage refl refl moves in
         let acts = subst (λ (a : Action). Acted s.sizes a words new) action acted in
-        let met = moves_met s.sizes v (met_word s.sizes s.words (next_action s.sizes v)) (is_alone v.calls.way) v.calls.stage refl refl moves
+        let met = moves_met s.sizes v (met_word s.sizes s.words (next_action s.sizes v)) (is_alone v.calls.way) v.calls.stage refl refl
+            moves
         ∙ ap (λ (a : Action). met_of s.sizes v.transfer (words (name_of a))) action in
-        let goes = subst (λ (x : TransferView). Moved by x (transfers views) (transfers (view_at now))) met (transfers_move by _ views (view_at now) moved) in
-        let kept = steps_keep_stack s.sizes words new (transfers views) (transfers (view_at now)) ghosts.states by shape li h.stack (supplied s.sizes words views history ghosts by shape li h) acts goes in
+        let goes = subst (λ (x : TransferView). Moved by x (transfers views) (transfers (view_at now))) met
+            (transfers_move by _ views (view_at now) moved) in
+        let kept = steps_keep_stack s.sizes words new (transfers views) (transfers (view_at now)) ghosts.states by shape li h.stack
+            (supplied s.sizes words views history ghosts by shape li h) acts goes in
         let old_shown = holds_show s (transfers views) ghosts.states h.stack (λ o lo. ages o) in
         let new_shown = holds_show now (transfers (view_at now)) (states_after words v.transfer ghosts.states) kept (λ o lo. refl) in
         step_content s now refl by (transfers views) (transfers (view_at now)) ghosts.states shape li h.stack kept acts old_shown new_shown
@@ -155,21 +170,25 @@ module _
         let now = with_step by v s in
         let words = word_at s.sizes s.words in
         let new = word_at s.sizes now.words in
-        let acts = subst (λ (a : Action). Acted s.sizes a words new) (own_acts s.sizes v (is_alone v.calls.way) v.calls.stage refl refl busy not) acted in
+        let acts = subst (λ (a : Action). Acted s.sizes a words new)
+            (own_acts s.sizes v (is_alone v.calls.way) v.calls.stage refl refl busy not) acted in
         let stay : StackWordsStay s.sizes words new = own_leaves_stack s.sizes words new v.pool v.calls.call acts in
-        let met = own_leaves s.sizes v (met_word s.sizes s.words (next_action s.sizes v)) (is_alone v.calls.way) v.calls.stage refl refl busy not in
+        let met = own_leaves s.sizes v (met_word s.sizes s.words (next_action s.sizes v)) (is_alone v.calls.way) v.calls.stage refl refl
+            busy not in
         let kept = stack_stays s.sizes words new by _ views (view_at now) ghosts.states moved met stay h.stack in
         let tag : state_tag new ≡ state_tag words = (records_stay s.sizes words new stay).state in
         let old_shown = holds_show s (transfers views) ghosts.states h.stack (λ o lo. ages o) in
         let new_shown = holds_show now (transfers (view_at now)) ghosts.states kept (λ o lo. refl) in
-        inl (both_shown s now (present words ghosts.states) refl old_shown (subst (λ (n : ℕ). ShowsState now (ghosts.states n)) tag new_shown))
+        inl (both_shown s now (present words ghosts.states) refl old_shown
+            (subst (λ (n : ℕ). ShowsState now (ghosts.states n)) tag new_shown))
 
     either_content : is_busy (views by) ≡ true → (t : Bool) → moves_transfer (views by) ≡ t → MoveContent s by (views by)
     either_content busy true moves = transfer_content moves
     either_content busy false moves = own_content busy moves
 
 -- of a turn that is made
-made_content : (s : CoreState) (history : List Entry) (turn : Turn) → RunFits s history → is_made turn s ≡ true → MoveContent s (by_of turn) (turning_view turn s)
+made_content : (s : CoreState) (history : List Entry) (turn : Turn) → RunFits s history → is_made turn s ≡ true
+    → MoveContent s (by_of turn) (turning_view turn s)
 made_content s history turn fits made =
     let by = by_of turn in
     let v = turning_view turn s in
@@ -180,17 +199,23 @@ made_content s history turn fits made =
     let meets = turn_meets s history turn fits made li in
     let (ghosts, h) = meets in
     let here : views by ≡ v = get_or-set_same s.views by v (opening_view s.sizes by) low in
-    let moved = subst (λ (w : ProcessView). MovedProcess by (next_met s.sizes w (met_word s.sizes s.words (next_action s.sizes w))) views (view_at (with_step by w s))) (sym here)
+    let moved = subst (λ (w : ProcessView). MovedProcess by (next_met s.sizes w (met_word s.sizes s.words (next_action s.sizes w))) views
+        (view_at (with_step by w s))) (sym here)
     (moved_twice s.sizes s.views by v (next_met s.sizes v (met_word s.sizes s.words (next_action s.sizes v))) low) in
     let busy = subst (λ (w : ProcessView). is_busy w ≡ true) (sym here) (turn_busy s history turn fits made li) in
     let allowed = step_allowed s.sizes words views history by fits.shape li meets busy in
-    let does = table_acted s.sizes s.words (next_action s.sizes (views by)) fits.whole (next_in_range s.sizes words (views by) (is_alone (views by).calls.way) refl allowed) in
-    subst (MoveContent s by) here (either_content s by views history ghosts fits.shape li h does moved (λ o. ages_of s.sizes s.views by v low (turning_age turn s) o) busy (moves_transfer (views by)) refl)
+    let does = table_acted s.sizes s.words (next_action s.sizes (views by)) fits.whole
+        (next_in_range s.sizes words (views by) (is_alone (views by).calls.way) refl allowed) in
+    subst (MoveContent s by) here
+        (either_content s by views history ghosts fits.shape li h does moved (λ o. ages_of s.sizes s.views by v low (turning_age turn s) o)
+        busy (moves_transfer (views by)) refl)
 
 -- a turn that isn't made changes nothing
 content_of_turn : (s : CoreState) (history : List Entry) (turn : Turn) (t : Bool) → RunFits s history → is_made turn s ≡ t
     → LeavesContent s (if t then with_step (by_of turn) (turning_view turn s) s else s)
-    ⊎ (IsExchange (next_step s (by_of turn)) × ((announcements : ℕ → ℕ) × ((u : StackState) × AppliesPending s (if t then with_step (by_of turn) (turning_view turn s) s else s) announcements u)))
+    ⊎ (IsExchange (next_step s (by_of turn))
+        × ((announcements : ℕ → ℕ)
+        × ((u : StackState) × AppliesPending s (if t then with_step (by_of turn) (turning_view turn s) s else s) announcements u)))
 unfolding MoveContent
 content_of_turn s history turn true fits made =
     elim (made_content s history turn fits made) [

@@ -25,7 +25,8 @@ use Rattle.interleaving_core.proofs.RunTurns.{busy_go_on}
 first_may : (low way t : Bool) → (low && (way && t)) ≡ true → way ≡ true
 first_may low way t h = grind arith
 
-moving_moves : (wish : Wish) (v : ProcessView) (way : Way) (t : Bool) → v.calls.way ≡ way → (way ≡ Fresh → is_rest v.transfer.next ≡ true) → is_rest v.transfer.next ≡ t → may_use_transfers way ≡ true
+moving_moves : (wish : Wish) (v : ProcessView) (way : Way) (t : Bool) → v.calls.way ≡ way → (way ≡ Fresh → is_rest v.transfer.next ≡ true)
+    → is_rest v.transfer.next ≡ t → may_use_transfers way ≡ true
     → moves_transfer (if t then alone_begun wish v else v) ≡ true
 moving_moves wish v way true e fresh rest may = refl
 moving_moves wish v Fresh false e fresh rest may = let h = fresh refl in grind arith
@@ -36,13 +37,16 @@ both : (a b : Bool) → a ≡ true → b ≡ true → (a && b) ≡ true
 both a b e f = rw (e, f) refl
 
 -- a process in a call goes on with it
-calling_at : (call : Call) (v : ProcessView) (way : Way) (stage : CallStage) → v.calls.way ≡ way → (way ≡ Alone → is_in_call v.calls.stage ≡ false) → v.calls.stage ≡ stage → is_in_call stage ≡ true
+calling_at : (call : Call) (v : ProcessView) (way : Way) (stage : CallStage) → v.calls.way ≡ way
+    → (way ≡ Alone → is_in_call v.calls.stage ≡ false) → v.calls.stage ≡ stage → is_in_call stage ≡ true
     → moves_transfer (calling_view call v) ≡ moves_at stage
 calling_at call v Fresh stage e alone here inside = rw (here, inside, e) refl
-calling_at call v Alone stage e alone here inside = let h = alone refl in let outside : is_in_call stage ≡ false = rw here at h in grind arith
+calling_at call v Alone stage e alone here inside =
+    let h = alone refl in let outside : is_in_call stage ≡ false = rw here at h in grind arith
 calling_at call v Calls stage e alone here inside = rw (here, inside, e) refl
 
-calls_busy : (v : ProcessView) (way : Way) (stage : CallStage) → v.calls.way ≡ way → (way ≡ Alone → is_in_call v.calls.stage ≡ false) → v.calls.stage ≡ stage → is_in_call stage ≡ true
+calls_busy : (v : ProcessView) (way : Way) (stage : CallStage) → v.calls.way ≡ way → (way ≡ Alone → is_in_call v.calls.stage ≡ false)
+    → v.calls.stage ≡ stage → is_in_call stage ≡ true
     → (is_alone v.calls.way ≡ false) × (is_busy v ≡ true)
 calls_busy v Fresh stage e alone here inside = rw e (refl, rw here inside)
 calls_busy v Alone stage e alone here inside = let h = alone refl in let outside : is_in_call stage ≡ false = rw here at h in grind arith
@@ -61,9 +65,14 @@ runs_make_steps sizes past history s by run li =
     let alone = alone_between s.sizes words (view_at s) history by li fits.meets in
     record {
       moves = λ wish made. both (is_made (Moves by wish) s) (moves_transfer (moving_view wish v)) made
-          (moving_moves wish v v.calls.way (is_rest v.transfer.next) refl fresh refl (first_may (nat_lt by s.sizes.processes) (may_use_transfers v.calls.way) (not (is_rest v.transfer.next) || (nat_lt v.transfer.age most_age && may_wish wish v.pool)) made));
+          (moving_moves wish v v.calls.way (is_rest v.transfer.next) refl fresh refl
+              (first_may (nat_lt by s.sizes.processes) (may_use_transfers v.calls.way)
+              (not (is_rest v.transfer.next) || (nat_lt v.transfer.age most_age && may_wish wish v.pool)) made));
       events = λ moving call.
           let (calls, busy) = calls_busy v v.calls.way Moving refl alone moving refl in
-          both (is_made (Events by call) s) (moves_transfer (calling_view call v)) ((busy_go_on s by li busy).1 calls call) (calling_at call v v.calls.way Moving refl alone moving refl);
-      own = λ own call. none_second (is_made (Events by call) s) (moves_transfer (calling_view call v)) (calling_at call v v.calls.way Own refl alone own refl);
+          both (is_made (Events by call) s) (moves_transfer (calling_view call v)) ((busy_go_on s by li busy).1 calls call)
+              (calling_at call v v.calls.way Moving refl alone moving refl);
+      own =
+          λ own call. none_second (is_made (Events by call) s) (moves_transfer (calling_view call v))
+          (calling_at call v v.calls.way Own refl alone own refl);
     }

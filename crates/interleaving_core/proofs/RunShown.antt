@@ -46,14 +46,16 @@ same_shown s t u shows same = record {
 }
 
 -- two moments that show one state
-pub both_shown : (s after : CoreState) (t : StackState) → after.sizes ≡ s.sizes → ShowsState s t → ShowsState after t → LeavesContent s after
+pub both_shown : (s after : CoreState) (t : StackState) → after.sizes ≡ s.sizes → ShowsState s t → ShowsState after t
+    → LeavesContent s after
 both_shown s after t sizes old new = record {
   content = new.content.heads ∙ sym old.content.heads;
   replies = λ o lo. new.replies o (rw sizes lo) ∙ sym (old.replies o lo);
 }
 
 -- an announcement isn't pending in the state that has applied it
-applied_once : (word old new before after : ℕ) → is_odd_reply old ≡ (before % 2 == 1) → is_odd_reply new ≡ (after % 2 == 1) → after ≡ (if is_pending word old then before + 1 else before) → is_pending word new ≡ false
+applied_once : (word old new before after : ℕ) → is_odd_reply old ≡ (before % 2 == 1) → is_odd_reply new ≡ (after % 2 == 1)
+    → after ≡ (if is_pending word old then before + 1 else before) → is_pending word new ≡ false
 applied_once word old new before after parity turned is = elim (cases_eq (tag_of word % 2) (before % 2)) [
   | inl e ↦
       let calm = pends_not word old before parity e in
@@ -84,7 +86,8 @@ module _
     step_leaves : HitsNot (views i) (word_at s.sizes s.words) (views i).next → LeavesContent s now
     step_leaves not =
         let same = present_stays s.sizes (views i) (word_at s.sizes s.words) (word_at s.sizes now.words) states step_acted not in
-        both_shown s now (present (word_at s.sizes s.words) states) sizes_stay old_shown (subst (λ (t : StackState). ShowsState now t) same new_shown)
+        both_shown s now (present (word_at s.sizes s.words) states) sizes_stay old_shown
+            (subst (λ (t : StackState). ShowsState now t) same new_shown)
 
     step_applies : (second : Bool) → (views i).next ≡ Try second ExchangeState → word_at s.sizes s.words State ≡ (views i).loaded.state
         → AppliesPending s now (λ o. slice_index (views i).loaded.announcements o) (present (word_at s.sizes s.words) states)
@@ -98,23 +101,30 @@ module _
         let gives = installed_next s.sizes words views states i second shape li h e hit in
         let row = row_fits s.sizes words i v shape.few_processes li (h.transfers.records.own i li) in
         let made = present_installed s.sizes v words new states second row step_acted e hit in
-        let same : SameState s.sizes.processes t2 (next_of s.sizes.processes heard t) = subst (λ (z : StackState). SameState s.sizes.processes z (next_of s.sizes.processes heard t)) (sym made) gives.next in
+        let same : SameState s.sizes.processes t2 (next_of s.sizes.processes heard t) = subst
+            (λ (z : StackState). SameState s.sizes.processes z (next_of s.sizes.processes heard t)) (sym made) gives.next in
         record {
           old = old_shown;
           present = λ o lo is.
               let gave = gives.pending o lo (sym (ap (is_pending (heard o)) (old_shown.replies o lo)) ∙ is) in
               gave.word ∙ sym ((h.helping.announced o lo).word gave.announced);
-          new = same_shown now t2 (next_of s.sizes.processes heard t) new_shown (subst (λ (x : Sizes). SameState x.processes t2 (next_of s.sizes.processes heard t)) (sym sizes_stay) same);
+          new =
+              same_shown now t2 (next_of s.sizes.processes heard t) new_shown
+              (subst (λ (x : Sizes). SameState x.processes t2 (next_of s.sizes.processes heard t)) (sym sizes_stay) same);
           once = λ o lo.
               ap (is_pending (heard o)) (new_shown.replies o (rw sizes_stay lo))
-              ∙ applied_once (heard o) (t.reply o) (t2.reply o) (t.applied o) (t2.applied o) (h.helping.counts.parities o (state_tag words) lo (omega arith)) (k.helping.counts.parities o (state_tag new) lo (omega arith))
+              ∙ applied_once (heard o) (t.reply o) (t2.reply o) (t.applied o) (t2.applied o)
+                  (h.helping.counts.parities o (state_tag words) lo (omega arith))
+                  (k.helping.counts.parities o (state_tag new) lo (omega arith))
               (same.applied o lo ∙ next_applied s.sizes.processes heard t o lo);
         }
 
-    pub step_content : LeavesContent s now ⊎ (IsExchange (views i).next × ((announcements : ℕ → ℕ) × ((t : StackState) × AppliesPending s now announcements t)))
+    pub step_content : LeavesContent s now
+        ⊎ (IsExchange (views i).next × ((announcements : ℕ → ℕ) × ((t : StackState) × AppliesPending s now announcements t)))
     step_content = elim (exchanging (views i).next) [
       | inl at ↦ elim (cases_eq (word_at s.sizes s.words State) (views i).loaded.state) [
-        | inl hit ↦ inr (at, ((λ o. slice_index (views i).loaded.announcements o), (present (word_at s.sizes s.words) states, step_applies at.0 at.1 hit)))
+        | inl hit ↦ inr (at, ((λ o. slice_index (views i).loaded.announcements o),
+            (present (word_at s.sizes s.words) states, step_applies at.0 at.1 hit)))
         | inr fails ↦ inl (step_leaves (λ second e hit. fails hit))
       ]
       | inr other ↦ inl (step_leaves (λ second e hit. other second e))

@@ -18,7 +18,8 @@ use Rattle.stack_invariant.specs.Shown.{Shows}
 use Rattle.stack_invariant.proofs.Content.{words_show}
 use Rattle.stack_invariant.proofs.Tables.{tables_show}
 use Rattle.interleaving_core.specs.Moves.{CoreState, view_at}
-use Rattle.interleaving_core.specs.TransferLaws.{reply_to, announcement_of, announced_count, pends, TwoTriesApply, ShowsState, RunsShowStates}
+use Rattle.interleaving_core.specs.TransferLaws.{reply_to, announcement_of, announced_count, pends, TwoTriesApply, ShowsState}
+use Rattle.interleaving_core.specs.TransferLaws.{RunsShowStates}
 use Rattle.interleaving_core.proofs.Joins.{transfers}
 use Rattle.interleaving_core.proofs.Runs.{run_fits}
 
@@ -26,7 +27,8 @@ true_false : true ≡ false → ⊥
 true_false h = grind arith
 
 -- an announcement with the number of the age is pending where its transfer isn't applied
-pub applied_unless_pending : (word reply applied age : ℕ) → is_odd_reply reply ≡ (applied % 2 == 1) → tag_of word ≡ age → applied ≤ age → age ≤ applied + 1 → is_pending word reply ≡ false → applied ≡ age
+pub applied_unless_pending : (word reply applied age : ℕ) → is_odd_reply reply ≡ (applied % 2 == 1) → tag_of word ≡ age → applied ≤ age
+    → age ≤ applied + 1 → is_pending word reply ≡ false → applied ≡ age
 applied_unless_pending word reply applied age parity tag most least not = elim (cases_eq applied age) [
   | inl e ↦ e
   | inr ne ↦
@@ -37,17 +39,20 @@ applied_unless_pending word reply applied age parity tag most least not = elim (
     next_differs : (t a b : ℕ) → t ≡ b → a + 1 ≡ b → t % 2 ≡ a % 2 → ⊥
     next_differs t a b e next same = omega arith
 
-pub next_where_pending : (word reply applied age : ℕ) → is_odd_reply reply ≡ (applied % 2 == 1) → tag_of word ≡ age → applied ≤ age → age ≤ applied + 1 → is_pending word reply ≡ true → applied + 1 ≡ age
+pub next_where_pending : (word reply applied age : ℕ) → is_odd_reply reply ≡ (applied % 2 == 1) → tag_of word ≡ age → applied ≤ age
+    → age ≤ applied + 1 → is_pending word reply ≡ true → applied + 1 ≡ age
 next_where_pending word reply applied age parity tag most least is = elim (cases_eq applied age) [
   | inl e ↦ absurd (true_false (sym is ∙ pends_not word reply applied parity (rw (tag, e) refl)))
   | inr ne ↦ omega arith
 ]
 
-pub calm_where_applied : (word reply applied age : ℕ) → is_odd_reply reply ≡ (applied % 2 == 1) → tag_of word ≡ age → applied ≡ age → is_pending word reply ≡ false
+pub calm_where_applied : (word reply applied age : ℕ) → is_odd_reply reply ≡ (applied % 2 == 1) → tag_of word ≡ age → applied ≡ age
+    → is_pending word reply ≡ false
 calm_where_applied word reply applied age parity tag e = pends_not word reply applied parity (rw (tag, e) refl)
 
 -- the reply in the current record is that of the state
-pub reply_shown : (sizes : Sizes) (words : List ℕ) (t : StackState) (o : ℕ) → o < sizes.processes → Shows sizes.processes (word_at sizes words) t
+pub reply_shown : (sizes : Sizes) (words : List ℕ) (t : StackState) (o : ℕ) → o < sizes.processes
+    → Shows sizes.processes (word_at sizes words) t
     → value_of (word_at sizes words (RecordWord (table.current_record sizes words) (sizes.processes + 2 + o))) ≡ t.reply o
 unfolding current_record word_value
 reply_shown sizes words t o lo h = h.reply o lo
@@ -55,24 +60,34 @@ reply_shown sizes words t o lo h = h.reply o lo
 -- words and views that meet the invariant show the present state
 module _ (s : CoreState) (views : Views) (states : States) (h : StackHolds s.sizes (word_at s.sizes s.words) views states) where
   reply_is : (o : ℕ) → o < s.sizes.processes → reply_to s o ≡ (present (word_at s.sizes s.words) states).reply o
-  reply_is o lo = reply_shown s.sizes s.words (present (word_at s.sizes s.words) states) o lo (words_show s.sizes (word_at s.sizes s.words) views states h)
+  reply_is o lo =
+      reply_shown s.sizes s.words (present (word_at s.sizes s.words) states) o lo
+      (words_show s.sizes (word_at s.sizes s.words) views states h)
 
-  parity_is : (o : ℕ) → o < s.sizes.processes → is_odd_reply (reply_to s o) ≡ ((present (word_at s.sizes s.words) states).applied o % 2 == 1)
+  parity_is : (o : ℕ) → o < s.sizes.processes
+      → is_odd_reply (reply_to s o) ≡ ((present (word_at s.sizes s.words) states).applied o % 2 == 1)
   parity_is o lo = rw (reply_is o lo) (h.helping.counts.parities o (state_tag (word_at s.sizes s.words)) lo (omega arith))
 
-  pub holds_show : ((o : ℕ) → o < s.sizes.processes → (views o).age ≡ announced_count s o) → ShowsState s (present (word_at s.sizes s.words) states)
+  pub holds_show : ((o : ℕ) → o < s.sizes.processes → (views o).age ≡ announced_count s o)
+      → ShowsState s (present (word_at s.sizes s.words) states)
   holds_show ages = record {
     content = tables_show s.sizes s.words views states h;
     replies = reply_is;
-    applied = λ o lo calm. let own = h.helping.announced o lo in applied_unless_pending (announcement_of s o) (reply_to s o) ((present (word_at s.sizes s.words) states).applied o) (views o).age (parity_is o lo) own.tag own.most own.least calm ∙ ages o lo;
-    pending = λ o lo is. let own = h.helping.announced o lo in next_where_pending (announcement_of s o) (reply_to s o) ((present (word_at s.sizes s.words) states).applied o) (views o).age (parity_is o lo) own.tag own.most own.least is ∙ ages o lo;
+    applied =
+        λ o lo calm. let own = h.helping.announced o lo in applied_unless_pending (announcement_of s o) (reply_to s o)
+        ((present (word_at s.sizes s.words) states).applied o) (views o).age (parity_is o lo) own.tag own.most own.least calm ∙ ages o lo;
+    pending =
+        λ o lo is. let own = h.helping.announced o lo in next_where_pending (announcement_of s o) (reply_to s o)
+        ((present (word_at s.sizes s.words) states).applied o) (views o).age (parity_is o lo) own.tag own.most own.least is ∙ ages o lo;
   }
 
-  pub pends_in_tries : (o : ℕ) → o < s.sizes.processes → ((has_announced (views o).next ≡ false → pends s o ≡ false) × (has_tried (views o).next ≡ true → pends s o ≡ false))
+  pub pends_in_tries : (o : ℕ) → o < s.sizes.processes
+      → ((has_announced (views o).next ≡ false → pends s o ≡ false) × (has_tried (views o).next ≡ true → pends s o ≡ false))
   pends_in_tries o lo =
       let own = h.helping.announced o lo in
       let tries = h.helping.tries o lo in
-      let calm = λ (e : (present (word_at s.sizes s.words) states).applied o ≡ (views o).age). calm_where_applied (announcement_of s o) (reply_to s o) ((present (word_at s.sizes s.words) states).applied o) (views o).age (parity_is o lo) own.tag e in
+      let calm = λ (e : (present (word_at s.sizes s.words) states).applied o ≡ (views o).age). calm_where_applied (announcement_of s o)
+          (reply_to s o) ((present (word_at s.sizes s.words) states).applied o) (views o).age (parity_is o lo) own.tag e in
       ((λ e. calm (own.idle e)), (λ e. calm (tries.ended e)))
 
 pub runs_show_states : RunsShowStates

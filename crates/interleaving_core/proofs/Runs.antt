@@ -1,5 +1,6 @@
 -- the words and views of every run meet the invariant, with the history that it makes
-use Rattle.std.proofs.Common.{◌≡◌, ℕ, zero, suc, ◌+◌, ◌<◌, ◌==◌, Bool, true, false, Option, List, [], ◌∷◌, ◌++◌, length, refl, sym, ap, ◌∙◌, inl, inr, arith, get_or, set, length-set, get_or-set_same, get_or-set_other, subst}
+use Rattle.std.proofs.Common.{◌≡◌, ℕ, zero, suc, ◌+◌, ◌<◌, ◌==◌, Bool, true, false, Option, List, [], ◌∷◌, ◌++◌, length, refl, sym, ap, ◌∙◌}
+use Rattle.std.proofs.Common.{inl, inr, arith, get_or, set, length-set, get_or-set_same, get_or-set_other, subst}
 use Rattle.std.specs.Prelude.{if◌then◌else◌, nat_lt, ◌&&◌}
 use Rattle.std.proofs.Math.Path.{fun_ext}
 use Rattle.std.proofs.lemmas.Bool.{cases_eq}
@@ -29,8 +30,10 @@ use Rattle.pool_machine.specs.declared.event.Happened.TheVariants.{Ignored}
 use Rattle.interleaving_core.specs.Turned.{Turned}
 use Rattle.interleaving_core.specs.Invariant.{MeetsInvariant, IsAmong, IsAmongHolding, with_view}
 use Rattle.interleaving_core.specs.Steps.{is_busy, is_in_call, next_action, next_met}
-use Rattle.interleaving_core.specs.Moves.{CoreState, view_at, may_go_alone, moving_view, holds_for, may_go, calling_view, step_answer, with_step, holders_after}
-use Rattle.interleaving_core.specs.Runs.{Turn, Moves, Events, IsRun, opens, turns, opening_views, opened, by_of, is_made, turning_view, after_turn, turn_answer, entries_of}
+use Rattle.interleaving_core.specs.Moves.{CoreState, view_at, may_go_alone, moving_view, holds_for, may_go, calling_view, step_answer}
+use Rattle.interleaving_core.specs.Moves.{with_step, holders_after}
+use Rattle.interleaving_core.specs.Runs.{Turn, Moves, Events, IsRun, opens, turns, opening_views, opened, by_of, is_made, turning_view}
+use Rattle.interleaving_core.specs.Runs.{after_turn, turn_answer, entries_of}
 use Rattle.interleaving_core.proofs.Holders.{HoldersFit, opened_holders, step_holders, truly_held}
 use Rattle.interleaving_core.proofs.Begins.{alone_begins, call_begins}
 use Rattle.interleaving_core.proofs.Opens.{opening_holds}
@@ -50,14 +53,16 @@ pub opening_none : (sizes : Sizes) → opening_views sizes 0 ≡ []
 unfolding opening_views
 opening_none sizes = refl
 
-pub opening_more : (sizes : Sizes) (count : ℕ) → opening_views sizes (count + 1) ≡ opening_views sizes count ++ opening_view sizes count ∷ []
+pub opening_more : (sizes : Sizes) (count : ℕ)
+    → opening_views sizes (count + 1) ≡ opening_views sizes count ++ opening_view sizes count ∷ []
 unfolding opening_views
 opening_more sizes count = let next : count + 1 ≡ suc count = omega arith in rw next refl
 
 opening_length : (sizes : Sizes) (count : ℕ) → length (opening_views sizes count) ≡ count
 unfolding opening_views
 opening_length sizes zero = refl
-opening_length sizes (suc count) = length-append (opening_views sizes count) (opening_view sizes count ∷ []) ∙ plus (opening_length sizes count)
+opening_length sizes (suc count) =
+    length-append (opening_views sizes count) (opening_view sizes count ∷ []) ∙ plus (opening_length sizes count)
   where
     plus : {a b : ℕ} → a ≡ b → a + 1 ≡ suc b
     plus e = omega (arith, e)
@@ -67,7 +72,8 @@ unfolding opening_views
 opening_seats sizes d zero i lt = absurd (omega arith)
 opening_seats sizes d (suc count) i lt = elim (cases_eq i count) [
   | inl e ↦ rw e (get_or_push (opening_views sizes count) (opening_view sizes count) d count (opening_length sizes count))
-  | inr ne ↦ get_or_append_left (opening_views sizes count) (opening_view sizes count ∷ []) d i (rw (opening_length sizes count) (omega arith)) ∙ opening_seats sizes d count i (omega arith)
+  | inr ne ↦ get_or_append_left (opening_views sizes count) (opening_view sizes count ∷ []) d i
+      (rw (opening_length sizes count) (omega arith)) ∙ opening_seats sizes d count i (omega arith)
 ]
 
 opening_fits : (sizes : Sizes) (words : List ℕ) → IsShape sizes → AreOpening sizes words → RunFits (opened sizes words) []
@@ -75,18 +81,22 @@ opening_fits sizes words shape opening = record {
   shape = shape;
   whole = opening.whole;
   seats = opening_length sizes sizes.processes;
-  meets = opening_holds sizes words (λ i. get_or (opening_views sizes sizes.processes) i (opening_view sizes i)) shape opening (λ i li. opening_seats sizes (opening_view sizes i) sizes.processes i li);
+  meets =
+      opening_holds sizes words (λ i. get_or (opening_views sizes sizes.processes) i (opening_view sizes i)) shape opening
+      (λ i li. opening_seats sizes (opening_view sizes i) sizes.processes i li);
   holders = opened_holders sizes;
 }
 
 -- a list of views with another one at one place
-moved_seats : (sizes : Sizes) (xs : List ProcessView) (i : ℕ) (v : ProcessView) → i < length xs → MovedProcess i v (λ o. get_or xs o (opening_view sizes o)) (λ o. get_or (set xs i v) o (opening_view sizes o))
+moved_seats : (sizes : Sizes) (xs : List ProcessView) (i : ℕ) (v : ProcessView) → i < length xs
+    → MovedProcess i v (λ o. get_or xs o (opening_view sizes o)) (λ o. get_or (set xs i v) o (opening_view sizes o))
 moved_seats sizes xs i v lt = record {
   here = get_or-set_same xs i v (opening_view sizes i) lt;
   elsewhere = λ o ne. get_or-set_other xs i o v (opening_view sizes o) ne;
 }
 
-pub moved_twice : (sizes : Sizes) (xs : List ProcessView) (i : ℕ) (v x : ProcessView) → i < length xs → MovedProcess i x (λ o. get_or (set xs i v) o (opening_view sizes o)) (λ o. get_or (set xs i x) o (opening_view sizes o))
+pub moved_twice : (sizes : Sizes) (xs : List ProcessView) (i : ℕ) (v x : ProcessView) → i < length xs
+    → MovedProcess i x (λ o. get_or (set xs i v) o (opening_view sizes o)) (λ o. get_or (set xs i x) o (opening_view sizes o))
 moved_twice sizes xs i v x lt = record {
   here = get_or-set_same xs i x (opening_view sizes i) lt;
   elsewhere = λ o ne. get_or-set_other xs i o x (opening_view sizes o) ne ∙ sym (get_or-set_other xs i o v (opening_view sizes o) ne);
@@ -111,23 +121,30 @@ first_may true b h = refl
 first_may false b h = grind arith
 
 -- a process that turns first begins its transfer or its call where it is in none
-moving_meets : (s : CoreState) (history : List Entry) (i : ℕ) (wish : Wish) (t : Bool) → RunFits s history → i < s.sizes.processes → may_go_alone wish (view_at s i) ≡ true → is_rest (view_at s i).transfer.next ≡ t
-    → MeetsInvariant s.sizes s.words (λ o. get_or (set s.views i (if t then alone_begun wish (view_at s i) else view_at s i)) o (opening_view s.sizes o)) history
+moving_meets : (s : CoreState) (history : List Entry) (i : ℕ) (wish : Wish) (t : Bool) → RunFits s history → i < s.sizes.processes
+    → may_go_alone wish (view_at s i) ≡ true → is_rest (view_at s i).transfer.next ≡ t
+    → MeetsInvariant s.sizes s.words
+    (λ o. get_or (set s.views i (if t then alone_begun wish (view_at s i) else view_at s i)) o (opening_view s.sizes o)) history
 moving_meets s history i wish true fits li may rest =
-    alone_begins s.sizes (word_at s.sizes s.words) (view_at s) _ history i wish fits.shape li fits.meets (rests (view_at s i).transfer.next rest) may (moved_seats s.sizes s.views i (alone_begun wish (view_at s i)) (rw fits.seats li))
+    alone_begins s.sizes (word_at s.sizes s.words) (view_at s) _ history i wish fits.shape li fits.meets
+        (rests (view_at s i).transfer.next rest) may (moved_seats s.sizes s.views i (alone_begun wish (view_at s i)) (rw fits.seats li))
 moving_meets s history i wish false fits li may rest = rw (set-get_or s.views i (opening_view s.sizes i)) fits.meets
 
-calling_meets : (s : CoreState) (history : List Entry) (i : ℕ) (call : Call) (t : Bool) → RunFits s history → i < s.sizes.processes → may_go s.sizes (holds_for s.holders i call) call (view_at s i) ≡ true → is_in_call (view_at s i).calls.stage ≡ t
-    → MeetsInvariant s.sizes s.words (λ o. get_or (set s.views i (if t then view_at s i else call_begun call (view_at s i))) o (opening_view s.sizes o)) history
+calling_meets : (s : CoreState) (history : List Entry) (i : ℕ) (call : Call) (t : Bool) → RunFits s history → i < s.sizes.processes
+    → may_go s.sizes (holds_for s.holders i call) call (view_at s i) ≡ true → is_in_call (view_at s i).calls.stage ≡ t
+    → MeetsInvariant s.sizes s.words
+    (λ o. get_or (set s.views i (if t then view_at s i else call_begun call (view_at s i))) o (opening_view s.sizes o)) history
 calling_meets s history i call true fits li may inside = rw (set-get_or s.views i (opening_view s.sizes i)) fits.meets
 calling_meets s history i call false fits li may inside =
     let v = view_at s i in
     let calls = either_may (is_in_call v.calls.stage) (may_call s.sizes (holds_for s.holders i call) call v) inside may in
-    call_begins s.sizes (word_at s.sizes s.words) (view_at s) _ history i call (holds_for s.holders i call) fits.shape li fits.meets (between_calls v.calls.stage inside) calls
+    call_begins s.sizes (word_at s.sizes s.words) (view_at s) _ history i call (holds_for s.holders i call) fits.shape li fits.meets
+        (between_calls v.calls.stage inside) calls
     (truly_held s.sizes history s.holders i call fits.holders) (moved_seats s.sizes s.views i (call_begun call v) (rw fits.seats li))
 
 -- a process that turns has a next step
-moving_busy : (wish : Wish) (v : ProcessView) (way : Way) (t : Bool) → v.calls.way ≡ way → (way ≡ Fresh → is_rest v.transfer.next ≡ true) → is_rest v.transfer.next ≡ t → may_use_transfers way ≡ true → is_busy (if t then alone_begun wish v else v) ≡ true
+moving_busy : (wish : Wish) (v : ProcessView) (way : Way) (t : Bool) → v.calls.way ≡ way → (way ≡ Fresh → is_rest v.transfer.next ≡ true)
+    → is_rest v.transfer.next ≡ t → may_use_transfers way ≡ true → is_busy (if t then alone_begun wish v else v) ≡ true
 moving_busy wish v way true e fresh rest may = refl
 moving_busy wish v Fresh false e fresh rest may = let h = fresh refl in grind arith
 moving_busy wish v Alone false e fresh rest may = rw (e, rest) refl
@@ -143,32 +160,42 @@ begun_inside (Free block) v = first_inside (is_idle (before_call v).pool.plan.pe
 begun_inside (Read block index) v = refl
 begun_inside (Write block index value) v = refl
 
-calling_busy : (call : Call) (v : ProcessView) (way : Way) (t : Bool) → v.calls.way ≡ way → (way ≡ Alone → is_in_call v.calls.stage ≡ false) → is_in_call v.calls.stage ≡ t → is_busy (if t then v else call_begun call v) ≡ true
+calling_busy : (call : Call) (v : ProcessView) (way : Way) (t : Bool) → v.calls.way ≡ way → (way ≡ Alone → is_in_call v.calls.stage ≡ false)
+    → is_in_call v.calls.stage ≡ t → is_busy (if t then v else call_begun call v) ≡ true
 calling_busy call v Fresh true e alone inside = rw (e, inside) refl
 calling_busy call v Alone true e alone inside = let h = alone refl in grind arith
 calling_busy call v Calls true e alone inside = rw (e, inside) refl
 calling_busy call v way false e alone inside = begun_inside call v
 
-pub turn_meets : (s : CoreState) (history : List Entry) (turn : Turn) → RunFits s history → is_made turn s ≡ true → by_of turn < s.sizes.processes
+pub turn_meets : (s : CoreState) (history : List Entry) (turn : Turn) → RunFits s history → is_made turn s ≡ true
+    → by_of turn < s.sizes.processes
     → MeetsInvariant s.sizes s.words (λ o. get_or (set s.views (by_of turn) (turning_view turn s)) o (opening_view s.sizes o)) history
-turn_meets s history (Moves by wish) fits made li = moving_meets s history by wish (is_rest (view_at s by).transfer.next) fits li (both_may (nat_lt by s.sizes.processes) (may_go_alone wish (view_at s by)) made) refl
-turn_meets s history (Events by call) fits made li = calling_meets s history by call (is_in_call (view_at s by).calls.stage) fits li (both_may (nat_lt by s.sizes.processes) _ made) refl
+turn_meets s history (Moves by wish) fits made li =
+    moving_meets s history by wish (is_rest (view_at s by).transfer.next) fits li
+    (both_may (nat_lt by s.sizes.processes) (may_go_alone wish (view_at s by)) made) refl
+turn_meets s history (Events by call) fits made li =
+    calling_meets s history by call (is_in_call (view_at s by).calls.stage) fits li (both_may (nat_lt by s.sizes.processes) _ made) refl
 
-pub turn_busy : (s : CoreState) (history : List Entry) (turn : Turn) → RunFits s history → is_made turn s ≡ true → by_of turn < s.sizes.processes → is_busy (turning_view turn s) ≡ true
+pub turn_busy : (s : CoreState) (history : List Entry) (turn : Turn) → RunFits s history → is_made turn s ≡ true
+    → by_of turn < s.sizes.processes → is_busy (turning_view turn s) ≡ true
 turn_busy s history (Moves by wish) fits made li =
     let v = view_at s by in
     let may = both_may (nat_lt by s.sizes.processes) (may_go_alone wish v) made in
-    moving_busy wish v v.calls.way (is_rest v.transfer.next) refl (fresh_rests s.sizes (word_at s.sizes s.words) (view_at s) history by li fits.meets) refl (first_may (may_use_transfers v.calls.way) _ may)
+    moving_busy wish v v.calls.way (is_rest v.transfer.next) refl
+        (fresh_rests s.sizes (word_at s.sizes s.words) (view_at s) history by li fits.meets) refl
+        (first_may (may_use_transfers v.calls.way) _ may)
 turn_busy s history (Events by call) fits made li =
     let v = view_at s by in
-    calling_busy call v v.calls.way (is_in_call v.calls.stage) refl (alone_between s.sizes (word_at s.sizes s.words) (view_at s) history by li fits.meets) refl
+    calling_busy call v v.calls.way (is_in_call v.calls.stage) refl
+        (alone_between s.sizes (word_at s.sizes s.words) (view_at s) history by li fits.meets) refl
 
 pub turn_low : (s : CoreState) (turn : Turn) → is_made turn s ≡ true → by_of turn < s.sizes.processes
 turn_low s (Moves by wish) made = both_low by s.sizes.processes (may_go_alone wish (view_at s by)) made
 turn_low s (Events by call) made = both_low by s.sizes.processes (may_go s.sizes (holds_for s.holders by call) call (view_at s by)) made
 
 -- a turn that is made keeps the invariant
-made_fits : (s : CoreState) (history : List Entry) (turn : Turn) → RunFits s history → is_made turn s ≡ true → RunFits (with_step (by_of turn) (turning_view turn s) s) (history ++ entries_of (step_answer (turning_view turn s) s))
+made_fits : (s : CoreState) (history : List Entry) (turn : Turn) → RunFits s history → is_made turn s ≡ true
+    → RunFits (with_step (by_of turn) (turning_view turn s) s) (history ++ entries_of (step_answer (turning_view turn s) s))
 made_fits s history turn fits made =
     let by = by_of turn in
     let v = turning_view turn s in
@@ -179,38 +206,47 @@ made_fits s history turn fits made =
     let low : by < length s.views = rw fits.seats li in
     let begun = turn_meets s history turn fits made li in
     let here : get_or xs by (opening_view s.sizes by) ≡ v = get_or-set_same s.views by v (opening_view s.sizes by) low in
-    let stepped = table_step s.sizes s.words (λ o. get_or xs o (opening_view s.sizes o)) (λ o. get_or (set s.views by x) o (opening_view s.sizes o)) history by fits.shape fits.whole li begun in
+    let stepped = table_step s.sizes s.words (λ o. get_or xs o (opening_view s.sizes o))
+        (λ o. get_or (set s.views by x) o (opening_view s.sizes o)) history by fits.shape fits.whole li begun in
     let met = (rw here at stepped) (turn_busy s history turn fits made li) (moved_twice s.sizes s.views by v x low) in
     record {
       shape = fits.shape;
       whole = acted_length s.sizes s.words (next_action s.sizes v) ∙ fits.whole;
       seats = length-set s.views by x ∙ fits.seats;
       meets = met;
-      holders = step_holders s.sizes (acted s.sizes s.words (next_action s.sizes v)) (λ o. get_or (set s.views by x) o (opening_view s.sizes o)) history s.holders (step_answer v s) fits.holders met;
+      holders =
+          step_holders s.sizes (acted s.sizes s.words (next_action s.sizes v)) (λ o. get_or (set s.views by x) o (opening_view s.sizes o))
+          history s.holders (step_answer v s) fits.holders met;
     }
 
 turn_fits : (s : CoreState) (history : List Entry) (turn : Turn) (t : Bool) → RunFits s history → is_made turn s ≡ t
-    → RunFits (if t then with_step (by_of turn) (turning_view turn s) s else s) (history ++ entries_of (if t then step_answer (turning_view turn s) s else Ignored))
+    → RunFits (if t then with_step (by_of turn) (turning_view turn s) s else s)
+    (history ++ entries_of (if t then step_answer (turning_view turn s) s else Ignored))
 turn_fits s history turn true fits made = made_fits s history turn fits made
 turn_fits s history turn false fits made = rw (append-nil history) fits
 
 -- every run
 pub run_fits : (sizes : Sizes) (past : List Turn) (history : List Entry) (s : CoreState) → IsRun sizes past history s → RunFits s history
 run_fits sizes past history s (opens words shape opening) = opening_fits sizes words shape opening
-run_fits sizes past history s (turns before made old turn run) = turn_fits old made turn (is_made turn old) (run_fits sizes before made old run) refl
+run_fits sizes past history s (turns before made old turn run) =
+    turn_fits old made turn (is_made turn old) (run_fits sizes before made old run) refl
 
 -- what a caller asks of a place, a process or a block is in range
-pub word_low : (s t : CoreState) (history : List Entry) (place : ℕ) → s ≡ t → RunFits s history → place < table_words t.sizes → place < length s.words
+pub word_low : (s t : CoreState) (history : List Entry) (place : ℕ) → s ≡ t → RunFits s history → place < table_words t.sizes
+    → place < length s.words
 word_low s t history place e fits lt = rw (fits.whole, e) lt
 
-pub seat_low : (s t : CoreState) (history : List Entry) (process : ℕ) → s ≡ t → RunFits s history → process < t.sizes.processes → process < length s.views
+pub seat_low : (s t : CoreState) (history : List Entry) (process : ℕ) → s ≡ t → RunFits s history → process < t.sizes.processes
+    → process < length s.views
 seat_low s t history process e fits lt = rw (fits.seats, e) lt
 
-pub holder_low : (s t : CoreState) (history : List Entry) (block : ℕ) → s ≡ t → RunFits s history → block < blocks t.sizes → block < length s.holders
+pub holder_low : (s t : CoreState) (history : List Entry) (block : ℕ) → s ≡ t → RunFits s history → block < blocks t.sizes
+    → block < length s.holders
 holder_low s t history block e fits lt = rw (fits.holders.size, e) lt
 
 -- a process of a run is one of the processes
-pub run_among : (sizes : Sizes) (past : List Turn) (history : List Entry) (s : CoreState) (i : ℕ) → IsRun sizes past history s → i < s.sizes.processes → IsAmong s.sizes s.words (view_at s i)
+pub run_among : (sizes : Sizes) (past : List Turn) (history : List Entry) (s : CoreState) (i : ℕ) → IsRun sizes past history s
+    → i < s.sizes.processes → IsAmong s.sizes s.words (view_at s i)
 run_among sizes past history s i run li =
     let fits = run_fits sizes past history s run in
     let number = number_holds s.sizes (word_at s.sizes s.words) (view_at s) history i li fits.meets in
@@ -228,7 +264,8 @@ run_among sizes past history s i run li =
       | inr ne ↦ let test : (o == n) ≡ false = grind (arith, nat_tests) in rw test refl
     ]
 
-pub run_holding : (sizes : Sizes) (past : List Turn) (history : List Entry) (s : CoreState) (i : ℕ) (call : Call) → IsRun sizes past history s → i < s.sizes.processes → IsAmongHolding s.sizes s.words (view_at s i) (holds_for s.holders i call) call
+pub run_holding : (sizes : Sizes) (past : List Turn) (history : List Entry) (s : CoreState) (i : ℕ) (call : Call)
+    → IsRun sizes past history s → i < s.sizes.processes → IsAmongHolding s.sizes s.words (view_at s i) (holds_for s.holders i call) call
 unfolding run_among
 run_holding sizes past history s i call run li =
     let fits = run_fits sizes past history s run in
@@ -236,49 +273,65 @@ run_holding sizes past history s i call run li =
     record { among = run_among sizes past history s i run li; held = rw number (truly_held s.sizes history s.holders i call fits.holders) }
 
 -- a run goes on by a turn, which is made or ignored
-pub run_ignores : (sizes : Sizes) (past : List Turn) (history : List Entry) (s : CoreState) (turn : Turn) → is_made turn s ≡ false → IsRun sizes past history s → IsRun sizes (past ++ turn ∷ []) (history ++ []) s
+pub run_ignores : (sizes : Sizes) (past : List Turn) (history : List Entry) (s : CoreState) (turn : Turn) → is_made turn s ≡ false
+    → IsRun sizes past history s → IsRun sizes (past ++ turn ∷ []) (history ++ []) s
 run_ignores sizes past history s turn made run =
-    subst (λ (b : Bool). IsRun sizes (past ++ turn ∷ []) (history ++ entries_of (if b then step_answer (turning_view turn s) s else Ignored)) (if b then with_step (by_of turn) (turning_view turn s) s else s)) made (turns past history s turn run)
+    subst (λ (b : Bool). IsRun sizes (past ++ turn ∷ [])
+        (history ++ entries_of (if b then step_answer (turning_view turn s) s else Ignored))
+        (if b then with_step (by_of turn) (turning_view turn s) s else s)) made (turns past history s turn run)
 
-pub run_makes : (sizes : Sizes) (past : List Turn) (history : List Entry) (s : CoreState) (turn : Turn) → is_made turn s ≡ true → IsRun sizes past history s
-    → IsRun sizes (past ++ turn ∷ []) (history ++ entries_of (step_answer (turning_view turn s) s)) (with_step (by_of turn) (turning_view turn s) s)
+pub run_makes : (sizes : Sizes) (past : List Turn) (history : List Entry) (s : CoreState) (turn : Turn) → is_made turn s ≡ true
+    → IsRun sizes past history s
+    → IsRun sizes (past ++ turn ∷ []) (history ++ entries_of (step_answer (turning_view turn s) s))
+    (with_step (by_of turn) (turning_view turn s) s)
 run_makes sizes past history s turn made run =
-    subst (λ (b : Bool). IsRun sizes (past ++ turn ∷ []) (history ++ entries_of (if b then step_answer (turning_view turn s) s else Ignored)) (if b then with_step (by_of turn) (turning_view turn s) s else s)) made (turns past history s turn run)
+    subst (λ (b : Bool). IsRun sizes (past ++ turn ∷ [])
+        (history ++ entries_of (if b then step_answer (turning_view turn s) s else Ignored))
+        (if b then with_step (by_of turn) (turning_view turn s) s else s)) made (turns past history s turn run)
 
 -- a process of a run, which is to make a turn
 pub run_made : (s now : CoreState) (turn : Turn) (b : Bool) → s ≡ now → b ≡ is_made turn now → b ≡ true → is_made turn s ≡ true
 run_made s now turn b same can holds = subst (λ (x : CoreState). is_made turn x ≡ true) (sym same) (sym can ∙ holds)
 
 -- the words, views and holders that it leaves
-pub run_turned : (sizes : Sizes) (past : List Turn) (history : List Entry) (s now : CoreState) (turn : Turn) (b : Bool) (words : List ℕ) (seats : List ProcessView) (holders : List (Option ℕ)) (happened : Happened) → s ≡ now → b ≡ is_made turn now → b ≡ true
+pub run_turned : (sizes : Sizes) (past : List Turn) (history : List Entry) (s now : CoreState) (turn : Turn) (b : Bool) (words : List ℕ)
+    (seats : List ProcessView) (holders : List (Option ℕ)) (happened : Happened)
+    → s ≡ now → b ≡ is_made turn now → b ≡ true
     → Turned s.sizes (by_of turn) (turning_view turn s) s.words s.views words seats happened
     → holders ≡ holders_after happened s.holders
-    → IsRun sizes past history s → IsRun sizes (past ++ turn ∷ []) (history ++ entries_of happened) (record { sizes = s.sizes; words = words; views = seats; holders = holders })
+    → IsRun sizes past history s
+    → IsRun sizes (past ++ turn ∷ []) (history ++ entries_of happened)
+    (record { sizes = s.sizes; words = words; views = seats; holders = holders })
 run_turned sizes past history s now turn b words seats holders happened same can holds turned noted run =
     rw (noted, turned.answers, turned.acts, turned.meets) (run_makes sizes past history s turn (run_made s now turn b same can holds) run)
 
 -- the state after it, and its answer
-pub turned_state : (s now : CoreState) (turn : Turn) (b : Bool) (words : List ℕ) (seats : List ProcessView) (holders : List (Option ℕ)) (happened : Happened) → s ≡ now → b ≡ is_made turn now → b ≡ true
+pub turned_state : (s now : CoreState) (turn : Turn) (b : Bool) (words : List ℕ) (seats : List ProcessView) (holders : List (Option ℕ))
+    (happened : Happened)
+    → s ≡ now → b ≡ is_made turn now → b ≡ true
     → Turned s.sizes (by_of turn) (turning_view turn s) s.words s.views words seats happened → holders ≡ holders_after happened s.holders
     → record { sizes = s.sizes; words = words; views = seats; holders = holders } ≡ after_turn turn now
 turned_state s now turn b words seats holders happened same can holds turned noted =
     let made = run_made s now turn b same can holds in
     rw (sym same) (rw (made, noted, turned.answers, turned.acts, turned.meets) refl)
 
-pub turned_answer : (s now : CoreState) (turn : Turn) (b : Bool) (words : List ℕ) (seats : List ProcessView) (happened : Happened) → s ≡ now → b ≡ is_made turn now → b ≡ true
+pub turned_answer : (s now : CoreState) (turn : Turn) (b : Bool) (words : List ℕ) (seats : List ProcessView) (happened : Happened) → s ≡ now
+    → b ≡ is_made turn now → b ≡ true
     → Turned s.sizes (by_of turn) (turning_view turn s) s.words s.views words seats happened → happened ≡ turn_answer turn now
 turned_answer s now turn b words seats happened same can holds turned =
     let made = run_made s now turn b same can holds in
     rw (sym same) (rw made turned.answers)
 
 -- a process among the others that turns has a next step
-pub moving_next : (sizes : Sizes) (table : List ℕ) (v : ProcessView) (wish : Wish) → may_go_alone wish v ≡ true → IsAmong sizes table v → is_busy (moving_view wish v) ≡ true
+pub moving_next : (sizes : Sizes) (table : List ℕ) (v : ProcessView) (wish : Wish) → may_go_alone wish v ≡ true → IsAmong sizes table v
+    → is_busy (moving_view wish v) ≡ true
 moving_next sizes table v wish may among =
     let here = with_view_here v among.others in
     let fresh = fresh_rests sizes (word_at sizes table) (with_view v among.others) among.past v.transfer.number among.low among.meets in
     moving_busy wish v v.calls.way (is_rest v.transfer.next) refl (rw here at fresh) refl (first_may (may_use_transfers v.calls.way) _ may)
 
-pub calling_next : (sizes : Sizes) (table : List ℕ) (v : ProcessView) (call : Call) → IsAmong sizes table v → is_busy (calling_view call v) ≡ true
+pub calling_next : (sizes : Sizes) (table : List ℕ) (v : ProcessView) (call : Call) → IsAmong sizes table v
+    → is_busy (calling_view call v) ≡ true
 calling_next sizes table v call among =
     let here = with_view_here v among.others in
     let alone = alone_between sizes (word_at sizes table) (with_view v among.others) among.past v.transfer.number among.low among.meets in
@@ -288,15 +341,20 @@ calling_next sizes table v call among =
 is_low : (a b : ℕ) → a < b → nat_lt a b ≡ true
 is_low a b lt = grind (arith, nat_tests)
 
-seat_here : (s : CoreState) (history : List Entry) (by : ℕ) (v : ProcessView) → RunFits s history → by < s.sizes.processes → v ≡ get_or s.views by v → v ≡ view_at s by
+seat_here : (s : CoreState) (history : List Entry) (by : ℕ) (v : ProcessView) → RunFits s history → by < s.sizes.processes
+    → v ≡ get_or s.views by v → v ≡ view_at s by
 seat_here s history by v fits low here = here ∙ get_or_default s.views by v (opening_view s.sizes by) (rw fits.seats low)
 
-pub may_go_alone_here : (s t : CoreState) (history : List Entry) (by : ℕ) (wish : Wish) (v : ProcessView) (b : Bool) → s ≡ t → RunFits s history → by < s.sizes.processes → v ≡ get_or s.views by v → b ≡ may_go_alone wish v → b ≡ is_made (Moves by wish) t
+pub may_go_alone_here : (s t : CoreState) (history : List Entry) (by : ℕ) (wish : Wish) (v : ProcessView) (b : Bool) → s ≡ t
+    → RunFits s history → by < s.sizes.processes → v ≡ get_or s.views by v → b ≡ may_go_alone wish v → b ≡ is_made (Moves by wish) t
 may_go_alone_here s t history by wish v b e fits low here may =
     let among = is_low by s.sizes.processes low in
     rw (sym e) (rw among (may ∙ ap (may_go_alone wish) (seat_here s history by v fits low here)))
 
-pub may_go_here : (s t : CoreState) (history : List Entry) (by : ℕ) (call : Call) (v : ProcessView) (b holds : Bool) → s ≡ t → RunFits s history → by < s.sizes.processes → v ≡ get_or s.views by v → holds ≡ holds_for s.holders by call → b ≡ may_go s.sizes holds call v → b ≡ is_made (Events by call) t
+pub may_go_here : (s t : CoreState) (history : List Entry) (by : ℕ) (call : Call) (v : ProcessView) (b holds : Bool) → s ≡ t
+    → RunFits s history → by < s.sizes.processes → v ≡ get_or s.views by v → holds ≡ holds_for s.holders by call
+    → b ≡ may_go s.sizes holds call v → b ≡ is_made (Events by call) t
 may_go_here s t history by call v b holds e fits low here held may =
     let among = is_low by s.sizes.processes low in
-    rw (sym e) (rw among (may ∙ ap (λ h. may_go s.sizes h call v) held ∙ ap (may_go s.sizes (holds_for s.holders by call) call) (seat_here s history by v fits low here)))
+    rw (sym e) (rw among (may ∙ ap (λ h. may_go s.sizes h call v) held ∙ ap (may_go s.sizes (holds_for s.holders by call) call)
+        (seat_here s history by v fits low here)))

@@ -30,11 +30,13 @@ use Rattle.interleaving_core.specs.Moves.{may_wish}
 use Rattle.interleaving_core.specs.Steps.{is_alone, is_in_call}
 
 -- the view of a process has its number
-pub numbered : (sizes : Sizes) (words : Words) (views : ProcessViews) (history : List Entry) (ghosts : Ghosts) (i : ℕ) → i < sizes.processes → Holds sizes words views history ghosts
+pub numbered : (sizes : Sizes) (words : Words) (views : ProcessViews) (history : List Entry) (ghosts : Ghosts) (i : ℕ) → i < sizes.processes
+    → Holds sizes words views history ghosts
     → (views i).transfer.number ≡ i
 numbered sizes words views history ghosts i li h = (each_process sizes words (transfers views) ghosts.states i li h.stack).number
 
-pub number_holds : (sizes : Sizes) (words : Words) (views : ProcessViews) (history : List Entry) (i : ℕ) → i < sizes.processes → Meets sizes words views history → (views i).transfer.number ≡ i
+pub number_holds : (sizes : Sizes) (words : Words) (views : ProcessViews) (history : List Entry) (i : ℕ) → i < sizes.processes
+    → Meets sizes words views history → (views i).transfer.number ≡ i
 number_holds sizes words views history i li (ghosts, h) = numbered sizes words views history ghosts i li h
 
 -- a process that isn't alone
@@ -42,24 +44,29 @@ pub isnt_alone : (way : Way) → is_alone way ≡ false → way ≢ Alone
 isnt_alone way e is = grind arith
 
 -- a process that has begun nothing is at rest, and one that makes transfers alone is in no call
-pub fresh_rests : (sizes : Sizes) (words : Words) (views : ProcessViews) (history : List Entry) (i : ℕ) → i < sizes.processes → Meets sizes words views history → (views i).calls.way ≡ Fresh
+pub fresh_rests : (sizes : Sizes) (words : Words) (views : ProcessViews) (history : List Entry) (i : ℕ) → i < sizes.processes
+    → Meets sizes words views history → (views i).calls.way ≡ Fresh
     → is_rest (views i).transfer.next ≡ true
 fresh_rests sizes words views history i li (ghosts, h) fresh =
-    let calls = calls_used sizes i (views i) (ghosts.ledgers i) (views i).calls.way (λ e. fresh_is_not_alone (views i).calls.way fresh e) (h.pools i li) in
+    let calls = calls_used sizes i (views i) (ghosts.ledgers i) (views i).calls.way (λ e. fresh_is_not_alone (views i).calls.way fresh e)
+        (h.pools i li) in
     ap (λ v. is_rest v.transfer.next) (calls.fresh fresh).view
   where
     fresh_is_not_alone : (way : Way) → way ≡ Fresh → way ≡ Alone → ⊥
     fresh_is_not_alone way e f = grind arith
 
-pub alone_between : (sizes : Sizes) (words : Words) (views : ProcessViews) (history : List Entry) (i : ℕ) → i < sizes.processes → Meets sizes words views history → (views i).calls.way ≡ Alone
+pub alone_between : (sizes : Sizes) (words : Words) (views : ProcessViews) (history : List Entry) (i : ℕ) → i < sizes.processes
+    → Meets sizes words views history → (views i).calls.way ≡ Alone
     → is_in_call (views i).calls.stage ≡ false
 alone_between sizes words views history i li (ghosts, h) alone =
     ap is_in_call (transfers_used sizes i (views i) (ghosts.ledgers i) (views i).calls.way alone (h.pools i li)).stage
 
 -- a process at rest has nothing pending
-pub rests_idle : (sizes : Sizes) (words : Words) (views : ProcessViews) (history : List Entry) (i : ℕ) → IsShape sizes → i < sizes.processes → Meets sizes words views history
+pub rests_idle : (sizes : Sizes) (words : Words) (views : ProcessViews) (history : List Entry) (i : ℕ) → IsShape sizes → i < sizes.processes
+    → Meets sizes words views history
     → (views i).transfer.next ≡ Rest → (views i).pool.plan.pending ≡ Idle
-rests_idle sizes words views history i shape li (ghosts, h) rest = (keeps sizes words views history ghosts i shape li h).runs.kept.idle (rw rest refl)
+rests_idle sizes words views history i shape li (ghosts, h) rest =
+    (keeps sizes words views history ghosts i shape li h).runs.kept.idle (rw rest refl)
 
 -- tests of numbers, and of several conditions
 few : (a b : ℕ) → nat_le a b ≡ true → a ≤ b
@@ -80,14 +87,16 @@ both_second true b e = e
 both_second false b e = absurd (grind arith)
 
 -- a spare is a block
-pub spare_is_block : (sizes : Sizes) (words : Words) (views : ProcessViews) (history : List Entry) (ghosts : Ghosts) (i place : ℕ) → IsShape sizes → i < sizes.processes
+pub spare_is_block : (sizes : Sizes) (words : Words) (views : ProcessViews) (history : List Entry) (ghosts : Ghosts) (i place : ℕ)
+    → IsShape sizes → i < sizes.processes
     → Holds sizes words views history ghosts → place < length (views i).pool.heads
     → slice_index (views i).pool.heads place < blocks sizes
 spare_is_block sizes words views history ghosts i place shape li h lt =
     (heads_are_blocks sizes words (ghosts.states (state_tag words)) views (held_in ghosts.ledgers) shape h.chains).1 i place li lt
 
 -- so a wish of a process at rest fits
-pub wish_fits_at : (sizes : Sizes) (words : Words) (views : ProcessViews) (history : List Entry) (ghosts : Ghosts) (i : ℕ) (wish : Wish) → IsShape sizes → i < sizes.processes
+pub wish_fits_at : (sizes : Sizes) (words : Words) (views : ProcessViews) (history : List Entry) (ghosts : Ghosts) (i : ℕ) (wish : Wish)
+    → IsShape sizes → i < sizes.processes
     → Holds sizes words views history ghosts → may_wish wish (views i).pool ≡ true
     → FitsWish wish × MayBegin wish (views i).pool
 wish_fits_at sizes words views history ghosts i Take shape li h may = (tt, few (views i).pool.plan.spares few_spares may)
@@ -95,46 +104,62 @@ wish_fits_at sizes words views history ghosts i (Give head) shape li h may =
     let heads = (views i).pool.heads in
     let last = length heads - 1 in
     let spares = (views i).pool.plan.spares in
-    let any : 0 < length heads = less 0 (length heads) (both_first (nat_lt 0 (length heads)) (nat_le 1 spares && (slice_index heads last == head)) may) in
+    let any : 0 < length heads = less 0 (length heads)
+        (both_first (nat_lt 0 (length heads)) (nat_le 1 spares && (slice_index heads last == head)) may) in
     let both = both_second (nat_lt 0 (length heads)) (nat_le 1 spares && (slice_index heads last == head)) may in
     let some : 1 ≤ spares = few 1 spares (both_first (nat_le 1 spares) (slice_index heads last == head) both) in
-    let is : slice_index heads last ≡ head = same (slice_index heads last) head (both_second (nat_le 1 spares) (slice_index heads last == head) both) in
+    let is : slice_index heads last ≡ head = same (slice_index heads last) head
+        (both_second (nat_le 1 spares) (slice_index heads last == head) both) in
     let block = spare_is_block sizes words views history ghosts i last shape li h (omega arith) in
     let limit = shape.few_blocks in
     (rw (sym is) (omega arith), (omega arith, some, is))
 
-pub wish_fits : (sizes : Sizes) (words : Words) (views : ProcessViews) (history : List Entry) (i : ℕ) (wish : Wish) → IsShape sizes → i < sizes.processes → Meets sizes words views history
+pub wish_fits : (sizes : Sizes) (words : Words) (views : ProcessViews) (history : List Entry) (i : ℕ) (wish : Wish) → IsShape sizes
+    → i < sizes.processes → Meets sizes words views history
     → (views i).transfer.next ≡ Rest → may_wish wish (views i).pool ≡ true → FitsWish wish × MayBegin wish (views i).pool
-wish_fits sizes words views history i wish shape li (ghosts, h) rest may = wish_fits_at sizes words views history ghosts i wish shape li h may
+wish_fits sizes words views history i wish shape li (ghosts, h) rest may =
+    wish_fits_at sizes words views history ghosts i wish shape li h may
 
 -- what the test of a call says
 pub call_way : (sizes : Sizes) (holds : Bool) (call : Call) (v : ProcessView) → may_call sizes holds call v ≡ true → v.calls.way ≢ Alone
-call_way sizes holds call v may = by_way v.calls.way (both_first (may_use_calls v.calls.way) (nat_lt v.transfer.age most_age && names_fit sizes holds call) may)
+call_way sizes holds call v may =
+    by_way v.calls.way (both_first (may_use_calls v.calls.way) (nat_lt v.transfer.age most_age && names_fit sizes holds call) may)
   where
     by_way : (way : Way) → may_use_calls way ≡ true → way ≢ Alone
     by_way Fresh e = λ is. grind arith
     by_way Alone e = λ is. grind arith
     by_way Calls e = λ is. grind arith
 
-call_rest : (sizes : Sizes) (holds : Bool) (call : Call) (v : ProcessView) → may_call sizes holds call v ≡ true → (nat_lt v.transfer.age most_age && names_fit sizes holds call) ≡ true
-call_rest sizes holds call v may = both_second (may_use_calls v.calls.way) (nat_lt v.transfer.age most_age && names_fit sizes holds call) may
+call_rest : (sizes : Sizes) (holds : Bool) (call : Call) (v : ProcessView) → may_call sizes holds call v ≡ true
+    → (nat_lt v.transfer.age most_age && names_fit sizes holds call) ≡ true
+call_rest sizes holds call v may =
+    both_second (may_use_calls v.calls.way) (nat_lt v.transfer.age most_age && names_fit sizes holds call) may
 
-pub call_young : (sizes : Sizes) (holds : Bool) (call : Call) (v : ProcessView) → may_call sizes holds call v ≡ true → v.transfer.age < most_age
-call_young sizes holds call v may = less v.transfer.age most_age (both_first (nat_lt v.transfer.age most_age) (names_fit sizes holds call) (call_rest sizes holds call v may))
+pub call_young : (sizes : Sizes) (holds : Bool) (call : Call) (v : ProcessView) → may_call sizes holds call v ≡ true
+    → v.transfer.age < most_age
+call_young sizes holds call v may =
+    less v.transfer.age most_age
+    (both_first (nat_lt v.transfer.age most_age) (names_fit sizes holds call) (call_rest sizes holds call v may))
 
-pub call_names : (sizes : Sizes) (holds : Bool) (call : Call) (v : ProcessView) → may_call sizes holds call v ≡ true → names_fit sizes holds call ≡ true
-call_names sizes holds call v may = both_second (nat_lt v.transfer.age most_age) (names_fit sizes holds call) (call_rest sizes holds call v may)
+pub call_names : (sizes : Sizes) (holds : Bool) (call : Call) (v : ProcessView) → may_call sizes holds call v ≡ true
+    → names_fit sizes holds call ≡ true
+call_names sizes holds call v may =
+    both_second (nat_lt v.transfer.age most_age) (names_fit sizes holds call) (call_rest sizes holds call v may)
 
 -- a process between two calls can begin one
-pub call_can : (sizes : Sizes) (words : Words) (views : ProcessViews) (history : List Entry) (ghosts : Ghosts) (i : ℕ) → IsShape sizes → i < sizes.processes → Holds sizes words views history ghosts
+pub call_can : (sizes : Sizes) (words : Words) (views : ProcessViews) (history : List Entry) (ghosts : Ghosts) (i : ℕ) → IsShape sizes
+    → i < sizes.processes → Holds sizes words views history ghosts
     → (views i).transfer.age < most_age → CanBegin (views i)
 call_can sizes words views history ghosts i shape li h young =
     let kept = keeps sizes words views history ghosts i shape li h in
     calls_can_begin sizes (views i) kept young (λ three.
-    let block = spare_is_block sizes words views history ghosts i (length (views i).pool.heads - 1) shape li h (omega (arith, three, kept.heads)) in
+    let block = spare_is_block sizes words views history ghosts i (length (views i).pool.heads - 1) shape li h
+        (omega (arith, three, kept.heads)) in
     let limit = shape.few_blocks in
     omega arith)
 
-pub call_can_begin : (sizes : Sizes) (words : Words) (views : ProcessViews) (history : List Entry) (i : ℕ) (call : Call) (holds : Bool) → IsShape sizes → i < sizes.processes
+pub call_can_begin : (sizes : Sizes) (words : Words) (views : ProcessViews) (history : List Entry) (i : ℕ) (call : Call) (holds : Bool)
+    → IsShape sizes → i < sizes.processes
     → Meets sizes words views history → (views i).calls.stage ≡ Between → may_call sizes holds call (views i) ≡ true → CanBegin (views i)
-call_can_begin sizes words views history i call holds shape li (ghosts, h) between may = call_can sizes words views history ghosts i shape li h (call_young sizes holds call (views i) may)
+call_can_begin sizes words views history i call holds shape li (ghosts, h) between may =
+    call_can sizes words views history ghosts i shape li h (call_young sizes holds call (views i) may)

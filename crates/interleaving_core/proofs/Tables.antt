@@ -27,7 +27,8 @@ use Rattle.transfer_machine.specs.declared.stage.NextStep.{NextStep}
 use Rattle.transfer_machine.specs.declared.stage.NextStep.TheVariants.{Rest, Announce, LoadFinalState, LoadReply, Try}
 use Rattle.transfer_machine.specs.Stages.{is_rest}
 use Rattle.transfer_machine.specs.declared.stage.TryStep.{TryStep}
-use Rattle.transfer_machine.specs.declared.stage.TryStep.TheVariants.{LoadState, LoadRecordWord, LoadCoveredSlot, ExchangeSlot, LoadAnnouncement, LoadPoppedSlot, StoreRecordWord, ExchangeState}
+use Rattle.transfer_machine.specs.declared.stage.TryStep.TheVariants.{LoadState, LoadRecordWord, LoadCoveredSlot, ExchangeSlot}
+use Rattle.transfer_machine.specs.declared.stage.TryStep.TheVariants.{LoadAnnouncement, LoadPoppedSlot, StoreRecordWord, ExchangeState}
 use Rattle.transfer_invariant.specs.Memory.{Words, Acted}
 use Rattle.batch_invariant.specs.Batches.{ProcessViews, MovedProcess}
 use Rattle.pool_machine.specs.Beginning.{alone_begun, call_begun, begun_if_due, due}
@@ -44,7 +45,8 @@ use Rattle.interleaving_core.proofs.Holds.{StepAllowed, step_allowed, step_holds
 use Rattle.interleaving_core.proofs.Standing.{rests_idle, wish_fits, call_can_begin}
 
 -- an action on a table acts on its words by their names
-pub table_acted : (sizes : Sizes) (table : List ℕ) (action : Action) → length table ≡ table_words sizes → InRange sizes (name_of action) → Acted sizes action (word_at sizes table) (word_at sizes (acted sizes table action))
+pub table_acted : (sizes : Sizes) (table : List ℕ) (action : Action) → length table ≡ table_words sizes → InRange sizes (name_of action)
+    → Acted sizes action (word_at sizes table) (word_at sizes (acted sizes table action))
 table_acted sizes table action whole range =
     let word = left_by action (met_word sizes table action) in
     record {
@@ -71,29 +73,34 @@ acts_in_range sizes v LoadFinalState can = tt
 acts_in_range sizes v LoadReply (row, low) = (row, omega arith)
 
 -- and so is the one of a call's step
-call_in_range : (sizes : Sizes) (v : ProcessView) (stage : CallStage) → CanActCallAt sizes v stage → InRange sizes (name_of (call_action_at sizes v stage))
+call_in_range : (sizes : Sizes) (v : ProcessView) (stage : CallStage) → CanActCallAt sizes v stage
+    → InRange sizes (name_of (call_action_at sizes v stage))
 call_in_range sizes v Between can = tt
 call_in_range sizes v Moving can = acts_in_range sizes v.transfer v.transfer.next can.act
 call_in_range sizes v Own can = own_in_range sizes v v.calls.call can
   where
-    allocate_in_range : (sizes : Sizes) (pool : PoolView) (s : Source) → CanAllocate sizes pool s → InRange sizes (name_of (allocate_action (block_from pool s)))
+    allocate_in_range : (sizes : Sizes) (pool : PoolView) (s : Source) → CanAllocate sizes pool s
+        → InRange sizes (name_of (allocate_action (block_from pool s)))
     allocate_in_range sizes pool source.Current (some, most) = omega (arith, some, most)
     allocate_in_range sizes pool source.Spare (some, low) = low
     allocate_in_range sizes pool source.Nothing can = tt
 
-    own_in_range : (sizes : Sizes) (v : ProcessView) (call : Option Call) → CanOwnFor sizes v.pool call → InRange sizes (name_of (own_action_for v.pool call))
+    own_in_range : (sizes : Sizes) (v : ProcessView) (call : Option Call) → CanOwnFor sizes v.pool call
+        → InRange sizes (name_of (own_action_for v.pool call))
     own_in_range sizes v None can = tt
     own_in_range sizes v (Some Allocate) can = allocate_in_range sizes v.pool (source_of v.pool.plan) can
     own_in_range sizes v (Some (Free block)) (low, can) = low
     own_in_range sizes v (Some (Read block index)) (low, within) = (low, within)
     own_in_range sizes v (Some (Write block index value)) (low, within) = (low, within)
 
-pub next_in_range : (sizes : Sizes) (words : Words) (v : ProcessView) (t : Bool) → is_alone v.calls.way ≡ t → StepAllowed sizes words v → InRange sizes (name_of (next_action sizes v))
+pub next_in_range : (sizes : Sizes) (words : Words) (v : ProcessView) (t : Bool) → is_alone v.calls.way ≡ t → StepAllowed sizes words v
+    → InRange sizes (name_of (next_action sizes v))
 next_in_range sizes words v true alone allowed = rw alone (acts_in_range sizes v.transfer v.transfer.next (allowed.act alone))
 next_in_range sizes words v false alone allowed = rw alone (call_in_range sizes v v.calls.stage (allowed.call_act alone))
 
 -- a step keeps the number of its process
-try_number : (sizes : Sizes) (v : TransferView) (word : ℕ) (second : Bool) (s : TryStep) → (met_in_try sizes v word second s).number ≡ v.number
+try_number : (sizes : Sizes) (v : TransferView) (word : ℕ) (second : Bool) (s : TryStep)
+    → (met_in_try sizes v word second s).number ≡ v.number
 try_number sizes v word second LoadState = refl
 try_number sizes v word second (LoadRecordWord index) = grind (arith, nat_tests)
 try_number sizes v word second (LoadCoveredSlot offset) = refl
@@ -110,29 +117,36 @@ met_number sizes v word (Try second step) = try_number sizes v word second step
 met_number sizes v word LoadFinalState = refl
 met_number sizes v word LoadReply = refl
 
-call_number : (sizes : Sizes) (v : ProcessView) (word : ℕ) (stage : CallStage) → (call_met_at sizes v word stage).transfer.number ≡ v.transfer.number
+call_number : (sizes : Sizes) (v : ProcessView) (word : ℕ) (stage : CallStage)
+    → (call_met_at sizes v word stage).transfer.number ≡ v.transfer.number
 call_number sizes v word Between = refl
 call_number sizes v word Moving = met_number sizes v.transfer word v.transfer.next
 call_number sizes v word Own = refl
 
-next_number : (sizes : Sizes) (v : ProcessView) (word : ℕ) (t : Bool) → is_alone v.calls.way ≡ t → (next_met sizes v word).transfer.number ≡ v.transfer.number
+next_number : (sizes : Sizes) (v : ProcessView) (word : ℕ) (t : Bool) → is_alone v.calls.way ≡ t
+    → (next_met sizes v word).transfer.number ≡ v.transfer.number
 next_number sizes v word true alone = rw alone (met_number sizes v.transfer word v.transfer.next)
 next_number sizes v word false alone = rw alone (call_number sizes v word v.calls.stage)
 
 -- the step of a process on a table
-pub table_step : (sizes : Sizes) (table : List ℕ) (views after : ProcessViews) (history : List Entry) (i : ℕ) → IsShape sizes → length table ≡ table_words sizes → i < sizes.processes → MeetsInvariant sizes table views history → is_busy (views i) ≡ true
+pub table_step : (sizes : Sizes) (table : List ℕ) (views after : ProcessViews) (history : List Entry) (i : ℕ) → IsShape sizes
+    → length table ≡ table_words sizes → i < sizes.processes → MeetsInvariant sizes table views history → is_busy (views i) ≡ true
     → MovedProcess i (next_met sizes (views i) (met_word sizes table (next_action sizes (views i)))) views after
-    → MeetsInvariant sizes (acted sizes table (next_action sizes (views i))) after (history ++ entries_of (next_answer (views i) (met_word sizes table (next_action sizes (views i)))))
+    → MeetsInvariant sizes (acted sizes table (next_action sizes (views i))) after
+    (history ++ entries_of (next_answer (views i) (met_word sizes table (next_action sizes (views i)))))
 table_step sizes table views after history i shape whole li h busy moved =
     let allowed = step_allowed sizes (word_at sizes table) views history i shape li h busy in
-    step_holds sizes (word_at sizes table) (word_at sizes (acted sizes table (next_action sizes (views i)))) views after history i shape li h busy
-    (table_acted sizes table (next_action sizes (views i)) whole (next_in_range sizes (word_at sizes table) (views i) (is_alone (views i).calls.way) refl allowed)) moved
+    step_holds sizes (word_at sizes table) (word_at sizes (acted sizes table (next_action sizes (views i)))) views after history i shape li
+        h busy
+    (table_acted sizes table (next_action sizes (views i)) whole
+        (next_in_range sizes (word_at sizes table) (views i) (is_alone (views i).calls.way) refl allowed)) moved
 
 -- the view of a process among those of the others
 pub with_view_here : (v : ProcessView) (others : ProcessViews) → with_view v others v.transfer.number ≡ v
 with_view_here v others = let test : (v.transfer.number == v.transfer.number) ≡ true = grind (arith, nat_tests) in rw test refl
 
-pub with_view_moved : (v x : ProcessView) (others : ProcessViews) → x.transfer.number ≡ v.transfer.number → MovedProcess v.transfer.number x (with_view v others) (with_view x others)
+pub with_view_moved : (v x : ProcessView) (others : ProcessViews) → x.transfer.number ≡ v.transfer.number
+    → MovedProcess v.transfer.number x (with_view v others) (with_view x others)
 with_view_moved v x others same = record {
   here = let test : (v.transfer.number == x.transfer.number) ≡ true = grind (arith, nat_tests) in rw test refl;
   elsewhere = λ o ne. apart o v.transfer.number x.transfer.number ne same v x (others o);
@@ -142,9 +156,12 @@ with_view_moved v x others same = record {
     apart o a b ne same v x w = grind (arith, nat_tests)
 
 -- the step of one of the processes keeps the invariant
-pub among_step : (sizes : Sizes) (table : List ℕ) (v : ProcessView) (others : ProcessViews) (history : List Entry) → IsShape sizes → length table ≡ table_words sizes → v.transfer.number < sizes.processes → is_busy v ≡ true
+pub among_step : (sizes : Sizes) (table : List ℕ) (v : ProcessView) (others : ProcessViews) (history : List Entry) → IsShape sizes
+    → length table ≡ table_words sizes → v.transfer.number < sizes.processes → is_busy v ≡ true
     → MeetsInvariant sizes table (with_view v others) history
-    → MeetsInvariant sizes (acted sizes table (next_action sizes v)) (with_view (next_met sizes v (met_word sizes table (next_action sizes v))) others) (history ++ entries_of (next_answer v (met_word sizes table (next_action sizes v))))
+    → MeetsInvariant sizes (acted sizes table (next_action sizes v))
+    (with_view (next_met sizes v (met_word sizes table (next_action sizes v))) others)
+    (history ++ entries_of (next_answer v (met_word sizes table (next_action sizes v))))
 among_step sizes table v others history shape whole low busy meets =
     let x = next_met sizes v (met_word sizes table (next_action sizes v)) in
     let here = with_view_here v others in
@@ -153,30 +170,37 @@ among_step sizes table v others history shape whole low busy meets =
     rw here at step busy moved
 
 -- and it can be made
-pub among_allowed : (sizes : Sizes) (table : List ℕ) (v : ProcessView) → IsShape sizes → is_busy v ≡ true → IsAmong sizes table v → StepAllowed sizes (word_at sizes table) v
+pub among_allowed : (sizes : Sizes) (table : List ℕ) (v : ProcessView) → IsShape sizes → is_busy v ≡ true → IsAmong sizes table v
+    → StepAllowed sizes (word_at sizes table) v
 among_allowed sizes table v shape busy among =
     let here = with_view_here v among.others in
-    let allowed = step_allowed sizes (word_at sizes table) (with_view v among.others) among.past v.transfer.number shape among.low among.meets in
+    let allowed = step_allowed sizes (word_at sizes table) (with_view v among.others) among.past v.transfer.number shape among.low
+        among.meets in
     rw here at allowed busy
 
 -- what a process at rest needs to begin a transfer alone
-pub among_idle : (sizes : Sizes) (table : List ℕ) (v : ProcessView) → IsShape sizes → IsAmong sizes table v → v.transfer.next ≡ Rest → v.pool.plan.pending ≡ Idle
+pub among_idle : (sizes : Sizes) (table : List ℕ) (v : ProcessView) → IsShape sizes → IsAmong sizes table v → v.transfer.next ≡ Rest
+    → v.pool.plan.pending ≡ Idle
 among_idle sizes table v shape among rest =
     let here = with_view_here v among.others in
     let idle = rests_idle sizes (word_at sizes table) (with_view v among.others) among.past v.transfer.number shape among.low among.meets in
     rw here at idle rest
 
-pub among_fits : (sizes : Sizes) (table : List ℕ) (v : ProcessView) (wish : Wish) → IsShape sizes → IsAmong sizes table v → v.transfer.next ≡ Rest → may_wish wish v.pool ≡ true → FitsWish wish × MayBegin wish v.pool
+pub among_fits : (sizes : Sizes) (table : List ℕ) (v : ProcessView) (wish : Wish) → IsShape sizes → IsAmong sizes table v
+    → v.transfer.next ≡ Rest → may_wish wish v.pool ≡ true → FitsWish wish × MayBegin wish v.pool
 among_fits sizes table v wish shape among rest may =
     let here = with_view_here v among.others in
-    let fits = wish_fits sizes (word_at sizes table) (with_view v among.others) among.past v.transfer.number wish shape among.low among.meets in
+    let fits = wish_fits sizes (word_at sizes table) (with_view v among.others) among.past v.transfer.number wish shape among.low
+        among.meets in
     rw here at fits rest may
 
 -- and a process between two calls to begin one
-pub among_can_begin : (sizes : Sizes) (table : List ℕ) (v : ProcessView) (call : Call) (holds : Bool) → IsShape sizes → IsAmong sizes table v → v.calls.stage ≡ Between → may_call sizes holds call v ≡ true → CanBegin v
+pub among_can_begin : (sizes : Sizes) (table : List ℕ) (v : ProcessView) (call : Call) (holds : Bool) → IsShape sizes
+    → IsAmong sizes table v → v.calls.stage ≡ Between → may_call sizes holds call v ≡ true → CanBegin v
 among_can_begin sizes table v call holds shape among between may =
     let here = with_view_here v among.others in
-    let can = call_can_begin sizes (word_at sizes table) (with_view v among.others) among.past v.transfer.number call holds shape among.low among.meets in
+    let can = call_can_begin sizes (word_at sizes table) (with_view v among.others) among.past v.transfer.number call holds shape among.low
+        among.meets in
     rw here at can between may
 
 -- a step at rest, and a stage outside any call
@@ -187,15 +211,19 @@ pub between_calls : (stage : CallStage) → is_in_call stage ≡ false → stage
 between_calls stage h = grind arith
 
 -- the view that moves alone
-moving_among : (sizes : Sizes) (table : List ℕ) (v : ProcessView) (wish : Wish) (t : Bool) → IsShape sizes → is_rest v.transfer.next ≡ t → may_go_alone wish v ≡ true → IsAmong sizes table v → IsAmong sizes table (if t then alone_begun wish v else v)
+moving_among : (sizes : Sizes) (table : List ℕ) (v : ProcessView) (wish : Wish) (t : Bool) → IsShape sizes → is_rest v.transfer.next ≡ t
+    → may_go_alone wish v ≡ true → IsAmong sizes table v → IsAmong sizes table (if t then alone_begun wish v else v)
 moving_among sizes table v wish true shape rest may among =
     let here = with_view_here v among.others in
     let x = alone_begun wish v in
-    let begins = alone_begins sizes (word_at sizes table) (with_view v among.others) (with_view x among.others) among.past v.transfer.number wish shape among.low among.meets in
-    record { low = among.low; others = among.others; past = among.past; meets = (rw here at begins) (rests v.transfer.next rest) may (with_view_moved v x among.others refl) }
+    let begins = alone_begins sizes (word_at sizes table) (with_view v among.others) (with_view x among.others) among.past v.transfer.number
+        wish shape among.low among.meets in
+    record { low = among.low; others = among.others; past = among.past; meets = (rw here at begins) (rests v.transfer.next rest) may
+        (with_view_moved v x among.others refl) }
 moving_among sizes table v wish false shape rest may among = among
 
-pub among_moving : (sizes : Sizes) (table : List ℕ) (v : ProcessView) (wish : Wish) → IsShape sizes → may_go_alone wish v ≡ true → IsAmong sizes table v → IsAmong sizes table (moving_view wish v)
+pub among_moving : (sizes : Sizes) (table : List ℕ) (v : ProcessView) (wish : Wish) → IsShape sizes → may_go_alone wish v ≡ true
+    → IsAmong sizes table v → IsAmong sizes table (moving_view wish v)
 among_moving sizes table v wish shape may among = moving_among sizes table v wish (is_rest v.transfer.next) shape refl may among
 
 -- a call leaves the number of its process
@@ -214,34 +242,44 @@ either_may true b e h = grind arith
 either_may false b e h = h
 
 -- the view that goes on with a call
-calling_among : (sizes : Sizes) (table : List ℕ) (v : ProcessView) (call : Call) (holds t : Bool) → IsShape sizes → is_in_call v.calls.stage ≡ t → may_go sizes holds call v ≡ true → IsAmongHolding sizes table v holds call → IsAmong sizes table (if t then v else call_begun call v)
+calling_among : (sizes : Sizes) (table : List ℕ) (v : ProcessView) (call : Call) (holds t : Bool) → IsShape sizes
+    → is_in_call v.calls.stage ≡ t → may_go sizes holds call v ≡ true → IsAmongHolding sizes table v holds call
+    → IsAmong sizes table (if t then v else call_begun call v)
 calling_among sizes table v call holds true shape inside may h = h.among
 calling_among sizes table v call holds false shape inside may h =
     let among = h.among in
     let here = with_view_here v among.others in
     let x = call_begun call v in
-    let begins = call_begins sizes (word_at sizes table) (with_view v among.others) (with_view x among.others) among.past v.transfer.number call holds shape among.low among.meets in
+    let begins = call_begins sizes (word_at sizes table) (with_view v among.others) (with_view x among.others) among.past v.transfer.number
+        call holds shape among.low among.meets in
     let number = begun_number call v in
     record {
       low = rw number among.low;
       others = among.others;
       past = among.past;
-      meets = (rw here at begins) (between_calls v.calls.stage inside) (either_may (is_in_call v.calls.stage) (may_call sizes holds call v) inside may) h.held (with_view_moved v x among.others number);
+      meets =
+          (rw here at begins) (between_calls v.calls.stage inside)
+          (either_may (is_in_call v.calls.stage) (may_call sizes holds call v) inside may) h.held (with_view_moved v x among.others number);
     }
 
-pub among_calling : (sizes : Sizes) (table : List ℕ) (v : ProcessView) (call : Call) (holds : Bool) → IsShape sizes → may_go sizes holds call v ≡ true → IsAmongHolding sizes table v holds call → IsAmong sizes table (calling_view call v)
+pub among_calling : (sizes : Sizes) (table : List ℕ) (v : ProcessView) (call : Call) (holds : Bool) → IsShape sizes
+    → may_go sizes holds call v ≡ true → IsAmongHolding sizes table v holds call → IsAmong sizes table (calling_view call v)
 among_calling sizes table v call holds shape may h = calling_among sizes table v call holds (is_in_call v.calls.stage) shape refl may h
 
 -- a process between two calls that goes on begins one
-pub between_goes : (sizes : Sizes) (v : ProcessView) (call : Call) (holds : Bool) → v.calls.stage ≡ Between → may_go sizes holds call v ≡ true → may_call sizes holds call v ≡ true
+pub between_goes : (sizes : Sizes) (v : ProcessView) (call : Call) (holds : Bool) → v.calls.stage ≡ Between
+    → may_go sizes holds call v ≡ true → may_call sizes holds call v ≡ true
 between_goes sizes v call holds between may = either_may (is_in_call v.calls.stage) (may_call sizes holds call v) (rw between refl) may
 
 -- the step of a process on a table, by its way
-pub alone_met : (sizes : Sizes) (table : List ℕ) (v : ProcessView) → is_alone v.calls.way ≡ true → view_met sizes v (met_word sizes table (action_of sizes v.transfer)) ≡ next_met sizes v (met_word sizes table (next_action sizes v))
+pub alone_met : (sizes : Sizes) (table : List ℕ) (v : ProcessView) → is_alone v.calls.way ≡ true
+    → view_met sizes v (met_word sizes table (action_of sizes v.transfer)) ≡ next_met sizes v (met_word sizes table (next_action sizes v))
 alone_met sizes table v alone = rw alone refl
 
-pub call_meets : (sizes : Sizes) (table : List ℕ) (v : ProcessView) → is_alone v.calls.way ≡ false → call_met sizes v (met_word sizes table (call_action sizes v)) ≡ next_met sizes v (met_word sizes table (next_action sizes v))
+pub call_meets : (sizes : Sizes) (table : List ℕ) (v : ProcessView) → is_alone v.calls.way ≡ false
+    → call_met sizes v (met_word sizes table (call_action sizes v)) ≡ next_met sizes v (met_word sizes table (next_action sizes v))
 call_meets sizes table v calls = rw calls refl
 
-pub call_answers : (sizes : Sizes) (table : List ℕ) (v : ProcessView) → is_alone v.calls.way ≡ false → call_answer v (met_word sizes table (call_action sizes v)) ≡ next_answer v (met_word sizes table (next_action sizes v))
+pub call_answers : (sizes : Sizes) (table : List ℕ) (v : ProcessView) → is_alone v.calls.way ≡ false
+    → call_answer v (met_word sizes table (call_action sizes v)) ≡ next_answer v (met_word sizes table (next_action sizes v))
 call_answers sizes table v calls = rw calls refl

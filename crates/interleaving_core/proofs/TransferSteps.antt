@@ -20,7 +20,8 @@ use Rattle.transfer_machine.specs.declared.transfer.TransferView.{TransferView}
 use Rattle.transfer_machine.specs.declared.stage.NextStep.{NextStep}
 use Rattle.transfer_machine.specs.declared.stage.NextStep.TheVariants.{Rest, Announce, LoadFinalState, LoadReply, Try}
 use Rattle.transfer_machine.specs.declared.stage.TryStep.{TryStep}
-use Rattle.transfer_machine.specs.declared.stage.TryStep.TheVariants.{LoadState, LoadRecordWord, LoadCoveredSlot, ExchangeSlot, LoadAnnouncement, LoadPoppedSlot, StoreRecordWord, ExchangeState}
+use Rattle.transfer_machine.specs.declared.stage.TryStep.TheVariants.{LoadState, LoadRecordWord, LoadCoveredSlot, ExchangeSlot}
+use Rattle.transfer_machine.specs.declared.stage.TryStep.TheVariants.{LoadAnnouncement, LoadPoppedSlot, StoreRecordWord, ExchangeState}
 use Rattle.transfer_invariant.specs.Memory.{Words, Acted}
 use Rattle.transfer_invariant.specs.Installing.{planned_state}
 use Rattle.transfer_invariant.specs.Progress.{has_announced}
@@ -58,8 +59,10 @@ stage_on_no_data sizes v (Try second step) = try_on_no_data sizes v step
 stage_on_no_data sizes v LoadFinalState = refl
 stage_on_no_data sizes v LoadReply = refl
 
-pub data_stays : (sizes : Sizes) (v : TransferView) (m n : Words) (block index : ℕ) → Acted sizes (action_of sizes v) m n → block < blocks sizes → index < sizes.words → n (Data block index) ≡ m (Data block index)
-data_stays sizes v m n block index a low within = a.elsewhere (Data block index) (low, within) (λ e. false≢true (sym (stage_on_no_data sizes v v.next) ∙ sym (ap is_data e)))
+pub data_stays : (sizes : Sizes) (v : TransferView) (m n : Words) (block index : ℕ) → Acted sizes (action_of sizes v) m n
+    → block < blocks sizes → index < sizes.words → n (Data block index) ≡ m (Data block index)
+data_stays sizes v m n block index a low within =
+    a.elsewhere (Data block index) (low, within) (λ e. false≢true (sym (stage_on_no_data sizes v v.next) ∙ sym (ap is_data e)))
 
 -- a reply that says nothing
 abbrev pub is_nothing : Reply → Bool
@@ -74,7 +77,9 @@ says_nothing Gave e = grind arith
 
 -- whether an exchange by this view answers the take of a process with nothing
 abbrev pub finds_nothing : StackState → TransferView → ℕ → Bool
-finds_nothing s v o = is_pending (slice_index v.loaded.announcements o) (s.reply o) && (is_take (announced_wish (slice_index v.loaded.announcements o)) && is_nothing (reply_of ((planned_state s v).reply o)))
+finds_nothing s v o =
+    is_pending (slice_index v.loaded.announcements o) (s.reply o)
+    && (is_take (announced_wish (slice_index v.loaded.announcements o)) && is_nothing (reply_of ((planned_state s v).reply o)))
 
 -- the ledgers once it is known who found nothing
 abbrev pub known_of : (ℕ → Bool) → Ledgers → Ledgers
@@ -88,11 +93,14 @@ pub known_account : (t : Bool) (g : Ledger) → (if t then record g { found_noth
 known_account true g = refl
 known_account false g = refl
 
-pub emptied : (limits : Limits) (history : List Entry) (t : Bool) (g : Ledger) → (t ≡ true → unheld limits history (length history) ≤ slack limits) → Emptied limits history g (if t then record g { found_nothing = true } else g)
+pub emptied : (limits : Limits) (history : List Entry) (t : Bool) (g : Ledger)
+    → (t ≡ true → unheld limits history (length history) ≤ slack limits)
+    → Emptied limits history g (if t then record g { found_nothing = true } else g)
 emptied limits history true g few = empties (few refl)
 emptied limits history false g few = stays
 
-pub known_found : (t : Bool) (g : Ledger) → g.found_nothing ≡ true → (if t then record g { found_nothing = true } else g).found_nothing ≡ true
+pub known_found : (t : Bool) (g : Ledger) → g.found_nothing ≡ true
+    → (if t then record g { found_nothing = true } else g).found_nothing ≡ true
 known_found true g e = refl
 known_found false g e = e
 
@@ -100,24 +108,30 @@ known_found false g e = e
 nothing_to_know : (s : StackState) (i : ℕ) (x : TransferView) (g : Ledger) → has_announced x.next ≡ false → KnowsOfNothing s i x g
 nothing_to_know s i x g none = λ announced applied take nothing. absurd (false≢true (sym none ∙ announced))
 
-pub goes_on_knowing : (s : StackState) (i : ℕ) (v x : TransferView) (g new : Ledger) → SameAnnouncement v x → new.found_nothing ≡ g.found_nothing → KnowsOfNothing s i v g → KnowsOfNothing s i x new
-goes_on_knowing s i v x g new goes found h = λ announced applied take nothing. found ∙ h goes.was (applied ∙ goes.age) (rw (sym goes.wish) take) nothing
+pub goes_on_knowing : (s : StackState) (i : ℕ) (v x : TransferView) (g new : Ledger) → SameAnnouncement v x
+    → new.found_nothing ≡ g.found_nothing → KnowsOfNothing s i v g → KnowsOfNothing s i x new
+goes_on_knowing s i v x g new goes found h =
+    λ announced applied take nothing. found ∙ h goes.was (applied ∙ goes.age) (rw (sym goes.wish) take) nothing
 
 -- the view that made a step which leaves the state
-pub own_knows : (sizes : Sizes) (s : StackState) (i : ℕ) (v : TransferView) (word : ℕ) (g new : Ledger) (stage : NextStep) → v.next ≡ stage → (has_announced v.next ≡ false → s.applied i ≡ v.age) → (is_announcing stage ≡ false → new.found_nothing ≡ g.found_nothing)
+pub own_knows : (sizes : Sizes) (s : StackState) (i : ℕ) (v : TransferView) (word : ℕ) (g new : Ledger) (stage : NextStep) → v.next ≡ stage
+    → (has_announced v.next ≡ false → s.applied i ≡ v.age) → (is_announcing stage ≡ false → new.found_nothing ≡ g.found_nothing)
     → KnowsOfNothing s i v g → KnowsOfNothing s i (met_at sizes v word stage) new
 own_knows sizes s i v word g new Rest e calm found h = nothing_to_know s i v new (rw e refl)
-own_knows sizes s i v word g new Announce e calm found h = λ announced applied take nothing. absurd (later v.age (sym (calm (rw e refl)) ∙ applied))
+own_knows sizes s i v word g new Announce e calm found h =
+    λ announced applied take nothing. absurd (later v.age (sym (calm (rw e refl)) ∙ applied))
   where
     later : (n : ℕ) → n ≡ n + 1 → ⊥
     later n e = omega (arith, e)
 own_knows sizes s i v word g new LoadReply e calm found h = nothing_to_know s i (met_at sizes v word LoadReply) new refl
 own_knows sizes s i v word g new (Try second step) e calm found h =
     goes_on_knowing s i v _ g new (met_same_announcement sizes v word (Try second step) refl (rw e refl)) (found refl) h
-own_knows sizes s i v word g new LoadFinalState e calm found h = goes_on_knowing s i v _ g new (met_same_announcement sizes v word LoadFinalState refl (rw e refl)) (found refl) h
+own_knows sizes s i v word g new LoadFinalState e calm found h =
+    goes_on_knowing s i v _ g new (met_same_announcement sizes v word LoadFinalState refl (rw e refl)) (found refl) h
 
 -- the facts of all but the moving process
-pub each_ledger : (Fact : ℕ → Ledger → Type 0) (i o : ℕ) (g : Ledger) (ledgers : Ledgers) → (o ≡ i → Fact o g) → (o ≢ i → Fact o (ledgers o)) → Fact o (with_ledger i g ledgers o)
+pub each_ledger : (Fact : ℕ → Ledger → Type 0) (i o : ℕ) (g : Ledger) (ledgers : Ledgers) → (o ≡ i → Fact o g)
+    → (o ≢ i → Fact o (ledgers o)) → Fact o (with_ledger i g ledgers o)
 each_ledger Fact i o g ledgers here elsewhere = elim (cases_eq o i) [
   | inl e ↦ let test : (o == i) ≡ true = grind (arith, nat_tests) in rw test (here e)
   | inr ne ↦ let test : (o == i) ≡ false = grind (arith, nat_tests) in rw test (elsewhere ne)

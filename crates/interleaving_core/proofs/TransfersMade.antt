@@ -30,8 +30,11 @@ use Rattle.interleaving_core.proofs.Joins.{in_step, given, scheduled, same_ledge
 use Rattle.interleaving_core.proofs.InstallsHold.{transfer_step_holds}
 
 -- the step of a transfer alone
-pub alone_step_holds : (sizes : Sizes) (words new : Words) (views after : ProcessViews) (history : List Entry) (ghosts : Ghosts) (i : ℕ) → IsShape sizes → i < sizes.processes → Holds sizes words views history ghosts → (views i).calls.way ≡ Alone
-    → Acted sizes (action_of sizes (views i).transfer) words new → MovedProcess i (view_met sizes (views i) (words (name_of (action_of sizes (views i).transfer)))) views after → Meets sizes new after history
+pub alone_step_holds : (sizes : Sizes) (words new : Words) (views after : ProcessViews) (history : List Entry) (ghosts : Ghosts) (i : ℕ)
+    → IsShape sizes → i < sizes.processes → Holds sizes words views history ghosts → (views i).calls.way ≡ Alone
+    → Acted sizes (action_of sizes (views i).transfer) words new
+    → MovedProcess i (view_met sizes (views i) (words (name_of (action_of sizes (views i).transfer)))) views after
+    → Meets sizes new after history
 alone_step_holds sizes words new views after history ghosts i shape li h alone acted moved =
     let v = views i in
     let word = words (name_of (action_of sizes v.transfer)) in
@@ -49,8 +52,10 @@ alone_step_holds sizes words new views after history ghosts i shape li h alone a
     })
 
 -- a take that is answered with nothing is known to have found nothing
-knows_at_end : (sizes : Sizes) (words : Words) (views : ProcessViews) (history : List Entry) (ghosts : Ghosts) (i : ℕ) → i < sizes.processes → Holds sizes words views history ghosts
-    → (views i).transfer.next ≡ LoadReply → is_take (views i).transfer.wish ≡ true → reply_of (value_of (words (name_of (action_of sizes (views i).transfer)))) ≡ Nothing → (ghosts.ledgers i).found_nothing ≡ true
+knows_at_end : (sizes : Sizes) (words : Words) (views : ProcessViews) (history : List Entry) (ghosts : Ghosts) (i : ℕ) → i < sizes.processes
+    → Holds sizes words views history ghosts
+    → (views i).transfer.next ≡ LoadReply → is_take (views i).transfer.wish ≡ true
+    → reply_of (value_of (words (name_of (action_of sizes (views i).transfer)))) ≡ Nothing → (ghosts.ledgers i).found_nothing ≡ true
 knows_at_end sizes words views history ghosts i li h e take nothing =
     let step = in_step sizes words views history ghosts i li h in
     h.empties i li (rw e refl) (step.applied e) take (ap reply_of (sym (step.reply e)) ∙ nothing)
@@ -60,8 +65,12 @@ found_kept true a b e h = grind arith
 found_kept false a b e h = h
 
 -- the transfer step of a call
-pub call_step_holds : (sizes : Sizes) (words new : Words) (views after : ProcessViews) (history : List Entry) (ghosts : Ghosts) (i : ℕ) → IsShape sizes → i < sizes.processes → Holds sizes words views history ghosts → (views i).calls.way ≢ Alone → (views i).calls.stage ≡ Moving
-    → Acted sizes (action_of sizes (views i).transfer) words new → MovedProcess i (call_met_at sizes (views i) (words (name_of (action_of sizes (views i).transfer))) Moving) views after → Meets sizes new after history
+pub call_step_holds : (sizes : Sizes) (words new : Words) (views after : ProcessViews) (history : List Entry) (ghosts : Ghosts) (i : ℕ)
+    → IsShape sizes → i < sizes.processes → Holds sizes words views history ghosts → (views i).calls.way ≢ Alone
+    → (views i).calls.stage ≡ Moving
+    → Acted sizes (action_of sizes (views i).transfer) words new
+    → MovedProcess i (call_met_at sizes (views i) (words (name_of (action_of sizes (views i).transfer))) Moving) views after
+    → Meets sizes new after history
 call_step_holds sizes words new views after history ghosts i shape li h calls stage acted moved =
     let v = views i in
     let word = words (name_of (action_of sizes v.transfer)) in
@@ -69,13 +78,17 @@ call_step_holds sizes words new views after history ghosts i shape li h calls st
     let g = ghosts.ledgers i in
     let next = ledger_moved word v g in
     let used = calls_used sizes i v g v.calls.way calls (h.pools i li) in
-    let carries = transfer_steps_carry sizes i v word g used (scheduled sizes words views history ghosts i shape li h) stage shape.a_process (given sizes words views history ghosts i li h) (knows_at_end sizes words views history ghosts i li h) in
+    let carries = transfer_steps_carry sizes i v word g used (scheduled sizes words views history ghosts i shape li h) stage shape.a_process
+        (given sizes words views history ghosts i li h) (knows_at_end sizes words views history ghosts i li h) in
     let (entries, seen, found) = enters_nothing word v.calls.steps v.transfer.next g in
     transfer_step_holds sizes words new views after history ghosts i x next shape li h acted moved (record {
       parts = record { transfer = refl; pool = refl };
       call = refl;
-      entries = step_kept (limits_of sizes) (transfer_bound sizes) sizes.quantum history ghosts.ledgers (with_ledger i next ghosts.ledgers) i next li h.entries
-          (going_fits (limits_of sizes) (transfer_bound sizes) sizes.quantum history i g next (shape_fits sizes shape) (h.entries.each i li) carries.goes) (going_sees g next carries.goes) (replaced_with i next ghosts.ledgers);
+      entries =
+          step_kept (limits_of sizes) (transfer_bound sizes) sizes.quantum history ghosts.ledgers (with_ledger i next ghosts.ledgers) i next
+          li h.entries
+          (going_fits (limits_of sizes) (transfer_bound sizes) sizes.quantum history i g next (shape_fits sizes shape) (h.entries.each i li)
+              carries.goes) (going_sees g next carries.goes) (replaced_with i next ghosts.ledgers);
       same = entries;
       found = λ e. found_kept (is_announcing v.transfer.next) next.found_nothing g.found_nothing e found;
       uses = uses_calls sizes i x next x.calls.way calls carries.calls;

@@ -33,7 +33,10 @@ use Rattle.interleaving_core.specs.Steps.{is_in_call}
 
 -- a fact of the shape, the history and the state at the end of every run
 abbrev pub EveryRun : (Sizes → List Entry → CoreState → Type 0) → Type 0
-EveryRun Fact = (sizes : Sizes) (past : List Turn) (history : List Entry) (s : CoreState) → IsRun sizes past history s → Fact sizes history s
+EveryRun Fact =
+    (sizes : Sizes) (past : List Turn) (history : List Entry) (s : CoreState)
+    → IsRun sizes past history s
+    → Fact sizes history s
 
 -- the shape stays
 abbrev pub ShapesStay : Type 0
@@ -45,7 +48,9 @@ HistoriesAreLegal = EveryRun (λ sizes history s. IsLegal (limits_of sizes) hist
 
 -- so each refusal has a place in its window, within the caller's last `2 * length` entries, where at most the slack was unheld
 abbrev pub RefusalsHadFew : Type 0
-RefusalsHadFew = EveryRun (λ sizes history s. (x by : ℕ) → slice_get history x ≡ Some (Dry by) → HadFew (limits_of sizes) (take x history) by)
+RefusalsHadFew = EveryRun (λ sizes history s. (x by : ℕ)
+    → slice_get history x ≡ Some (Dry by)
+    → HadFew (limits_of sizes) (take x history) by)
 
 -- and no block is held twice
 abbrev pub NoneIsHeldTwice : Type 0
@@ -57,7 +62,8 @@ HoldersHold = EveryRun (λ sizes history s. (i block : ℕ) → (is_holder i (ho
 
 -- all blocks but the slack are held or in the shared stack
 abbrev pub FewAreWithheld : Type 0
-FewAreWithheld = EveryRun (λ sizes history s. blocks sizes ≤ length (held history) + sizes.length * length (stack sizes s.words) + slack (limits_of sizes))
+FewAreWithheld = EveryRun (λ sizes history s.
+    blocks sizes ≤ length (held history) + sizes.length * length (stack sizes s.words) + slack (limits_of sizes))
 
 -- wherever a process stands, it keeps at most five batches of blocks
 abbrev pub EachKeepsFive : Type 0
@@ -65,7 +71,8 @@ EachKeepsFive = EveryRun (λ sizes history s. (i : ℕ) → i < sizes.processes 
 
 -- each block is kept by a process, held, or in the shared stack
 abbrev pub AllAreCounted : Type 0
-AllAreCounted = EveryRun (λ sizes history s. total sizes.processes (kept s) + length (held history) + sizes.length * length (stack sizes s.words) ≡ blocks sizes)
+AllAreCounted = EveryRun (λ sizes history s.
+    total sizes.processes (kept s) + length (held history) + sizes.length * length (stack sizes s.words) ≡ blocks sizes)
 
 -- how many steps a call makes at most from a stage on: those left of its quantum, and its own one
 abbrev pub steps_left_at : ℕ → ℕ → CallStage → ℕ
@@ -76,22 +83,32 @@ steps_left_at quantum steps Own = 1
 abbrev pub steps_left : ℕ → CallView → ℕ
 steps_left quantum calls = steps_left_at quantum calls.steps calls.stage
 
--- process i goes on with one call from one state to another, in any turns of all processes, of which so many are steps of that call
+-- process i goes on with one call from one state to another, in any turns of all, of which so many are steps of that call
 pub data GoesOnWith (i : ℕ) : ℕ → CoreState → CoreState → Type 0 where
   starts : (s : CoreState) → GoesOnWith i 0 s s
-  steps : (n : ℕ) (s t : CoreState) (call : Call) → GoesOnWith i n s t → is_in_call (view_at t i).calls.stage ≡ true → GoesOnWith i (n + 1) s (after_turn (Events i call) t)
-  others : (n : ℕ) (s t : CoreState) (turn : Turn) → GoesOnWith i n s t → by_of turn ≢ i → GoesOnWith i n s (after_turn turn t)
-  ignored : (n : ℕ) (s t : CoreState) (turn : Turn) → GoesOnWith i n s t → is_made turn t ≡ false → GoesOnWith i n s (after_turn turn t)
+  steps : (n : ℕ) (s t : CoreState) (call : Call) → GoesOnWith i n s t
+      → is_in_call (view_at t i).calls.stage ≡ true
+      → GoesOnWith i (n + 1) s (after_turn (Events i call) t)
+  others : (n : ℕ) (s t : CoreState) (turn : Turn) → GoesOnWith i n s t
+      → by_of turn ≢ i
+      → GoesOnWith i n s (after_turn turn t)
+  ignored : (n : ℕ) (s t : CoreState) (turn : Turn) → GoesOnWith i n s t
+      → is_made turn t ≡ false
+      → GoesOnWith i n s (after_turn turn t)
 
--- after its first step a call makes at most so many more: an allocate or a free a quantum, so that both take `quantum + 1` at most, a read or a write none
+-- after its first step a call makes at most so many more: an allocate or a free a quantum, a read or a write none
 abbrev pub CallsAreShort : Type 0
-CallsAreShort = EveryRun (λ sizes history s. (i n : ℕ) (call : Call) (t : CoreState) → (view_at s i).calls.stage ≡ Between → is_made (Events i call) s ≡ true
+CallsAreShort = EveryRun (λ sizes history s. (i n : ℕ) (call : Call) (t : CoreState)
+    → (view_at s i).calls.stage ≡ Between
+    → is_made (Events i call) s ≡ true
     → GoesOnWith i n (after_turn (Events i call) s) t
     → n ≤ most_moves sizes call)
 
 -- at its transfer steps a call has made fewer than a quantum of them
 abbrev pub QuantaAreKept : Type 0
-QuantaAreKept = EveryRun (λ sizes history s. (i : ℕ) → i < sizes.processes → (view_at s i).calls.stage ≡ Moving → (view_at s i).calls.steps < sizes.quantum)
+QuantaAreKept = EveryRun (λ sizes history s. (i : ℕ) → i < sizes.processes
+    → (view_at s i).calls.stage ≡ Moving
+    → (view_at s i).calls.steps < sizes.quantum)
 
 -- nothing of process i is pending
 abbrev pub IsIdle : ℕ → CoreState → Type 0
@@ -101,18 +118,25 @@ IsIdle i s = (view_at s i).pool.plan.pending ≡ Idle
 abbrev pub HasPending : ℕ → CoreState → Type 0
 HasPending i s = (view_at s i).pool.plan.pending ≢ Idle
 
--- a transfer that a call of process i begins at a state is pending from then on up to another state, in any turns of all processes, in which process i makes so many entries
+-- a transfer that a call of process i began at a state pends up to another one, in any turns of all, in which i makes so many entries
 pub data PendsSince (i : ℕ) (s : CoreState) : ℕ → CoreState → Type 0 where
-  pends_first : (call : Call) → IsIdle i s → HasPending i (after_turn (Events i call) s) → PendsSince i s (length (entries_of (turn_answer (Events i call) s))) (after_turn (Events i call) s)
-  pends_on : (n : ℕ) (t : CoreState) (call : Call) → PendsSince i s n t → HasPending i (after_turn (Events i call) t) → PendsSince i s (n + length (entries_of (turn_answer (Events i call) t))) (after_turn (Events i call) t)
+  pends_first : (call : Call)
+      → IsIdle i s → HasPending i (after_turn (Events i call) s)
+      → PendsSince i s (length (entries_of (turn_answer (Events i call) s))) (after_turn (Events i call) s)
+  pends_on : (n : ℕ) (t : CoreState) (call : Call) → PendsSince i s n t
+      → HasPending i (after_turn (Events i call) t)
+      → PendsSince i s (n + length (entries_of (turn_answer (Events i call) t))) (after_turn (Events i call) t)
   pends_still : (n : ℕ) (t : CoreState) (wish : Wish) → PendsSince i s n t → PendsSince i s n (after_turn (Moves i wish) t)
   pends_too : (n : ℕ) (t : CoreState) (turn : Turn) → PendsSince i s n t → by_of turn ≢ i → PendsSince i s n (after_turn turn t)
 
 -- while it is pending its process makes fewer than `length` entries, so that it ends within `length` calls
 abbrev pub TransfersAreShort : Type 0
-TransfersAreShort = EveryRun (λ sizes history s. (i n : ℕ) (t : CoreState) → i < sizes.processes → PendsSince i s n t → n < sizes.length)
+TransfersAreShort = EveryRun (λ sizes history s. (i n : ℕ) (t : CoreState) → i < sizes.processes
+    → PendsSince i s n t
+    → n < sizes.length)
 
--- an account of the schedule that goes with a process and its entries: in each call since its transfer began the process made a whole quantum of steps of it, and a pending one began fewer than `length` own entries ago
+-- an account of the schedule goes with a process and its entries: since its transfer began it made a whole quantum of steps in each call,
+-- and a pending one began fewer than `length` own entries ago
 pub record EndsByAccount (sizes : Sizes) (mine : List Entry) (v : ProcessView) : Type 0 where
   pub account : Account
   pub reached : Reached sizes.length (transfer_bound sizes) sizes.quantum account
@@ -124,7 +148,9 @@ pub record EndsByAccount (sizes : Sizes) (mine : List Entry) (v : ProcessView) :
 
 -- a transfer of a process that makes calls is pending in fewer than `length` calls after the one that began it
 abbrev pub TransfersEndInTime : Type 0
-TransfersEndInTime = EveryRun (λ sizes history s. (i : ℕ) → i < sizes.processes → (view_at s i).calls.way ≢ Alone → EndsByAccount sizes (own history i) (view_at s i))
+TransfersEndInTime = EveryRun (λ sizes history s. (i : ℕ) → i < sizes.processes
+    → (view_at s i).calls.way ≢ Alone
+    → EndsByAccount sizes (own history i) (view_at s i))
 
 -- each plan is within the table of spares
 abbrev pub PlansWithinTable : Type 0
@@ -132,11 +158,15 @@ PlansWithinTable = EveryRun (λ sizes history s. (i : ℕ) → i < sizes.process
 
 -- a read is answered with the data word as it stands, and a write leaves its value there
 abbrev pub ReadsLoad : Type 0
-ReadsLoad = EveryRun (λ sizes history s. (i block index : ℕ) → (view_at s i).calls.stage ≡ Between → is_made (Events i (Read block index)) s ≡ true
+ReadsLoad = EveryRun (λ sizes history s. (i block index : ℕ)
+    → (view_at s i).calls.stage ≡ Between
+    → is_made (Events i (Read block index)) s ≡ true
     → turn_answer (Events i (Read block index)) s ≡ Loaded (word_at sizes s.words (Data block index)))
 
 abbrev pub WritesStore : Type 0
-WritesStore = EveryRun (λ sizes history s. (i block index value : ℕ) → (view_at s i).calls.stage ≡ Between → is_made (Events i (Write block index value)) s ≡ true
+WritesStore = EveryRun (λ sizes history s. (i block index value : ℕ)
+    → (view_at s i).calls.stage ≡ Between
+    → is_made (Events i (Write block index value)) s ≡ true
     → (turn_answer (Events i (Write block index value)) s ≡ Stored)
     × (word_at sizes (after_turn (Events i (Write block index value)) s).words (Data block index) ≡ value))
 
@@ -146,6 +176,8 @@ WritesNot i block index turn s = by_of turn ≡ i → (value : ℕ) → (turning
 
 -- nothing else changes a data word of a block while a process holds it, whatever the other processes do
 abbrev pub DataIsKept : Type 0
-DataIsKept = EveryRun (λ sizes history s. (i block index : ℕ) (turn : Turn) → is_holder i (holder_of s block) ≡ true → index < sizes.words
+DataIsKept = EveryRun (λ sizes history s. (i block index : ℕ) (turn : Turn)
+    → is_holder i (holder_of s block) ≡ true
+    → index < sizes.words
     → WritesNot i block index turn s
     → word_at sizes (after_turn turn s).words (Data block index) ≡ word_at sizes s.words (Data block index))

@@ -39,7 +39,12 @@ held_in ledgers i = grip (ledgers i).entries
 
 -- Empty takes, of one process: where its pending take is applied and found nothing, its ledger says so
 abbrev pub KnowsOfNothing : StackState → ℕ → TransferView → Ledger → Type 0
-KnowsOfNothing s i v ledger = has_announced v.next ≡ true → s.applied i ≡ v.age → is_take v.wish ≡ true → reply_of (s.reply i) ≡ Nothing → ledger.found_nothing ≡ true
+KnowsOfNothing s i v ledger =
+    has_announced v.next ≡ true
+    → s.applied i ≡ v.age
+    → is_take v.wish ≡ true
+    → reply_of (s.reply i) ≡ Nothing
+    → ledger.found_nothing ≡ true
 
 -- the block that a call names is held
 abbrev pub BlockIsHeld : List ℕ → Call → Type 0

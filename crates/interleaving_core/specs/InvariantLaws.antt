@@ -13,7 +13,11 @@ use Rattle.interleaving_core.specs.Kept.{kept_by}
 
 -- a fact of the shape, the words, the views and the history, wherever they meet the invariant
 abbrev pub WhereverMet : (Sizes → List ℕ → ProcessViews → List Entry → Type 0) → Type 0
-WhereverMet Fact = (sizes : Sizes) (words : List ℕ) (views : ProcessViews) (history : List Entry) → IsShape sizes → MeetsInvariant sizes words views history → Fact sizes words views history
+WhereverMet Fact =
+    (sizes : Sizes) (words : List ℕ) (views : ProcessViews) (history : List Entry)
+    → IsShape sizes
+    → MeetsInvariant sizes words views history
+    → Fact sizes words views history
 
 -- the history is legal
 abbrev pub HistoryIsLegal : Type 0
@@ -21,12 +25,16 @@ HistoryIsLegal = WhereverMet (λ sizes words views history. IsLegal (limits_of s
 
 -- all blocks but the slack are held or in the shared stack
 abbrev pub FewAreWithheld : Type 0
-FewAreWithheld = WhereverMet (λ sizes words views history. blocks sizes ≤ length (held history) + sizes.length * length (stack sizes words) + slack (limits_of sizes))
+FewAreWithheld = WhereverMet (λ sizes words views history.
+    blocks sizes ≤ length (held history) + sizes.length * length (stack sizes words) + slack (limits_of sizes))
 
 -- a process keeps at most five batches of blocks
 abbrev pub EachKeepsFive : Type 0
-EachKeepsFive = WhereverMet (λ sizes words views history. (i : ℕ) → i < sizes.processes → kept_by sizes words i (views i) ≤ 5 * sizes.length)
+EachKeepsFive = WhereverMet (λ sizes words views history.
+    (i : ℕ) → i < sizes.processes → kept_by sizes words i (views i) ≤ 5 * sizes.length)
 
 -- each block is kept by a process, held, or in the shared stack
 abbrev pub AllAreCounted : Type 0
-AllAreCounted = WhereverMet (λ sizes words views history. total sizes.processes (λ i. kept_by sizes words i (views i)) + length (held history) + sizes.length * length (stack sizes words) ≡ blocks sizes)
+AllAreCounted = WhereverMet (λ sizes words views history.
+    total sizes.processes (λ i. kept_by sizes words i (views i)) + length (held history) + sizes.length * length (stack sizes words)
+    ≡ blocks sizes)

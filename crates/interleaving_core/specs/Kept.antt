@@ -18,7 +18,8 @@ use Rattle.interleaving_core.specs.Moves.{CoreState, view_at}
 
 -- the reply to a process in the current record
 abbrev pub reply_value_at : Sizes → List ℕ → ℕ → ℕ
-reply_value_at sizes words process = value_of (word_at sizes words (RecordWord (current_record sizes words) (sizes.processes + 2 + process)))
+reply_value_at sizes words process =
+    value_of (word_at sizes words (RecordWord (current_record sizes words) (sizes.processes + 2 + process)))
 
 -- whether the announcement of a process pends: the current record doesn't reply to it yet
 abbrev pub pends_at : Sizes → List ℕ → ℕ → Bool
@@ -48,7 +49,9 @@ announced_batches pends wish reply = if pends then given_batches wish else taken
 abbrev pub in_transit : Sizes → List ℕ → ℕ → TransferView → ℕ
 in_transit sizes words process v =
     if has_only_begun v.next then given_batches v.wish
-    else (if has_announced v.next then announced_batches (pends_at sizes words process) v.wish (reply_of (reply_value_at sizes words process)) else 0)
+    else (if has_announced v.next
+    then announced_batches (pends_at sizes words process) v.wish (reply_of (reply_value_at sizes words process))
+    else 0)
 
 -- how many blocks a process with this view keeps: its current list, its spares, and its batch in transit
 abbrev pub kept_by : Sizes → List ℕ → ℕ → ProcessView → ℕ

@@ -5,19 +5,20 @@ use Rattle.word_layout.specs.declared.name.WordName.{WordName}
 use Rattle.word_layout.specs.declared.name.WordName.TheVariants.{State, Announcement, RecordWord, Slot, Next, Data}
 use Rattle.transfer_machine.specs.Loads.{loaded_record, loaded_base}
 use Rattle.transfer_machine.specs.Machine.{action_of}
-use Rattle.transfer_machine.specs.Phases.{is_rest, phase_of, waiting_of}
-use Rattle.transfer_machine.specs.Stages.{kind_of, index_of, stage_of}
+use Rattle.transfer_machine.specs.Stages.{is_rest}
+use Rattle.pool_machine.specs.Phases.{phase_of, waiting_of}
+use Rattle.transfer_machine.specs.Stages.{index_of, stage_of}
 use Rattle.transfer_machine.specs.declared.action.Action.{Action}
 use Rattle.transfer_machine.specs.declared.action.Action.TheVariants.{Load, Store, Exchange}
-use Rattle.transfer_machine.specs.declared.call.CallStage.TheVariants as call
+use Rattle.pool_machine.specs.declared.call.CallStage.TheVariants as call
 use Rattle.transfer_machine.specs.declared.kind.Kind.{Kind}
 use Rattle.transfer_machine.specs.declared.kind.Kind.TheVariants.{K1, K2, K3, K4, K5, K6, K7, K8, K9, K10}
 use Rattle.transfer_machine.specs.declared.kind.Kind.TheVariants.{K11, K12, K13, K14, K15, K16, K17, K18, K19}
-use Rattle.transfer_machine.specs.declared.stage.Phase.{Phase}
-use Rattle.transfer_machine.specs.declared.stage.Phase.TheVariants as phase
+use Rattle.pool_machine.specs.declared.phase.Phase.{Phase}
+use Rattle.pool_machine.specs.declared.phase.Phase.TheVariants as phase
 use Rattle.transfer_machine.specs.declared.stage.Stage.{Stage}
 use Rattle.transfer_machine.specs.declared.transfer.TransferView.{TransferView}
-use Rattle.transfer_machine.specs.declared.view.ProcessView.{ProcessView}
+use Rattle.pool_machine.specs.declared.view.ProcessView.{ProcessView}
 use Rattle.pool_machine.specs.OwnSteps.{own_action}
 use Rattle.interleaving_core.specs.CallLaws.{EveryRun}
 use Rattle.interleaving_core.specs.Moves.{view_at}
@@ -57,12 +58,24 @@ KindFits sizes v K19 index action = Loads State action
 
 -- so does the next step of every transfer, with its kind and its index
 abbrev pub TransferKindsFit : Type 0
-TransferKindsFit = (sizes : Sizes) (v : TransferView) → KindFits sizes v (kind_of v.next) (index_of v.next) (action_of sizes v)
+TransferKindsFit = (sizes : Sizes) (v : TransferView) → KindFits sizes v (stage_of v).kind (stage_of v).index (action_of sizes v)
 
 -- and the next step of every process that has one; at the own step of a call the index isn't looked at
 abbrev pub NextKindsFit : Type 0
 NextKindsFit = (sizes : Sizes) (v : ProcessView) → is_busy v ≡ true
     → KindFits sizes v.transfer (next_kind v) (index_of v.transfer.next) (next_action sizes v)
+
+-- a step of this kind belongs to that turn of its transfer: 0 announces, 1 and 2 are the tries, 3 is the end
+abbrev pub TurnFits : Kind → ℕ → Type 0
+TurnFits K1 turn = turn ≡ 0
+TurnFits K10 turn = turn ≡ 3
+TurnFits K11 turn = turn ≡ 3
+TurnFits K19 turn = turn ≡ 0
+TurnFits kind turn = (turn ≡ 1) ⊎ (turn ≡ 2)
+
+-- so does the next step of every transfer
+abbrev pub TurnsFit : Type 0
+TurnsFit = (v : TransferView) → TurnFits (stage_of v).kind (stage_of v).turn
 
 -- a phase says what the next step of a process is: none, that of its transfer at its stage, or the own step of its call
 abbrev pub PhaseFits : Sizes → ProcessView → Phase → Type 0

@@ -1,5 +1,6 @@
 -- one turn of one process, on the words and views of all: a step of a transfer alone, or a step of a call
-use Rattle.std.specs.Prelude.{ℕ, ◌==◌, nat_lt, Bool, true, false, not, ◌&&◌, ◌||◌, if◌then◌else◌, Option, None, Some, List, length, slice_index_or, slice_set}
+use Rattle.std.specs.Prelude.{ℕ, ◌==◌, nat_lt, Bool, true, false, not, ◌&&◌, ◌||◌, if◌then◌else◌}
+use Rattle.std.specs.Prelude.{Option, None, Some, List, length, slice_index_or, slice_set}
 use Rattle.word_layout.specs.Sizes.{Sizes}
 use Rattle.word_layout.specs.declared.announced.Wish.{Wish}
 use Rattle.word_layout.specs.declared.announced.Wish.TheVariants.{Take, Give}
@@ -81,7 +82,8 @@ may_wish (Give head) pool = nat_lt 0 (length pool.heads) && (may_begin Giving po
 
 -- whether a process moves alone: it has begun no call, and it goes on with its transfer or may begin one with this wish
 abbrev pub may_go_alone : Wish → ProcessView → Bool
-may_go_alone wish v = may_use_transfers v.calls.way && (not (is_rest v.transfer.next) || (nat_lt v.transfer.age most_age && may_wish wish v.pool))
+may_go_alone wish v =
+    may_use_transfers v.calls.way && (not (is_rest v.transfer.next) || (nat_lt v.transfer.age most_age && may_wish wish v.pool))
 
 -- its view before that step: a process at rest first begins a transfer with this wish
 abbrev pub moving_view : Wish → ProcessView → ProcessView

@@ -1,11 +1,12 @@
 -- laws that the machine moves, over every run: what a process may begin it begins, and a call that has begun is answered
-use Rattle.std.specs.Prelude.{◌≡◌, ◌≢◌, ℕ, ◌+◌, ◌<◌, ◌≤◌, ◌^◌, ◌==◌, Bool, true, false, ◌&&◌, ◌||◌, if◌then◌else◌, List, [], ◌∷◌}
+use Rattle.std.specs.Prelude.{◌≡◌, ◌≢◌, ℕ, ◌+◌, ◌<◌, ◌≤◌, ◌==◌, Bool, true, false, ◌&&◌, ◌||◌, if◌then◌else◌, List, [], ◌∷◌}
 use Rattle.word_layout.specs.Sizes.{Sizes}
+use Rattle.word_layout.specs.Packing.{most_age}
 use Rattle.word_layout.specs.declared.announced.Wish.TheVariants.{Take, Give}
-use Rattle.transfer_machine.specs.declared.call.Call.{Call}
-use Rattle.transfer_machine.specs.declared.call.Call.TheVariants.{Allocate, Free, Read, Write}
-use Rattle.transfer_machine.specs.declared.call.CallStage.TheVariants.{Between}
-use Rattle.transfer_machine.specs.declared.call.Way.TheVariants.{Alone, Calls}
+use Rattle.pool_machine.specs.declared.call.Call.{Call}
+use Rattle.pool_machine.specs.declared.call.Call.TheVariants.{Allocate, Free, Read, Write}
+use Rattle.pool_machine.specs.declared.call.CallStage.TheVariants.{Between}
+use Rattle.pool_machine.specs.declared.call.Way.TheVariants.{Alone, Calls}
 use Rattle.transfer_machine.specs.declared.stage.NextStep.TheVariants.{Rest}
 use Rattle.pool_machine.specs.Beginning.{newest}
 use Rattle.pool_machine.specs.Laws.{most_moves}
@@ -20,7 +21,7 @@ pub record StandsBetween (sizes : Sizes) (i : ℕ) (s : CoreState) : Type 0 wher
   pub low : i < sizes.processes
   pub between : (view_at s i).calls.stage ≡ Between
   pub way : (view_at s i).calls.way ≢ Alone
-  pub young : (view_at s i).transfer.age < 2 ^ 32
+  pub young : (view_at s i).transfer.age < most_age
 
 -- there it begins an allocate
 abbrev pub AllocatesBegin : Type 0
@@ -44,7 +45,7 @@ pub record StandsAtRest (sizes : Sizes) (i : ℕ) (s : CoreState) : Type 0 where
   pub low : i < sizes.processes
   pub rest : (view_at s i).transfer.next ≡ Rest
   pub way : (view_at s i).calls.way ≢ Calls
-  pub young : (view_at s i).transfer.age < 2 ^ 32
+  pub young : (view_at s i).transfer.age < most_age
 
 -- there it begins a take with at most one spare, and a give of its newest spare where it has one
 abbrev pub TakesBegin : Type 0

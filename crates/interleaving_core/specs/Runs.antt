@@ -9,7 +9,8 @@ use Rattle.pool_machine.specs.declared.call.Call.{Call}
 use Rattle.pool_machine.specs.declared.view.ProcessView.{ProcessView}
 use Rattle.pool_machine.specs.declared.event.Happened.{Happened}
 use Rattle.pool_machine.specs.declared.event.Happened.TheVariants.{Step, Ended, Loaded, Stored, Ignored}
-use Rattle.interleaving_core.specs.Moves.{CoreState, view_at, may_go_alone, moving_view, holds_for, may_go, calling_view, step_answer, with_step}
+use Rattle.interleaving_core.specs.Moves.{CoreState, view_at, may_go_alone, moving_view, holds_for, may_go, calling_view}
+use Rattle.interleaving_core.specs.Moves.{step_answer, with_step}
 
 -- one turn: a step of a transfer alone, or a step of a call; the wish and the call are looked at where nothing is begun
 pub data Turn : Type 0 where
@@ -54,9 +55,16 @@ opening_views sizes (suc process) = opening_views sizes process ++ opening_view 
 
 -- the opening: no block is held
 abbrev pub opened : Sizes → List ℕ → CoreState
-opened sizes words = record { sizes = sizes; words = words; views = opening_views sizes sizes.processes; holders = replicate (blocks sizes) None }
+opened sizes words = record {
+  sizes = sizes;
+  words = words;
+  views = opening_views sizes sizes.processes;
+  holders = replicate (blocks sizes) None;
+}
 
 -- these turns, one after the other, lead from the opening to these words, views and holders, and make this history
 pub data IsRun (sizes : Sizes) : List Turn → List Entry → CoreState → Type 0 where
   opens : (words : List ℕ) → IsShape sizes → AreOpening sizes words → IsRun sizes [] [] (opened sizes words)
-  turns : (past : List Turn) (history : List Entry) (s : CoreState) (turn : Turn) → IsRun sizes past history s → IsRun sizes (past ++ turn ∷ []) (history ++ entries_of (turn_answer turn s)) (after_turn turn s)
+  turns : (past : List Turn) (history : List Entry) (s : CoreState) (turn : Turn)
+      → IsRun sizes past history s
+      → IsRun sizes (past ++ turn ∷ []) (history ++ entries_of (turn_answer turn s)) (after_turn turn s)

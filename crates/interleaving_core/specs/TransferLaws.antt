@@ -1,5 +1,6 @@
 -- what holds of transfers in every run of the machine, as its words and views show it
-use Rattle.std.specs.Prelude.{◌≡◌, ◌≢◌, ℕ, ◌+◌, ◌<◌, ◌≤◌, ◌==◌, ◌⊎◌, if◌then◌else◌, Bool, true, false, ◌&&◌, List, [], ◌∷◌, ◌++◌, length, slice_index}
+use Rattle.std.specs.Prelude.{◌≡◌, ◌≢◌, ℕ, ◌+◌, ◌<◌, ◌≤◌, ◌==◌, ◌⊎◌, if◌then◌else◌, Bool, true, false, ◌&&◌}
+use Rattle.std.specs.Prelude.{List, [], ◌∷◌, ◌++◌, length, slice_index}
 use Rattle.std.specs.List.{All}
 use Rattle.word_layout.specs.Sizes.{Sizes, IsShape, blocks, transfer_bound}
 use Rattle.word_layout.specs.Names.{word_at, table_words}
@@ -27,7 +28,8 @@ use Rattle.interleaving_core.specs.Invariant.{MeetsInvariant}
 use Rattle.interleaving_core.specs.Steps.{is_alone, is_busy}
 use Rattle.interleaving_core.specs.Kept.{reply_value_at, pends_at}
 use Rattle.interleaving_core.specs.Moves.{CoreState, view_at}
-use Rattle.interleaving_core.specs.Runs.{IsRun, Turn, Moves, Events, by_of, is_made, turning_view, after_turn, turn_answer, entries_of, opened}
+use Rattle.interleaving_core.specs.Runs.{IsRun, Turn, Moves, Events, by_of, is_made, turning_view, after_turn, turn_answer}
+use Rattle.interleaving_core.specs.Runs.{entries_of, opened}
 
 -- the next step of a process's transfer
 abbrev pub next_step : CoreState → ℕ → NextStep
@@ -108,7 +110,10 @@ pub record RunHolds (sizes : Sizes) (history : List Entry) (s : CoreState) : Typ
   pub meets : MeetsInvariant s.sizes s.words (view_at s) history
 
 abbrev pub RunsMeetInvariant : Type 0
-RunsMeetInvariant = (sizes : Sizes) (past : List Turn) (history : List Entry) (s : CoreState) → IsRun sizes past history s → RunHolds sizes history s
+RunsMeetInvariant =
+    (sizes : Sizes) (past : List Turn) (history : List Entry) (s : CoreState)
+    → IsRun sizes past history s
+    → RunHolds sizes history s
 
 -- any turns can be made from any opening, and lead to what they say, with the history that they say
 abbrev pub RunsGoOn : Type 0
@@ -117,8 +122,13 @@ RunsGoOn = (sizes : Sizes) (words : List ℕ) (more : List Turn) → IsShape siz
 
 -- and every run is one of these
 abbrev pub RunsAreMade : Type 0
-RunsAreMade = (sizes : Sizes) (past : List Turn) (history : List Entry) (s : CoreState) → IsRun sizes past history s
-    → (words : List ℕ) × AreOpening sizes words × (s ≡ after_turns past (opened sizes words)) × (history ≡ entries_made past (opened sizes words))
+RunsAreMade =
+    (sizes : Sizes) (past : List Turn) (history : List Entry) (s : CoreState)
+    → IsRun sizes past history s
+    → (words : List ℕ)
+    × AreOpening sizes words
+    × (s ≡ after_turns past (opened sizes words))
+    × (history ≡ entries_made past (opened sizes words))
 
 -- a process that has a next step makes it by a turn of its own, whatever wish or call that names
 abbrev pub BusyProcessesGoOn : Type 0
@@ -126,14 +136,18 @@ BusyProcessesGoOn = (s : CoreState) (process : ℕ) → process < s.sizes.proces
     → (is_alone (view_at s process).calls.way ≡ true → (wish : Wish) → is_made (Moves process wish) s ≡ true)
     × (is_alone (view_at s process).calls.way ≡ false → (call : Call) → is_made (Events process call) s ≡ true)
 
--- a move that is made is a step of its process's transfer; so is an event where the process's call makes these, and the own step of a call is none
+-- a move that is made is a step of its process's transfer, and so is an event where the process's call makes these; an own step is none
 pub record TurnsAreSteps (s : CoreState) (by : ℕ) : Type 0 where
   pub moves : (wish : Wish) → is_made (Moves by wish) s ≡ true → is_step (Moves by wish) s ≡ true
   pub events : (view_at s by).calls.stage ≡ Moving → (call : Call) → is_step (Events by call) s ≡ true
   pub own : (view_at s by).calls.stage ≡ Own → (call : Call) → is_step (Events by call) s ≡ false
 
 abbrev pub RunsMakeSteps : Type 0
-RunsMakeSteps = (sizes : Sizes) (past : List Turn) (history : List Entry) (s : CoreState) (by : ℕ) → IsRun sizes past history s → by < s.sizes.processes → TurnsAreSteps s by
+RunsMakeSteps =
+    (sizes : Sizes) (past : List Turn) (history : List Entry) (s : CoreState) (by : ℕ)
+    → IsRun sizes past history s
+    → by < s.sizes.processes
+    → TurnsAreSteps s by
 
 -- a transfer has made no more steps than its bound, and as long as it hasn't ended there is one left
 pub record StepsBounded (s : CoreState) (process : ℕ) : Type 0 where
@@ -142,11 +156,18 @@ pub record StepsBounded (s : CoreState) (process : ℕ) : Type 0 where
   pub none : rests s process ≡ true → steps_made s process ≡ 0
 
 abbrev pub TransfersAreBounded : Type 0
-TransfersAreBounded = (sizes : Sizes) (past : List Turn) (history : List Entry) (s : CoreState) (process : ℕ) → IsRun sizes past history s → process < s.sizes.processes → StepsBounded s process
+TransfersAreBounded =
+    (sizes : Sizes) (past : List Turn) (history : List Entry) (s : CoreState) (process : ℕ)
+    → IsRun sizes past history s
+    → process < s.sizes.processes
+    → StepsBounded s process
 
 -- each step of a process's transfer counts one, unless it ends it; no other turn counts, and one of another process leaves its view
 abbrev pub StepsCount : Type 0
-StepsCount = (sizes : Sizes) (past : List Turn) (history : List Entry) (s : CoreState) (turn : Turn) (process : ℕ) → IsRun sizes past history s → process < s.sizes.processes
+StepsCount =
+    (sizes : Sizes) (past : List Turn) (history : List Entry) (s : CoreState) (turn : Turn) (process : ℕ)
+    → IsRun sizes past history s
+    → process < s.sizes.processes
     → rests (after_turn turn s) process ≡ false
     → steps_made (after_turn turn s) process ≡ steps_made s process + is_step_of process turn s
 
@@ -155,13 +176,19 @@ OthersLeaveViews = (s : CoreState) (turn : Turn) (other : ℕ) → other ≢ by_
 
 -- so a transfer ends within its bound: while it hasn't ended, fewer steps of it are made, whatever the others do
 abbrev pub TransfersEnd : Type 0
-TransfersEnd = (sizes : Sizes) (past more : List Turn) (history : List Entry) (s : CoreState) (process : ℕ) → IsRun sizes past history s → process < sizes.processes
+TransfersEnd =
+    (sizes : Sizes) (past more : List Turn) (history : List Entry) (s : CoreState) (process : ℕ)
+    → IsRun sizes past history s
+    → process < sizes.processes
     → NeverRests process more s
     → steps_made s process + steps_of process more s + 1 ≤ transfer_bound sizes
 
 -- and a whole one takes no more steps than that: from a process at rest on, the steps that leave it in a transfer, and the last one
 abbrev pub WholeTransfersEnd : Type 0
-WholeTransfersEnd = (sizes : Sizes) (past more : List Turn) (history : List Entry) (s : CoreState) (turn : Turn) (process : ℕ) → IsRun sizes past history s → process < sizes.processes
+WholeTransfersEnd =
+    (sizes : Sizes) (past more : List Turn) (history : List Entry) (s : CoreState) (turn : Turn) (process : ℕ)
+    → IsRun sizes past history s
+    → process < sizes.processes
     → rests s process ≡ true
     → NeverRests process more (after_turn turn s)
     → steps_of process (turn ∷ more) s + 1 ≤ transfer_bound sizes
@@ -172,9 +199,13 @@ pub record PendsInTries (s : CoreState) (process : ℕ) : Type 0 where
   pub after : has_tried (next_step s process) ≡ true → pends s process ≡ false
 
 abbrev pub TwoTriesApply : Type 0
-TwoTriesApply = (sizes : Sizes) (past : List Turn) (history : List Entry) (s : CoreState) (process : ℕ) → IsRun sizes past history s → process < s.sizes.processes → PendsInTries s process
+TwoTriesApply =
+    (sizes : Sizes) (past : List Turn) (history : List Entry) (s : CoreState) (process : ℕ)
+    → IsRun sizes past history s
+    → process < s.sizes.processes
+    → PendsInTries s process
 
--- the words and views show a state: the content of the stack, and the replies; all announced transfers are applied in it, but the last one where it is pending
+-- the words and views show a state: the content of the stack, the replies, and which of the announced transfers are applied
 pub record ShowsState (s : CoreState) (t : StackState) : Type 0 where
   pub content : TableShows s.sizes s.words t
   pub replies : (process : ℕ) → process < s.sizes.processes → reply_to s process ≡ t.reply process
@@ -182,17 +213,23 @@ pub record ShowsState (s : CoreState) (t : StackState) : Type 0 where
   pub pending : (process : ℕ) → process < s.sizes.processes → pends s process ≡ true → t.applied process + 1 ≡ announced_count s process
 
 abbrev pub RunsShowStates : Type 0
-RunsShowStates = (sizes : Sizes) (past : List Turn) (history : List Entry) (s : CoreState) → IsRun sizes past history s → (t : StackState) × ShowsState s t
+RunsShowStates =
+    (sizes : Sizes) (past : List Turn) (history : List Entry) (s : CoreState)
+    → IsRun sizes past history s
+    → (t : StackState) × ShowsState s t
 
 -- a turn left the content and all replies
 pub record LeavesContent (s after : CoreState) : Type 0 where
   pub content : content_of after ≡ content_of s
   pub replies : (process : ℕ) → process < s.sizes.processes → reply_to after process ≡ reply_to s process
 
--- a turn made the next state of these announcements: in the order of the processes it applied those that were pending, which are the present ones, and none of them is pending any more
+-- a turn made the next state of these announcements: in the order of the processes it applied the pending ones, which are the present ones,
+-- and none of them is pending any more
 pub record AppliesPending (s after : CoreState) (announcements : ℕ → ℕ) (t : StackState) : Type 0 where
   pub old : ShowsState s t
-  pub present : (process : ℕ) → process < s.sizes.processes → is_pending (announcements process) (reply_to s process) ≡ true → announcements process ≡ announcement_of s process
+  pub present : (process : ℕ) → process < s.sizes.processes
+      → is_pending (announcements process) (reply_to s process) ≡ true
+      → announcements process ≡ announcement_of s process
   pub new : ShowsState after (next_of s.sizes.processes announcements t)
   pub once : (process : ℕ) → process < s.sizes.processes → is_pending (announcements process) (reply_to after process) ≡ false
 
@@ -202,18 +239,27 @@ IsExchange next = (second : Bool) × (next ≡ Try second ExchangeState)
 
 -- the content changes only by an exchange of the state, which applies pending transfers
 abbrev pub ContentMoves : Type 0
-ContentMoves = (sizes : Sizes) (past : List Turn) (history : List Entry) (s : CoreState) (turn : Turn) → IsRun sizes past history s
+ContentMoves =
+    (sizes : Sizes) (past : List Turn) (history : List Entry) (s : CoreState) (turn : Turn)
+    → IsRun sizes past history s
     → LeavesContent s (after_turn turn s)
-    ⊎ (IsExchange (next_step s (by_of turn)) × ((announcements : ℕ → ℕ) × ((t : StackState) × AppliesPending s (after_turn turn s) announcements t)))
+    ⊎ (IsExchange (next_step s (by_of turn))
+    × ((announcements : ℕ → ℕ) × ((t : StackState) × AppliesPending s (after_turn turn s) announcements t)))
 
--- the heads of all batches, in the content, among the spares of the processes and on their way, are blocks of the pool, and none is at two of these places
+-- the heads of all batches, in the content, among the spares and on their way, are blocks of the pool, and none is at two of these places
 pub record HeadsApart (s : CoreState) (t : StackState) : Type 0 where
   pub shows : ShowsState s t
   pub few : length (content_of s) ≤ s.sizes.batches
   pub content : (place : ℕ) → place < t.height → t.content place < blocks s.sizes
-  pub spares : (process place : ℕ) → process < s.sizes.processes → place < length (view_at s process).pool.heads → slice_index (view_at s process).pool.heads place < blocks s.sizes
-  pub on_way : (process : ℕ) → process < s.sizes.processes → All (λ head. head < blocks s.sizes) (moving t process (view_at s process).transfer)
+  pub spares : (process place : ℕ) → process < s.sizes.processes
+      → place < length (view_at s process).pool.heads
+      → slice_index (view_at s process).pool.heads place < blocks s.sizes
+  pub on_way : (process : ℕ) → process < s.sizes.processes
+      → All (λ head. head < blocks s.sizes) (moving t process (view_at s process).transfer)
   pub once : (head : ℕ) → times_pooled s.sizes t (view_at s) head ≤ 1
 
 abbrev pub HeadsStayApart : Type 0
-HeadsStayApart = (sizes : Sizes) (past : List Turn) (history : List Entry) (s : CoreState) → IsRun sizes past history s → (t : StackState) × HeadsApart s t
+HeadsStayApart =
+    (sizes : Sizes) (past : List Turn) (history : List Entry) (s : CoreState)
+    → IsRun sizes past history s
+    → (t : StackState) × HeadsApart s t

@@ -13,7 +13,8 @@ pub record Stepped (sizes : Sizes) (v : ProcessView) (words new : List ℕ) (x :
   pub answers : happened ≡ next_answer v (met_word sizes words (next_action sizes v))
 
 -- the process made the next step of this view on the old words, and that is what happened
-pub record Turned (sizes : Sizes) (by : ℕ) (v : ProcessView) (words : List ℕ) (views : List ProcessView) (new : List ℕ) (after : List ProcessView) (happened : Happened) : Type 0 where
+pub record Turned (sizes : Sizes) (by : ℕ) (v : ProcessView) (words : List ℕ) (views : List ProcessView)
+    (new : List ℕ) (after : List ProcessView) (happened : Happened) : Type 0 where
   pub acts : new ≡ acted sizes words (next_action sizes v)
   pub meets : after ≡ slice_set views by (next_met sizes v (met_word sizes words (next_action sizes v)))
   pub answers : happened ≡ next_answer v (met_word sizes words (next_action sizes v))

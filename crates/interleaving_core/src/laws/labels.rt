@@ -1,11 +1,12 @@
 //! Labels: what is told of a next step fits what it does to which word.
-ghost use Rattle.interleaving_core.specs.LabelLaws.{TransferKindsFit, NextKindsFit, PhasesFit, WaitingsFit};
+ghost use Rattle.interleaving_core.specs.LabelLaws.{TransferKindsFit, NextKindsFit, TurnsFit, PhasesFit, WaitingsFit};
 
 /// The kind and the index of the next step of every view fit the word that it is on, and whether it loads, stores or
-/// exchanges it.
+/// exchanges it. The turn of a transfer goes with the kind.
 pub fn kinds_fit()
     ensures transfers { TransferKindsFit }
     ensures all { NextKindsFit }
+    ensures turns { TurnsFit }
 {}
 
 /// What a process of a run is said to be at fits its next step: it has none between two calls or at rest, that of its

@@ -6,3 +6,6 @@ returns-clause-transfers c = labels.transfer_kinds_fit
 
 pub returns-clause-all : goal.returns-clause-all
 returns-clause-all c = labels.next_kinds_fit
+
+pub returns-clause-turns : goal.returns-clause-turns
+returns-clause-turns c = labels.turns_fit

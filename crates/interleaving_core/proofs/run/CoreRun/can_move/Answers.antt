@@ -15,4 +15,5 @@ returns-then-by-processes c =
     let (past, history, run) = c.self.invariant in
     let test = c.if-by-processes.true in
     let value = c.processes.ensures.value in
-    may_go_alone_here _ _ history c.args.by c.args.wish _ _ c.self.view_is (run_fits _ past history _ run) (rw value at test) c.index.ensures c.may_go_alone.ensures
+    may_go_alone_here _ _ history c.args.by c.args.wish _ _ c.self.view_is (run_fits _ past history _ run) (rw value at test)
+        c.index.ensures c.may_go_alone.ensures

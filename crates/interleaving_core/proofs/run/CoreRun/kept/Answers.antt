@@ -17,12 +17,16 @@ kept_by-requires-clause-low c = process_low _ _ c.args.process c.self.view_is c.
 pub kept_by-requires-clause-few : goal.kept_by-requires-clause-few
 kept_by-requires-clause-few c =
     let (past, history, run) = c.self.invariant in
-    rw (kept_read _ _ c.args.process c.deref.result.now c.view.result.now c.self.view_is c.deref.ensures.value c.view.ensures) (kept_small _ _ history c.args.process c.self.view_is (run_fits _ past history _ run) c.requires)
+    rw (kept_read _ _ c.args.process c.deref.result.now c.view.result.now c.self.view_is c.deref.ensures.value c.view.ensures)
+        (kept_small _ _ history c.args.process c.self.view_is (run_fits _ past history _ run) c.requires)
 
 pub returns-clause-value : goal.returns-clause-value
-returns-clause-value c = c.kept_by.ensures ∙ kept_read _ _ c.args.process c.deref.result.now c.view.result.now c.self.view_is c.deref.ensures.value c.view.ensures
+returns-clause-value c =
+    c.kept_by.ensures ∙ kept_read _ _ c.args.process c.deref.result.now c.view.result.now c.self.view_is c.deref.ensures.value
+    c.view.ensures
 
 pub returns-clause-few : goal.returns-clause-few
 returns-clause-few c =
     let (past, history, run) = c.self.invariant in
-    rw (c.kept_by.ensures ∙ kept_read _ _ c.args.process c.deref.result.now c.view.result.now c.self.view_is c.deref.ensures.value c.view.ensures) (kept_five _ _ history c.args.process c.self.view_is (run_fits _ past history _ run) c.requires)
+    rw (c.kept_by.ensures ∙ kept_read _ _ c.args.process c.deref.result.now c.view.result.now c.self.view_is c.deref.ensures.value
+        c.view.ensures) (kept_five _ _ history c.args.process c.self.view_is (run_fits _ past history _ run) c.requires)
