@@ -86,7 +86,7 @@ alone_begins_at sizes words views after history ghosts i wish shape li h free re
       };
       pools = each_moved (λ o w. UsesPool sizes o w (ghosts.ledgers o)) sizes.processes i x views after moved
           (uses_transfers sizes i x (ghosts.ledgers i) Alone refl
-              (moves_alone sizes i v wish (ghosts.ledgers i) v.calls.way refl (h.pools i li) free rest begins young)) h.pools;
+          (moves_alone sizes i v wish (ghosts.ledgers i) v.calls.way refl (h.pools i li) free rest begins young)) h.pools;
       entries = h.entries;
       empties =
           each_moved (λ o w. KnowsOfNothing s o w.transfer (ghosts.ledgers o)) sizes.processes i x views after moved
@@ -106,7 +106,7 @@ alone_begins sizes words views after history i wish shape li (ghosts, h) rest ma
     let tests : (may_use_transfers v.calls.way && (nat_lt v.transfer.age most_age && may_wish wish v.pool)) ≡ true = rw rest at may in
     let both = both_second (may_use_transfers v.calls.way) (nat_lt v.transfer.age most_age && may_wish wish v.pool) tests in
     let fits = wish_fits_at sizes words views history ghosts i wish shape li h
-        (both_second (nat_lt v.transfer.age most_age) (may_wish wish v.pool) both) in (
+    (both_second (nat_lt v.transfer.age most_age) (may_wish wish v.pool) both) in (
       ghosts,
       alone_begins_at sizes words views after history ghosts i wish shape li h
           (by_way v.calls.way (both_first (may_use_transfers v.calls.way) (nat_lt v.transfer.age most_age && may_wish wish v.pool) tests))
@@ -161,7 +161,7 @@ stack_begun sizes words views after states i x None li h e rests moved = rw (fun
     ]
 stack_begun sizes words views after states i x (Some wish) li h e rests moved =
     beginnings_keep_stack sizes words (transfers views) (transfers after) states i wish li h (rests wish refl)
-        (rw e at (transfers_move i x views after moved))
+    (rw e at (transfers_move i x views after moved))
 
 knows_begun : (s : StackState) (i : ℕ) (wish : Option Wish) (v x : ProcessView) (old new : Ledger)
     → x.transfer ≡ (begun_if_due wish v).transfer → new.found_nothing ≡ old.found_nothing
@@ -277,7 +277,7 @@ call_begins_at sizes words views after history ghosts i call shape li h young na
           (λ w e. (due_begins sizes v w kept (call_wish_due call v w e)).0) moved;
       chains = chains.held_same sizes words s after (held_in ledgers) (held_in (with_ledger i ledger ledgers))
           (chains.call_begins sizes words s views after (held_in ledgers) i x li h.chains can moved call
-              (record { transfer = refl; pool = refl })) (λ o lo. held_same o);
+          (record { transfer = refl; pool = refl })) (λ o lo. held_same o);
       pools =
           each_moved_with (λ o w l. UsesPool sizes o w l) sizes.processes i x ledger views after ledgers moved
           (uses_calls sizes i x ledger x.calls.way goes.calls.way goes.calls) h.pools;
@@ -286,7 +286,7 @@ call_begins_at sizes words views after history ghosts i call shape li h young na
           (knows_begun s i (call_wish call v) v x (ledgers i) ledger (call_transfer call v) goes.found (h.empties i li)) h.empties;
       names = each_moved_with (λ o w l. NamesHeld sizes (grip l.entries) w.calls.call) sizes.processes i x ledger views after ledgers moved
           (named_so sizes (held_in ledgers i) (grip ledger.entries) call x.calls.call (ap grip goes.entries) (call_named call v) named)
-              h.names;
+          h.names;
       data_words = λ o lo. rw (held_same o) (h.data_words o lo);
     }
 

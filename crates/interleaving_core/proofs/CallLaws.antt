@@ -197,7 +197,7 @@ quanta_here history s fits i li moving =
     let (ghosts, h) = fits.meets in
     let v = view_at s i in
     let calls : v.calls.way ≢ Alone = λ alone. in_no_call v.calls.stage
-        (alone_between s.sizes (word_at s.sizes s.words) (view_at s) history i li fits.meets alone) moving in
+    (alone_between s.sizes (word_at s.sizes s.words) (view_at s) history i li fits.meets alone) moving in
     (calls_used s.sizes i v (ghosts.ledgers i) v.calls.way calls (h.pools i li)).stage.few moving
   where
     in_no_call : (stage : CallStage) → is_in_call stage ≡ false → stage ≡ Moving → ⊥

@@ -135,8 +135,15 @@ ignored_answer s turn off = rw off refl
 no_entry : (sizes : Sizes) (i n : ℕ) (t : CoreState) (answer : Happened) → answer ≡ Ignored → AgedRun sizes i n t
     → AgedRun sizes i (n + length (entries_of answer)) t
 no_entry sizes i n t answer e r =
-    record { past = r.past; history = r.history; run = r.run; way = r.way; pends = r.pends; aged = rw e
-    (same sizes.quantum n (view_at t i).pool.plan.done _ r.aged) }
+    record {
+      past = r.past;
+      history = r.history;
+      run = r.run;
+      way = r.way;
+      pends = r.pends;
+      aged = rw e
+          (same sizes.quantum n (view_at t i).pool.plan.done _ r.aged);
+    }
   where
     same : (quantum n done made : ℕ) → done ≡ quantum * n + made → done ≡ quantum * (n + 0) + made
     same quantum n done made aged = omega (arith, aged)
@@ -173,12 +180,18 @@ aged_run sizes past history i s n t li run (pends_on m old call since pends) =
 aged_run sizes past history i s n t li run (pends_still m old wish since) =
     let r = aged_run sizes past history i s m old li run since in
     still_there sizes i m old (after_turn (Moves i wish) old)
-        (ignored_state old (Moves i wish) (calls_no_transfer (nat_lt i old.sizes.processes) _ (view_at old i) r.way)) r
+    (ignored_state old (Moves i wish) (calls_no_transfer (nat_lt i old.sizes.processes) _ (view_at old i) r.way)) r
 aged_run sizes past history i s n t li run (pends_too m old turn since ne) =
     let r = aged_run sizes past history i s m old li run since in
     let same = other_view old turn i (is_made turn old) ne in
-    record { past = _; history = _; run = turns r.past r.history old turn r.run; way = rw same r.way; pends = rw same r.pends;
-        aged = rw same r.aged }
+    record {
+      past = _;
+      history = _;
+      run = turns r.past r.history old turn r.run;
+      way = rw same r.way;
+      pends = rw same r.pends;
+      aged = rw same r.aged;
+    }
 
 pub transfers_are_short : TransfersAreShort
 transfers_are_short sizes past history s run i n t li since =

@@ -98,10 +98,10 @@ turn_acts s history turn fits made =
     let here : get_or xs by (opening_view s.sizes by) ≡ v = get_or-set_same s.views by v (opening_view s.sizes by) (rw fits.seats li) in
     let begun = turn_meets s history turn fits made li in
     let allowed = step_allowed s.sizes (word_at s.sizes s.words) (λ o. get_or xs o (opening_view s.sizes o)) history by fits.shape li begun
-        in
+    in
     let can = (rw here at allowed) (turn_busy s history turn fits made li) in
     table_acted s.sizes s.words (next_action s.sizes v) fits.whole
-        (next_in_range s.sizes (word_at s.sizes s.words) v (is_alone v.calls.way) refl can)
+    (next_in_range s.sizes (word_at s.sizes s.words) v (is_alone v.calls.way) refl can)
 
 -- a turn that is made leaves the data word
 writes_not : (s : CoreState) (history : List Entry) (i block index : ℕ) (turn : Turn) → RunFits s history → is_made turn s ≡ true
@@ -118,9 +118,9 @@ writes_not s history i block index turn fits made holds not =
     let (ghosts, h) = turn_meets s history turn fits made li in
     let words = word_at s.sizes s.words in
     let has : Contains (held_in ghosts.ledgers i) block = rw (sym (h.entries.each i low).sees.own_entries)
-        (fits.holders.truly i block holds) in
+    (fits.holders.truly i block holds) in
     let (below, apart) = held_are_apart s.sizes words (ghosts.states (state_tag words)) views (held_in ghosts.ledgers) i block low h.chains
-        has in
+    has in
     let names = h.names by li in (
       below,
       λ value e. elim (cases_eq by i) [
@@ -137,7 +137,7 @@ kept_turn s history i block index turn true fits made holds within not =
     let v = turning_view turn s in
     let (below, other) = writes_not s history i block index turn fits made holds not in
     step_leaves s.sizes (word_at s.sizes s.words) _ v block index (is_alone v.calls.way) refl below within other
-        (turn_acts s history turn fits made)
+    (turn_acts s history turn fits made)
 kept_turn s history i block index turn false fits made holds within not = refl
 
 abbrev pub KeepsData : Sizes → List Entry → CoreState → Type 0

@@ -97,8 +97,8 @@ moving_many : (s : StackState) (i : ℕ) (v : TransferView) (pends : Bool) (valu
 unfolding moving
 moving_many s i v pends value e f =
     rw (e, f) (either_many (has_only_begun v.next) (has_announced v.next) (given_batches v.wish)
-        (announced_batches (not (s.applied i == v.age)) v.wish (reply_of (s.reply i))) (given v.wish) (announced_batch s i v)
-        (given_many v.wish)
+    (announced_batches (not (s.applied i == v.age)) v.wish (reply_of (s.reply i))) (given v.wish) (announced_batch s i v)
+    (given_many v.wish)
     (announced_many (s.applied i == v.age) v.wish (reply_of (s.reply i))))
 
 -- the reply that the words of a table say
@@ -122,14 +122,14 @@ transit_said sizes table views history ghosts i li h =
     let value = value_said sizes table s i (words_show sizes words (transfers views) ghosts.states h.stack) li in
     let odd = ap is_odd_reply value ∙ h.stack.helping.counts.parities i (state_tag words) li (omega arith) in
     moving_many s i v (pends_at sizes table i) (reply_value_at sizes table i)
-        (pending_said (words (Announcement i)) (reply_value_at sizes table i) v.age (s.applied i) told.tag odd told.most told.least) value
+    (pending_said (words (Announcement i)) (reply_value_at sizes table i) v.age (s.applied i) told.tag odd told.most told.least) value
 
 pub kept_said : (sizes : Sizes) (table : List ℕ) (views : ProcessViews) (history : List Entry) (ghosts : Ghosts) (i : ℕ)
     → i < sizes.processes → Holds sizes (word_at sizes table) views history ghosts
     → kept_by sizes table i (views i) ≡ kept_blocks sizes (ghosts.states (state_tag (word_at sizes table))) i (views i)
 kept_said sizes table views history ghosts i li h =
     ap (λ n. (views i).pool.plan.current + sizes.length * (length (views i).pool.heads + n))
-        (transit_said sizes table views history ghosts i li h)
+    (transit_said sizes table views history ghosts i li h)
 
 -- each process keeps at most five batches
 idle_is : (p : Pending) → is_idle p ≡ true → p ≡ Idle
@@ -149,7 +149,7 @@ pub keeps_five : (sizes : Sizes) (table : List ℕ) (views : ProcessViews) (hist
 keeps_five sizes table views history ghosts i shape li h =
     let k = keeps sizes (word_at sizes table) views history ghosts i shape li h in
     at_most (kept_said sizes table views history ghosts i li h)
-        (withholds sizes (ghosts.states (state_tag (word_at sizes table))) i (views i) k) k.five
+    (withholds sizes (ghosts.states (state_tag (word_at sizes table))) i (views i) k) k.five
 
 -- how many batches the stack has
 pub first_many : (count : ℕ) (values : ℕ → ℕ) → length (first_of count values) ≡ count
@@ -183,8 +183,8 @@ all_counted sizes table views history ghosts h =
     let counted = blocks_counted sizes words s views h.chains.batch_blocks h.chains.current_blocks mine h.chains.hold in
     let shared = held_shared (limits_of sizes) (transfer_bound sizes) sizes.quantum history ghosts.ledgers h.entries in
     joined sizes.length (blocks sizes) counted
-        (total_same sizes.processes (λ i. kept_blocks sizes s i (views i)) (λ i. kept_by sizes table i (views i))
-        (λ i li. kept_said sizes table views history ghosts i li h))
+    (total_same sizes.processes (λ i. kept_blocks sizes s i (views i)) (λ i. kept_by sizes table i (views i))
+    (λ i li. kept_said sizes table views history ghosts i li h))
     shared.grips.count
     (stack_many sizes table views history ghosts h)
 
@@ -200,6 +200,6 @@ pub few_withheld : (sizes : Sizes) (table : List ℕ) (views : ProcessViews) (hi
     → blocks sizes ≤ length (held history) + sizes.length * length (stack sizes table) + slack (limits_of sizes)
 few_withheld sizes table views history ghosts shape h =
     few sizes.processes sizes.length (total sizes.processes (λ i. kept_by sizes table i (views i))) (length (held history))
-        (length (stack sizes table)) (blocks sizes) (all_counted sizes table views history ghosts h)
+    (length (stack sizes table)) (blocks sizes) (all_counted sizes table views history ghosts h)
     (total_at_most (5 * sizes.length) sizes.processes (λ i. kept_by sizes table i (views i))
-        (λ i li. keeps_five sizes table views history ghosts i shape li h))
+    (λ i li. keeps_five sizes table views history ghosts i shape li h))

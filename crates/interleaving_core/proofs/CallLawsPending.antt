@@ -83,7 +83,7 @@ moving_ages : (sizes : Sizes) (v : ProcessView) (word n : ℕ) → v.calls.stage
 moving_ages sizes v word n stage aged changes busy goes pends =
     rw (off_either (is_rest (view_met sizes v word).transfer.next) (v.calls.steps + 1 == sizes.quantum) goes)
     (moving_made sizes.quantum n v.pool.plan.done (pool_met_at word v.pool v.transfer.next).plan.done v.calls
-        (v.calls.steps + 1 == sizes.quantum) (step_counts word v.pool v.transfer.next busy pends) (rw stage at aged) changes refl)
+    (v.calls.steps + 1 == sizes.quantum) (step_counts word v.pool v.transfer.next busy pends) (rw stage at aged) changes refl)
 
 -- an own step that makes an entry ends a call
 one_entry : (number : ℕ) (pool : PoolView) (block : Option ℕ)

@@ -139,10 +139,10 @@ first_left history s fits i call between made =
     let v = call_begun call (view_at s i) in
     let word = met_word s.sizes s.words (next_action s.sizes v) in
     let step = next_left s.sizes v word (begun_calls call (view_at s i)) (begun_inside call (view_at s i))
-        (λ e. rw (begun_steps call (view_at s i)) some) in
+    (λ e. rw (begun_steps call (view_at s i)) some) in
     let begun : calling_view call (view_at s i) ≡ v = rw between refl in
     made_left s history (Events i call) (most_moves s.sizes call + 1) fits made
-        (rw begun (both step (call_left s.sizes call (view_at s i))))
+    (rw begun (both step (call_left s.sizes call (view_at s i))))
   where
     both : {a b c : ℕ} → a ≤ b → b ≤ c → a ≤ c
     both le more = omega (arith, le, more)
@@ -158,7 +158,7 @@ later_left history s fits i call li inside =
     let v = view_at s i in
     let word = met_word s.sizes s.words (next_action s.sizes v) in
     let calls = not_alone v.calls.way v.calls.stage (alone_between s.sizes (word_at s.sizes s.words) (view_at s) history i li fits.meets)
-        inside in
+    inside in
     made_left s history (Events i call) (steps_left s.sizes.quantum v.calls) fits (in_call_made s i call li inside)
     (rw (inside_view call v true inside refl) (next_left s.sizes v word calls inside (quanta_here history s fits i li)))
 
@@ -184,8 +184,13 @@ spent sizes past history i n most s t li run le (steps m first old call goes ins
     one_more m after le less = omega (arith, le, less)
 spent sizes past history i n most s t li run le (others m first old turn goes ne) =
     let r = spent sizes past history i m most s old li run le goes in
-    record { past = _; history = _; run = turns r.past r.history old turn r.run; left = rw (other_view old turn i (is_made turn old) ne)
-        r.left }
+    record {
+      past = _;
+      history = _;
+      run = turns r.past r.history old turn r.run;
+      left = rw (other_view old turn i (is_made turn old) ne)
+          r.left;
+    }
 spent sizes past history i n most s t li run le (ignored m first old turn goes off) =
     let r = spent sizes past history i m most s old li run le goes in
     record { past = _; history = _; run = turns r.past r.history old turn r.run; left = rw (ignored_state old turn off) r.left }
@@ -198,7 +203,7 @@ calls_are_short sizes past history s run i n call t between made goes =
     let first = every_run FirstStepsLeave first_left sizes past history s run i call between made in
     let low = low_here sizes s i (shapes_stay sizes past history s run) (turn_low s (Events i call) made) in
     let r = spent sizes (past ++ Events i call ∷ []) _ i n (most_moves sizes call) (after_turn (Events i call) s) t low
-        (turns past history s (Events i call) run) (one_less first) goes in
+    (turns past history s (Events i call) run) (one_less first) goes in
     sum_most n (steps_left sizes.quantum (view_at t i).calls) r.left
   where
     one_less : {a b : ℕ} → a + 1 ≤ b + 1 → a ≤ b

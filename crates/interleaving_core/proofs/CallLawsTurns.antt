@@ -74,7 +74,7 @@ turn_calls history s i call fits made =
     let here : views i ≡ v = get_or-set_same s.views i v (opening_view s.sizes i) (rw fits.seats li) in
     let (ghosts, h) = turn_meets s history turn fits made li in
     let calls = calling_calls call (view_at s i) (is_in_call (view_at s i).calls.stage) refl
-        (alone_between s.sizes words (view_at s) history i li fits.meets) in
+    (alone_between s.sizes words (view_at s) history i li fits.meets) in
     let inside = inside_is v calls (turn_busy s history turn fits made li) in
     let pool = h.pools i li in
     let used = calls_used s.sizes i v (ghosts.ledgers i) v.calls.way (isnt_alone v.calls.way calls) (rw here at pool) in
@@ -95,7 +95,7 @@ pub after_is : (s : CoreState) (history : List Entry) (i : ℕ) (call : Call) �
     (met_word s.sizes s.words (next_action s.sizes (turning_view (Events i call) s))) (turning_view (Events i call) s).calls.stage
 after_is s history i call fits made calls =
     made_view s (Events i call) made (rw fits.seats (turn_low s (Events i call) made)) ∙ met_calls s.sizes (turning_view (Events i call) s)
-        _ calls
+    _ calls
   where
     met_calls : (sizes : Sizes) (v : ProcessView) (word : ℕ) → is_alone v.calls.way ≡ false
         → next_met sizes v word ≡ call_met_at sizes v word v.calls.stage
@@ -130,7 +130,7 @@ pending_moves history s fits i li pends =
     let fit = shape_fits s.sizes fits.shape in
     let busy = moves v.transfer.next v.pool.plan.pending kept.runs.kept.idle pends in
     let count = steps_can_count s.sizes v (some_quantum s.sizes fit) kept (given s.sizes words (view_at s) history ghosts i li h).few
-        (not_rest v.transfer.next busy) in
+    (not_rest v.transfer.next busy) in
     (busy, low count.within kept.runs.kept.bound fit.soon)
   where
     moves : (s : NextStep) (p : Pending) → (is_moving s ≡ false → p ≡ Idle) → p ≢ Idle → is_rest s ≡ false
@@ -162,7 +162,7 @@ turns_age history s fits i n call made aged goes pends =
     let after = after_is s history i call fits made k.calls in
     let met = call_met_at s.sizes v word v.calls.stage in
     let ages = step_ages s.sizes v word n v.calls.stage refl aged k.changes k.busy (sym (ap (λ x. is_rest x.transfer.next) after) ∙ goes)
-        (λ e. pends (ap (λ x. x.pool.plan.pending) after ∙ e)) in (
+    (λ e. pends (ap (λ x. x.pool.plan.pending) after ∙ e)) in (
       both_same s.sizes.quantum n met (view_at (after_turn (Events i call) s) i) (call_answer_at v word v.calls.stage)
           (turn_answer (Events i call) s) after (answer_is s i call made k.calls) ages,
       ap (λ x. x.calls.way) after ∙ met_way s.sizes v word v.calls.stage ∙ k.way,

@@ -49,7 +49,7 @@ reply_waits announcements s zero o le = refl
 reply_waits announcements s (suc k) o le =
     let t = next_of k announcements s in
     either_reply (is_pending (announcements k) (t.reply k)) k _ o t (with_transfer k (announcements k) t) refl (λ e. absurd (omega arith))
-        ∙ reply_waits announcements s k o (omega arith)
+    ∙ reply_waits announcements s k o (omega arith)
 
 -- and a process whose announcement isn't pending keeps it
 off_reply : (t : Bool) (k : ℕ) (s u : StackState) → t ≡ false → (if t then u else s).reply k ≡ s.reply k
@@ -69,7 +69,7 @@ reply_stays announcements s (suc k) o off = elim (cases_eq o k) [
   | inr ne ↦
       let t = next_of k announcements s in
       either_reply (is_pending (announcements k) (t.reply k)) k _ o t (with_transfer k (announcements k) t) refl ne ∙ reply_stays
-          announcements s k o off
+      announcements s k o off
 ]
 
 -- a reply that says nothing to a pending take comes from a state without content
@@ -108,8 +108,8 @@ found_empty announcements s (suc k) o lt fits pending take says = elim (cases_eq
       let wish : announced_wish word ≡ Take = takes (announced_wish word) (rw e at take) in
       let told : reply_of (reply_value (is_odd_transfer word) (answer_to (announced_wish word) t)) ≡ Nothing = rw mine at (rw e at says) in
       rw e (is_empty t.height
-          (reply_names (is_odd_transfer word) (t.height == 0) (t.content (t.height - 1))
-          (λ some. fits k (omega arith) (t.height - 1) (not_empty t.height some)) (rw wish at told)))
+      (reply_names (is_odd_transfer word) (t.height == 0) (t.content (t.height - 1))
+      (λ some. fits k (omega arith) (t.height - 1) (not_empty t.height some)) (rw wish at told)))
   | inr ne ↦
       let t = next_of k announcements s in
       let stays = either_reply (is_pending (announcements k) (t.reply k)) k _ o t (with_transfer k (announcements k) t) refl ne in
@@ -132,16 +132,16 @@ few_at sizes words views history ghosts announcements o shape lo h present pendi
     let mine = held_in ghosts.ledgers in
     let chains = h.chains in
     let at : (k : ℕ) → k ≤ sizes.processes → ChainsHold sizes words (next_of k announcements s) views chains.batch_blocks
-        chains.current_blocks mine =
+    chains.current_blocks mine =
     λ k le. next_chains sizes words s views chains.batch_blocks chains.current_blocks mine announcements k shape le chains.hold present in
     let fits : (k : ℕ) → k ≤ sizes.processes → (place : ℕ) → place < (next_of k announcements s).height
-        → (next_of k announcements s).content place < most_blocks =
+    → (next_of k announcements s).content place < most_blocks =
     λ k le place lt. low (content_low sizes words (next_of k announcements s) views chains.batch_blocks chains.current_blocks mine (at k le)
-        place (some_long sizes shape) lt) shape.few_blocks in
+    place (some_long sizes shape) lt) shape.few_blocks in
     let empty = found_empty announcements s sizes.processes o lo fits pending take says in
     let counted = blocks_counted sizes words t views chains.batch_blocks chains.current_blocks mine (at o (omega arith)) in
     let most = total_le sizes.processes (λ i. kept_blocks sizes t i (views i)) (λ i. withheld (views i).pool.plan)
-        (λ i li. withholds sizes t i (views i) (keeps sizes words views history ghosts i shape li h)) in
+    (λ i li. withholds sizes t i (views i) (keeps sizes words views history ghosts i shape li h)) in
     let shared = held_shared (limits_of sizes) (transfer_bound sizes) sizes.quantum history ghosts.ledgers h.entries in
     empty_stack_leaves_few sizes (limits_of sizes) history views refl (λ i li. keeps sizes words views history ghosts i shape li h)
     (enough (blocks sizes) _ _ _ (sizes.length * t.height) (length (held history)) counted (rw empty (omega arith)) most shared.grips.count)

@@ -142,15 +142,15 @@ module _ (sizes : Sizes) (history : List Entry) (holders : List (Option ℕ)) (b
       | inr ne ↦ rw (set_other (Some by) b ne)
           (h.all i b (elim (contains_cons_cases b block (grip (own history i))
           (subst (λ list. Contains list b) (grip_more history (Got by block) i is) has)) [
-        | inl e ↦ absurd (ne (sym e))
-        | inr old ↦ old
-      ]))
+            | inl e ↦ absurd (ne (sym e))
+            | inr old ↦ old
+          ]))
     ]
     | inr apart ↦ let old : Contains (grip (own history i)) b = subst (λ list. Contains list b) (grip_other history (Got by block) i apart)
         has in elim (cases_eq b block) [
-      | inl at ↦ absurd (free i (subst (λ c. Contains (grip (own history i)) c) at old))
-      | inr ne ↦ rw (set_other (Some by) b ne) (h.all i b old)
-    ]
+          | inl at ↦ absurd (free i (subst (λ c. Contains (grip (own history i)) c) at old))
+          | inr ne ↦ rw (set_other (Some by) b ne) (h.all i b old)
+        ]
   ]
 
   got_fits : by < sizes.processes → ((i : ℕ) → Contains (grip (own history i)) block → ⊥)
@@ -180,17 +180,21 @@ module _ (sizes : Sizes) (history : List Entry) (holders : List (Option ℕ)) (b
         rw (set_other None b left.1) (h.all i b left.0)
     | inr apart ↦ let old : Contains (grip (own history i)) b = subst (λ list. Contains list b) (grip_other history (Back by block) i apart)
         has in elim (cases_eq b block) [
-      | inl at ↦ absurd (apart
-          (one_named i by (get_or holders block None) (h.all i block (subst (λ c. Contains (grip (own history i)) c) at old))
-          (h.all by block mine)))
-      | inr ne ↦ rw (set_other None b ne) (h.all i b old)
-    ]
+          | inl at ↦ absurd (apart
+              (one_named i by (get_or holders block None) (h.all i block (subst (λ c. Contains (grip (own history i)) c) at old))
+              (h.all by block mine)))
+          | inr ne ↦ rw (set_other None b ne) (h.all i b old)
+        ]
   ]
 
   back_fits : Contains (grip (own history by)) block → HoldersFit sizes (history ++ Back by block ∷ []) (set holders block None)
   back_fits mine =
-      record { size = length-set holders block None ∙ h.size; low = λ i b e. h.low i b (back_names i b e).1; truly = back_truly;
-      all = back_all mine }
+      record {
+        size = length-set holders block None ∙ h.size;
+        low = λ i b e. h.low i b (back_names i b e).1;
+        truly = back_truly;
+        all = back_all mine;
+      }
 
 -- a block that has an entry with a name is one of the pool
 named_low : (sizes : Sizes) (history : List Entry) (holders : List (Option ℕ)) (i block : ℕ) → HoldersFit sizes history holders
@@ -211,7 +215,7 @@ entered_fits sizes history holders (Got by block) h legal =
     let may = last_follows (limits_of sizes) history (Got by block) legal in
     let past = past_is_legal (limits_of sizes) history (Got by block) legal in
     got_fits sizes history holders by block h may.1 may.0
-        (λ i has. may.2 (grip_is_held (limits_of sizes) history i block past (h.low i block (h.all i block has)) has))
+    (λ i has. may.2 (grip_is_held (limits_of sizes) history i block past (h.low i block (h.all i block has)) has))
 entered_fits sizes history holders (Back by block) h legal =
     let may = last_follows (limits_of sizes) history (Back by block) legal in
     back_fits sizes history holders by block h (named_low sizes history holders by block h (h.all by block may.1)) may.1

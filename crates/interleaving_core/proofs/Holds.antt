@@ -92,7 +92,7 @@ pub step_holds : (sizes : Sizes) (words new : Words) (views after : ProcessViews
     → Meets sizes new after (history ++ entries_of (next_answer (views i) (words (name_of (next_action sizes (views i))))))
 step_holds sizes words new views after history i shape li (ghosts, h) busy acted moved =
     way_holds sizes words new views after history ghosts i (is_alone (views i).calls.way) shape li h refl
-        (in_its_call (views i) (is_alone (views i).calls.way) refl busy) acted moved
+    (in_its_call (views i) (is_alone (views i).calls.way) refl busy) acted moved
 
 -- the next step of a process can be made: that of a transfer alone, or that of a call
 pub record StepAllowed (sizes : Sizes) (words : Words) (v : ProcessView) : Type 0 where
@@ -110,7 +110,7 @@ transfer_allowed : (sizes : Sizes) (words : Words) (views : ProcessViews) (histo
     → CanAct sizes (views i).transfer × CanMeet sizes (views i).transfer (words (name_of (action_of sizes (views i).transfer)))
 transfer_allowed sizes words views history ghosts i shape li h =
     can_be_made sizes words (transfers views) ghosts.states i shape li h.stack (supplied sizes words views history ghosts i shape li h)
-        (λ o lo. (keeps sizes words views history ghosts o shape lo h).runs.age.most)
+    (λ o lo. (keeps sizes words views history ghosts o shape lo h).runs.age.most)
 
 -- the step of a call, by its stage
 call_allowed : (sizes : Sizes) (words : Words) (views : ProcessViews) (history : List Entry) (ghosts : Ghosts) (i : ℕ) (stage : CallStage)
@@ -122,8 +122,8 @@ call_allowed sizes words views history ghosts i Moving shape li h calls e =
     let v = views i in
     let (act, meet) = transfer_allowed sizes words views history ghosts i shape li h in
     moves_can_be_made sizes i v (words (name_of (action_of sizes v.transfer))) (ghosts.ledgers i)
-        (calls_used sizes i v (ghosts.ledgers i) v.calls.way calls (h.pools i li)) (scheduled sizes words views history ghosts i shape li h)
-        e
+    (calls_used sizes i v (ghosts.ledgers i) v.calls.way calls (h.pools i li)) (scheduled sizes words views history ghosts i shape li h)
+    e
     (given sizes words views history ghosts i li h) act meet
 call_allowed sizes words views history ghosts i Own shape li h calls e =
     own_step_allowed sizes words views history ghosts i shape li h calls e

@@ -85,13 +85,13 @@ knows_by : (s : StackState) (v : TransferView) (o : ℕ) (old new : TransferView
     → KnowsOfNothing (planned_state s v) o new (if finds_nothing s v o then record g { found_nothing = true } else g)
 knows_by s v o old new g true pending word reply since h = λ announced applied take nothing.
     let take_too : is_take (announced_wish (slice_index v.loaded.announcements o)) ≡ true = rw (word refl)
-        (take_read old.age old.wish (rw (sym since.wish) take)) in
+    (take_read old.age old.wish (rw (sym since.wish) take)) in
     let test = finds _ _ _ pending take_too (ap is_nothing nothing) in
     rw test refl
 knows_by s v o old new g false off word reply since h = λ announced applied take nothing.
     known_found (finds_nothing s v o) g
-        (h (since.was announced) (sym (off_applied s v o off) ∙ applied ∙ since.age) (rw (sym since.wish) take)
-        (ap reply_of (sym (reply refl)) ∙ nothing))
+    (h (since.was announced) (sym (off_applied s v o off) ∙ applied ∙ since.age) (rw (sym since.wish) take)
+    (ap reply_of (sym (reply refl)) ∙ nothing))
 
 since_goes : (old new : TransferView) → SameAnnouncement old new → Since old new
 since_goes old new goes = record { was = λ e. goes.was; wish = goes.wish; age = goes.age }
@@ -101,13 +101,13 @@ since_exchange : (sizes : Sizes) (v : TransferView) (word : ℕ) (second : Bool)
 since_exchange sizes v word second e =
     subst (λ (s : NextStep). Since v (met_at sizes v word s)) (sym e)
     (since_goes v (met_at sizes v word (Try second ExchangeState))
-        (met_same_announcement sizes v word (Try second ExchangeState) refl (rw e refl)))
+    (met_same_announcement sizes v word (Try second ExchangeState) refl (rw e refl)))
 
 -- the step that installs a state
 module _ (sizes : Sizes) (words new : Words) (views after : ProcessViews) (history : List Entry) (ghosts : Ghosts) (i : ℕ) (x : ProcessView)
     (g : Ledger) (shape : IsShape sizes) (li : i < sizes.processes) (h : Holds sizes words views history ghosts)
     (acted : Acted sizes (action_of sizes (views i).transfer) words new) (moved : MovedProcess i x views after)
-        (made : Made sizes words history ghosts i (views i) x g)
+    (made : Made sizes words history ghosts i (views i) x g)
     (second : Bool) (e : (views i).transfer.next ≡ Try second ExchangeState) (hit : words State ≡ (views i).transfer.loaded.state) where
   s : StackState
   s = ghosts.states (state_tag words)
@@ -128,10 +128,10 @@ module _ (sizes : Sizes) (words new : Words) (views after : ProcessViews) (histo
       let gives = installed_next sizes words (transfers views) ghosts.states i second shape li h.stack e hit in
       let said = says_nothing (reply_of ((planned_state s v).reply o)) (third_of_three _ _ _ f) in
       few_at sizes words views history ghosts (λ k. slice_index v.loaded.announcements k) o shape lo h
-          (installs_next sizes words views history ghosts i second shape li h e hit).present
+      (installs_next sizes words views history ghosts i second shape li h e hit).present
       (first_of_three (is_pending word (s.reply o)) (is_take (announced_wish word)) (is_nothing (reply_of ((planned_state s v).reply o))) f)
-          (second_of_three (is_pending word (s.reply o)) (is_take (announced_wish word))
-          (is_nothing (reply_of ((planned_state s v).reply o))) f)
+      (second_of_three (is_pending word (s.reply o)) (is_take (announced_wish word))
+      (is_nothing (reply_of ((planned_state s v).reply o))) f)
       (ap reply_of (sym (gives.next.reply o lo)) ∙ said)
 
   knew : (o : ℕ) → o < sizes.processes → KnowsOfNothing s o (views o).transfer (with_ledger i g ghosts.ledgers o)
@@ -150,15 +150,17 @@ module _ (sizes : Sizes) (words new : Words) (views after : ProcessViews) (histo
       let row = (installs_next sizes words views history ghosts i second shape li h e hit).row in
       let now = present_installed sizes v words new ghosts.states second row acted e hit in
       rw now (knows_by s v o (views o).transfer (after o).transfer (with_ledger i g ghosts.ledgers o)
-          (is_pending (slice_index v.loaded.announcements o) (s.reply o)) refl
+      (is_pending (slice_index v.loaded.announcements o) (s.reply o)) refl
       (λ p. (gives.pending o lo p).word)
-          (λ off. gives.next.reply o lo ∙ reply_stays (λ k. slice_index v.loaded.announcements k) s sizes.processes o off) (since o lo)
-          (knew o lo))
+      (λ off. gives.next.reply o lo ∙ reply_stays (λ k. slice_index v.loaded.announcements k) s sizes.processes o off) (since o lo)
+      (knew o lo))
 
   pub step_installs : Meets sizes new after history
-  step_installs =
-      (_, step_made sizes words new views after history ghosts i x g (finds_nothing s (views i).transfer) shape li h acted moved made
-      found_few knows)
+  step_installs = (
+    _,
+    step_made sizes words new views after history ghosts i x g (finds_nothing s (views i).transfer) shape li h acted moved made
+        found_few knows,
+  )
 
 -- every step of a transfer
 pub transfer_step_holds : (sizes : Sizes) (words new : Words) (views after : ProcessViews) (history : List Entry) (ghosts : Ghosts) (i : ℕ)
@@ -168,9 +170,9 @@ pub transfer_step_holds : (sizes : Sizes) (words new : Words) (views after : Pro
     → Made sizes words history ghosts i (views i) x g → Meets sizes new after history
 transfer_step_holds sizes words new views after history ghosts i x g shape li h acted moved made =
     elim (exchanging (views i).transfer.next) [
-  | inl at ↦ elim (cases_eq (words State) (views i).transfer.loaded.state) [
-    | inl hit ↦ step_installs sizes words new views after history ghosts i x g shape li h acted moved made at.0 at.1 hit
-    | inr ne ↦ step_stays sizes words new views after history ghosts i x g shape li h acted moved made (λ second is hit. ne hit)
-  ]
-  | inr not ↦ step_stays sizes words new views after history ghosts i x g shape li h acted moved made (λ second is hit. not second is)
-]
+      | inl at ↦ elim (cases_eq (words State) (views i).transfer.loaded.state) [
+        | inl hit ↦ step_installs sizes words new views after history ghosts i x g shape li h acted moved made at.0 at.1 hit
+        | inr ne ↦ step_stays sizes words new views after history ghosts i x g shape li h acted moved made (λ second is hit. ne hit)
+      ]
+      | inr not ↦ step_stays sizes words new views after history ghosts i x g shape li h acted moved made (λ second is hit. not second is)
+    ]

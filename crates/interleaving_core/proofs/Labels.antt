@@ -1,5 +1,5 @@
 -- labels fit the next steps
-use Rattle.std.proofs.Common.{◌≡◌, ℕ, ◌<◌, ◌⊎◌, Bool, true, false, Option, None, Some, List, refl, ap, inl, inr, arith}
+use Rattle.std.proofs.Common.{◌≡◌, ℕ, ◌<◌, ◌⊎◌, Bool, true, false, Option, None, Some, List, refl, sym, ap, subst, inl, inr, arith}
 use Rattle.std.specs.Prelude.{if◌then◌else◌}
 use Rattle.word_layout.specs.Sizes.{Sizes}
 use Rattle.word_layout.specs.Names.{word_at}
@@ -24,12 +24,15 @@ use Rattle.pool_machine.specs.declared.phase.Phase.TheVariants as phase
 use Rattle.transfer_machine.specs.declared.transfer.TransferView.{TransferView}
 use Rattle.pool_machine.specs.declared.view.PoolView.{PoolView}
 use Rattle.pool_machine.specs.declared.view.ProcessView.{ProcessView}
-use Rattle.pool_machine.specs.OwnSteps.{next_block, allocate_action, allocate_kind, own_action_for, own_kind_for}
-use Rattle.pool_machine.specs.Steps.{call_action_at}
-use Rattle.interleaving_core.specs.LabelLaws.{KindFits, TransferKindsFit, NextKindsFit, TurnFits, TurnsFit, PhaseFits, PhasesFit}
+use Rattle.pool_machine.specs.OwnSteps.{next_block, allocate_action, allocate_answer, allocate_kind}
+use Rattle.pool_machine.specs.OwnSteps.{own_action_for, own_answer_for, own_kind_for}
+use Rattle.pool_machine.specs.Steps.{call_action_at, call_answer_at, call_answer, happened}
+use Rattle.pool_machine.specs.declared.event.Happened.TheVariants.{Step}
+use Rattle.interleaving_core.specs.LabelLaws.{KindFits, TransferKindsFit, NextKindsFit, TurnFits, TurnsFit}
+use Rattle.interleaving_core.specs.LabelLaws.{AnswerFits, AnswersFit, PhaseFits, PhasesFit}
 use Rattle.interleaving_core.specs.LabelLaws.{is_moving, WaitingFits, WaitingsFit}
 use Rattle.interleaving_core.specs.Moves.{CoreState, view_at}
-use Rattle.interleaving_core.specs.Steps.{is_alone, is_busy, is_in_call, call_kind_at, next_action, next_kind}
+use Rattle.interleaving_core.specs.Steps.{is_alone, is_busy, is_in_call, call_kind_at, next_action, next_answer, next_kind}
 use Rattle.interleaving_core.proofs.Standing.{fresh_rests, alone_between}
 use Rattle.interleaving_core.proofs.Runs.{RunFits}
 use Rattle.interleaving_core.proofs.CallLaws.{every_run}
@@ -109,6 +112,38 @@ next_fits sizes v false alone busy =
 
 pub next_kinds_fit : NextKindsFit
 next_kinds_fit sizes v busy = next_fits sizes v (is_alone v.calls.way) refl busy
+
+-- the answer of a step
+allocate_answers : (v : ProcessView) (by : ℕ) (block : Option ℕ) → next_kind v ≡ allocate_kind block
+    → AnswerFits v (happened (allocate_kind block) (allocate_answer by block))
+allocate_answers v by None e = (sym e, refl)
+allocate_answers v by (Some block) e = (sym e, refl)
+
+own_answers : (v : ProcessView) (word : ℕ) (call : Option Call) → v.calls.call ≡ call → next_kind v ≡ own_kind_for v.pool call
+    → AnswerFits v (happened (own_kind_for v.pool call) (own_answer_for v.transfer.number v.pool word call))
+own_answers v word None none e = λ some. absurd (some none)
+own_answers v word (Some Allocate) is e = allocate_answers v v.transfer.number (next_block v.pool) e
+own_answers v word (Some (Free block)) is e = (sym e, refl)
+own_answers v word (Some (Read block place)) is e = λ some. e
+own_answers v word (Some (Write block place value)) is e = e
+
+call_answers : (v : ProcessView) (word : ℕ) (stage : CallStage) → v.calls.stage ≡ stage → is_alone v.calls.way ≡ false
+    → is_in_call stage ≡ true → AnswerFits v (call_answer_at v word stage)
+call_answers v word Between e calls inside = absurd (grind arith)
+call_answers v word Moving e calls inside = rw (calls, e) refl
+call_answers v word Own e calls inside = own_answers v word v.calls.call refl (rw (calls, e) refl)
+
+next_answers : (v : ProcessView) (word : ℕ) (t : Bool) → is_alone v.calls.way ≡ t → is_busy v ≡ true → AnswerFits v (next_answer v word)
+next_answers v word true alone busy = rw alone (rw alone refl)
+next_answers v word false alone busy =
+    let inside : is_in_call v.calls.stage ≡ true = rw alone at busy in
+    answer_calls (call_answers v word v.calls.stage refl alone inside)
+  where
+    answer_calls : AnswerFits v (call_answer_at v word v.calls.stage) → AnswerFits v (next_answer v word)
+    answer_calls fits = subst (AnswerFits v) (sym (ap (λ t. if t then Step (kind_of v.transfer.next) else call_answer v word) alone)) fits
+
+pub answers_fit : AnswersFit
+answers_fit v word busy = next_answers v word (is_alone v.calls.way) refl busy
 
 -- what a process is at
 in_both : {t : Bool} → t ≡ false → t ≡ true → ⊥

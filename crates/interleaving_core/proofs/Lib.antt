@@ -16,6 +16,7 @@ pub mod OwnSteps
 pub mod OwnAllowed
 pub mod Holds
 pub mod Tables
+pub mod Surface
 pub mod Holders
 pub mod Runs
 pub mod RunTurns

@@ -61,8 +61,11 @@ opening_holds sizes words views shape opening seats = (
         (knows_opening (opening_state sizes) sizes i (opening_ledger sizes.length (transfer_bound sizes) sizes.quantum));
     names = λ i li. rw (seats i li) tt;
     data_words =
-        λ i li. record { holds = λ block index value e. absurd (grind arith); within = λ block index value e. absurd (grind arith);
-        value = λ block index value e. absurd (grind arith) };
+        λ i li. record {
+          holds = λ block index value e. absurd (grind arith);
+          within = λ block index value e. absurd (grind arith);
+          value = λ block index value e. absurd (grind arith);
+        };
   },
 )
 
@@ -93,4 +96,4 @@ content_said sizes list views history whole (ghosts, h) =
     let shows = tables_show sizes list (transfers views) ghosts.states h.stack in
     let fits = h.stack.transfers.records.states_fit (state_tag words) (omega arith) in
     said sizes list (present words ghosts.states) whole
-        (row_said sizes list (current_low sizes words ghosts.states h.stack.transfers.records.current)) shows fits
+    (row_said sizes list (current_low sizes words ghosts.states h.stack.transfers.records.current)) shows fits

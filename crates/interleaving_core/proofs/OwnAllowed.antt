@@ -36,12 +36,12 @@ module _ (sizes : Sizes) (words : Words) (views : ProcessViews) (history : List 
   allocate_can : (t u : Bool) → nat_lt 0 (views i).pool.plan.current ≡ t → nat_lt 0 (views i).pool.plan.spares ≡ u
       → CanAllocate sizes (views i).pool (if t then source.Current else (if u then source.Spare else source.Nothing))
       × CanFollow (words (name_of
-          (allocate_action (block_from (views i).pool (if t then source.Current else (if u then source.Spare else source.Nothing))))))
-          (if t then source.Current else (if u then source.Spare else source.Nothing))
+      (allocate_action (block_from (views i).pool (if t then source.Current else (if u then source.Spare else source.Nothing))))))
+      (if t then source.Current else (if u then source.Spare else source.Nothing))
   allocate_can true u et eu =
       let some = some_left (views i).pool.plan.current et in
       let lists = current_lists_are_free sizes words (ghosts.states (state_tag words)) views (held_in ghosts.ledgers) i d.low d.holds.chains
-          in
+      in
       let first = lists.1 (λ e. omega arith) in
       let free = lists.2 (λ e. omega arith) in
       let next = lists.3 (λ e. omega arith) in
@@ -49,7 +49,7 @@ module _ (sizes : Sizes) (words : Words) (views : ProcessViews) (history : List 
   allocate_can false true et eu =
       let some : 1 ≤ length (views i).pool.heads = omega (arith, d.goes.heads, some_left (views i).pool.plan.spares eu) in
       let spare = spares_are_free sizes words (ghosts.states (state_tag words)) views (held_in ghosts.ledgers) i
-          (length (views i).pool.heads - 1) d.shape d.low d.holds.chains (omega (arith, some)) in
+      (length (views i).pool.heads - 1) d.shape d.low d.holds.chains (omega (arith, some)) in
       ((some, spare.0.low), omega (arith, spare.1, d.shape.few_blocks))
   allocate_can false false et eu = (tt, tt)
 
@@ -67,7 +67,7 @@ module _ (sizes : Sizes) (words : Words) (views : ProcessViews) (history : List 
   free_can : (block : ℕ) → (views i).calls.call ≡ Some (Free block) → CanOwnFor sizes (views i).pool (Some (Free block))
   free_can block call =
       (own_can_at sizes words (ghosts.states (state_tag words)) views (held_in ghosts.ledgers) i d.shape d.low d.holds.chains d.goes.heads
-          (Some (Free block)) d.goes.runs.kept.batch d.goes.runs.kept.room
+      (Some (Free block)) d.goes.runs.kept.batch d.goes.runs.kept.room
       (rw call at (names sizes words views history ghosts i d)) (free_room block call)).0
 
   held_low : (block : ℕ) → Contains (held_in ghosts.ledgers i) block → block < blocks sizes
@@ -89,4 +89,4 @@ pub own_step_allowed : (sizes : Sizes) (words : Words) (views : ProcessViews) (h
     → CanOwn sizes (views i) × CanMeetOwn (views i) (words (name_of (own_action (views i))))
 own_step_allowed sizes words views history ghosts i shape li h ne own =
     own_can sizes words views history ghosts i (due_of sizes words views history ghosts i shape li h ne own) (views i).calls.call refl
-        (h.names i li)
+    (h.names i li)

@@ -145,7 +145,7 @@ others_words_stay sizes words new pool held others (Some (Read block index)) low
     loads_data sizes block index words new others low a
 others_words_stay sizes words new pool held others (Some (Write block index value)) low apart names a =
     acts_apart sizes (Store (Data block index) value) words new others low
-        (λ b k has. λ e. apart block names.0 (rw (sym (same_block b k block index e)) has)) a
+    (λ b k has. λ e. apart block names.0 (rw (sym (same_block b k block index e)) has)) a
 
 -- a process that loaded or stored a data word knows it
 knows_word : (sizes : Sizes) (words new : Words) (held : List ℕ) (known : Known) (block index seen : ℕ) → DataHolds sizes words held known
@@ -192,13 +192,13 @@ own_data sizes words new pool held known None low names a h =
     data_stays sizes words new held held known h (acts_apart sizes (Load State) words new held low (λ b k has. λ e. cc) a) (λ b has. has)
 own_data sizes words new pool held known (Some Allocate) low names a h =
     data_stays sizes words new held (with_got (next_block pool) held) known h (allocate_apart sizes words new held (next_block pool) low a)
-        (λ b has. got_too (next_block pool) held b has)
+    (λ b has. got_too (next_block pool) held b has)
 own_data sizes words new pool held known (Some (Free block)) low names a h =
     knows_others sizes words new held known block h
-        (acts_apart sizes (own_action_for pool (Some (Free block))) words new held low (λ b k has. λ e. cc) a)
+    (acts_apart sizes (own_action_for pool (Some (Free block))) words new held low (λ b k has. λ e. cc) a)
 own_data sizes words new pool held known (Some (Read block index)) low names a h =
     knows_word sizes words new held known block index (words (Data block index)) h names.0 names.1 a.here
-        (λ b k has lt apart. loads_data sizes block index words new held low a b k has lt)
+    (λ b k has lt apart. loads_data sizes block index words new held low a b k has lt)
 own_data sizes words new pool held known (Some (Write block index value)) low names a h =
     knows_word sizes words new held known block index value h names.0 names.1 a.here
-        (λ b k has lt apart. stored_elsewhere sizes block index value words new b k (low b has) lt apart a)
+    (λ b k has lt apart. stored_elsewhere sizes block index value words new b k (low b has) lt apart a)

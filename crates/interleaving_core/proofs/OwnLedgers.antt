@@ -101,12 +101,12 @@ module _ (sizes : Sizes) (words : Words) (views : ProcessViews) (history : List 
       (with_ledger i (ledger_allocated history i (Some block) (ghosts.ledgers i)) ghosts.ledgers)
   got_history block call e =
       let free = got_is_free sizes words (ghosts.states (state_tag words)) views (held_in ghosts.ledgers) i d.shape d.low d.holds.chains
-          d.goes.heads block e in
+      d.goes.heads block e in
       let ledger = ghosts.ledgers i in
       entry_kept (limits_of sizes) (transfer_bound sizes) sizes.quantum history ghosts.ledgers _ (Got i block) i (got_one ledger.account)
-          d.low d.holds.entries refl
+      d.low d.holds.entries refl
       (got_owes (limits_of sizes) (transfer_bound sizes) sizes.quantum history i block ledger d.low (d.holds.entries.each i d.low)
-          (is_own (Some Allocate) call refl)
+      (is_own (Some Allocate) call refl)
       (rw d.goes.plan (block_has_source (views i).pool block e)) free.low (unheld_block block free))
       (replaced_with i _ ghosts.ledgers)
 
@@ -116,9 +116,9 @@ module _ (sizes : Sizes) (words : Words) (views : ProcessViews) (history : List 
   refused_history call e =
       let ledger = ghosts.ledgers i in
       entry_kept (limits_of sizes) (transfer_bound sizes) sizes.quantum history ghosts.ledgers _ (Dry i) i (got_none ledger.account) d.low
-          d.holds.entries refl
+      d.holds.entries refl
       (refusal_owes (limits_of sizes) (transfer_bound sizes) sizes.quantum history i ledger d.scheduled.fit d.low
-          (d.holds.entries.each i d.low) (is_own (Some Allocate) call refl)
+      (d.holds.entries.each i d.low) (is_own (Some Allocate) call refl)
       (rw d.goes.plan (no_block_has_none (views i).pool e)))
       (replaced_with i _ ghosts.ledgers)
 
@@ -129,10 +129,10 @@ module _ (sizes : Sizes) (words : Words) (views : ProcessViews) (history : List 
   back_history block call =
       let ledger = ghosts.ledgers i in
       entry_kept (limits_of sizes) (transfer_bound sizes) sizes.quantum history ghosts.ledgers _ (Back i block) i (gave_back ledger.account)
-          d.low d.holds.entries refl
+      d.low d.holds.entries refl
       (back_owes (limits_of sizes) (transfer_bound sizes) sizes.quantum history i block ledger d.low
-          (legal_shared (limits_of sizes) history d.holds.entries.legal) (d.holds.entries.each i d.low)
-          (is_own (Some (Free block)) call refl)
+      (legal_shared (limits_of sizes) history d.holds.entries.legal) (d.holds.entries.each i d.low)
+      (is_own (Some (Free block)) call refl)
       (rw call at names))
       (replaced_with i _ ghosts.ledgers)
 

@@ -83,7 +83,7 @@ stack_stays sizes words new i x views after states moved same stay h =
 module _ (sizes : Sizes) (words new : Words) (views after : ProcessViews) (history : List Entry) (ghosts : Ghosts) (i : ℕ)
     (d : OwnDue sizes words views history ghosts i)
     (acted : Acted sizes (own_action (views i)) words new)
-        (moved : MovedProcess i (own_met (views i) (words (name_of (own_action (views i))))) views after) where
+    (moved : MovedProcess i (own_met (views i) (words (name_of (own_action (views i))))) views after) where
   stack_words : StackWordsStay sizes words new
   stack_words = own_leaves_stack sizes words new (views i).pool (views i).calls.call acted
 
@@ -127,7 +127,7 @@ module _ (sizes : Sizes) (words new : Words) (views after : ProcessViews) (histo
       let word = words (name_of (own_action (views i))) in
       let g = ledger_by_call history i (views i).pool (views i).calls.call (ghosts.ledgers i) in
       uses_calls sizes i (own_met (views i) word) g (views i).calls.way d.goes.way
-          (own_goes sizes i word (views i) (ghosts.ledgers i) history (views i).calls.call d.goes d.scheduled d.own refl)
+      (own_goes sizes i word (views i) (ghosts.ledgers i) history (views i).calls.call d.goes d.scheduled d.own refl)
 
   own_finds : KnowsOfNothing (ghosts.states (state_tag words)) i (views i).transfer
       (ledger_by_call history i (views i).pool (views i).calls.call (ghosts.ledgers i))
@@ -139,13 +139,13 @@ module _ (sizes : Sizes) (words new : Words) (views after : ProcessViews) (histo
       (known_by_call (words (name_of (own_action (views i)))) (views i).calls.call (ghosts.known i))
   own_knows = rw (grip_by_call history i (views i).pool (views i).calls.call (ghosts.ledgers i))
       (own_data sizes words new (views i).pool (held_in ghosts.ledgers i) (ghosts.known i) (views i).calls.call (held_low i d.low)
-          (d.holds.names i d.low) acted (d.holds.data_words i d.low))
+      (d.holds.names i d.low) acted (d.holds.data_words i d.low))
 
   other_knows : (o : ℕ) → o < sizes.processes → o ≢ i → DataHolds sizes new (held_in ghosts.ledgers o) (ghosts.known o)
   other_knows o lo ne =
       data_stays sizes words new (held_in ghosts.ledgers o) (held_in ghosts.ledgers o) (ghosts.known o) (d.holds.data_words o lo)
       (others_words_stay sizes words new (views i).pool (held_in ghosts.ledgers i) (held_in ghosts.ledgers o) (views i).calls.call
-          (held_low o lo) (held_once o lo ne) (d.holds.names i d.low) acted) (λ b has. has)
+      (held_low o lo) (held_once o lo ne) (d.holds.names i d.low) acted) (λ b has. has)
 
   -- the whole invariant
   own_keeps : Holds sizes new after
@@ -196,6 +196,8 @@ pub own_step_holds : (sizes : Sizes) (words new : Words) (views after : ProcessV
     → MovedProcess i (own_met (views i) (words (name_of (own_action (views i))))) views after
     → Meets sizes new after
     (history ++ entries_of (happened (own_kind (views i)) (own_answer (views i) (words (name_of (own_action (views i)))))))
-own_step_holds sizes words new views after history ghosts i shape li h ne own acted moved =
-    (own_ghosts history i (views i) (words (name_of (own_action (views i)))) ghosts, own_step_leaves sizes words new views after history
-        ghosts i shape li h ne own acted moved)
+own_step_holds sizes words new views after history ghosts i shape li h ne own acted moved = (
+  own_ghosts history i (views i) (words (name_of (own_action (views i)))) ghosts,
+  own_step_leaves sizes words new views after history
+      ghosts i shape li h ne own acted moved,
+)

@@ -125,8 +125,8 @@ own_leaves sizes v word false Own alone here busy not = rw (alone, here) refl
 MoveContent : CoreState → ℕ → ProcessView → Type 0
 MoveContent s by v =
     LeavesContent s (with_step by v s)
-        ⊎ (IsExchange v.transfer.next
-        × ((announcements : ℕ → ℕ) × ((t : StackState) × AppliesPending s (with_step by v s) announcements t)))
+    ⊎ (IsExchange v.transfer.next
+    × ((announcements : ℕ → ℕ) × ((t : StackState) × AppliesPending s (with_step by v s) announcements t)))
 
 -- of a process among these views, which are those of the moment but for what it has begun
 module _
@@ -140,7 +140,7 @@ module _
     (h : Holds s.sizes (word_at s.sizes s.words) views history ghosts)
     (acted : Acted s.sizes (next_action s.sizes (views by)) (word_at s.sizes s.words) (word_at s.sizes (with_step by (views by) s).words))
     (moved : MovedProcess by (next_met s.sizes (views by) (met_word s.sizes s.words (next_action s.sizes (views by)))) views
-        (view_at (with_step by (views by) s)))
+    (view_at (with_step by (views by) s)))
     (ages : (o : ℕ) → (views o).transfer.age ≡ announced_count s o)
   where
     transfer_content : moves_transfer (views by) ≡ true → MoveContent s by (views by)
@@ -153,12 +153,12 @@ module _
         let action = moves_action s.sizes v (is_alone v.calls.way) v.calls.stage refl refl moves in
         let acts = subst (λ (a : Action). Acted s.sizes a words new) action acted in
         let met = moves_met s.sizes v (met_word s.sizes s.words (next_action s.sizes v)) (is_alone v.calls.way) v.calls.stage refl refl
-            moves
+        moves
         ∙ ap (λ (a : Action). met_of s.sizes v.transfer (words (name_of a))) action in
         let goes = subst (λ (x : TransferView). Moved by x (transfers views) (transfers (view_at now))) met
-            (transfers_move by _ views (view_at now) moved) in
+        (transfers_move by _ views (view_at now) moved) in
         let kept = steps_keep_stack s.sizes words new (transfers views) (transfers (view_at now)) ghosts.states by shape li h.stack
-            (supplied s.sizes words views history ghosts by shape li h) acts goes in
+        (supplied s.sizes words views history ghosts by shape li h) acts goes in
         let old_shown = holds_show s (transfers views) ghosts.states h.stack (λ o lo. ages o) in
         let new_shown = holds_show now (transfers (view_at now)) (states_after words v.transfer ghosts.states) kept (λ o lo. refl) in
         step_content s now refl by (transfers views) (transfers (view_at now)) ghosts.states shape li h.stack kept acts old_shown new_shown
@@ -171,16 +171,16 @@ module _
         let words = word_at s.sizes s.words in
         let new = word_at s.sizes now.words in
         let acts = subst (λ (a : Action). Acted s.sizes a words new)
-            (own_acts s.sizes v (is_alone v.calls.way) v.calls.stage refl refl busy not) acted in
+        (own_acts s.sizes v (is_alone v.calls.way) v.calls.stage refl refl busy not) acted in
         let stay : StackWordsStay s.sizes words new = own_leaves_stack s.sizes words new v.pool v.calls.call acts in
         let met = own_leaves s.sizes v (met_word s.sizes s.words (next_action s.sizes v)) (is_alone v.calls.way) v.calls.stage refl refl
-            busy not in
+        busy not in
         let kept = stack_stays s.sizes words new by _ views (view_at now) ghosts.states moved met stay h.stack in
         let tag : state_tag new ≡ state_tag words = (records_stay s.sizes words new stay).state in
         let old_shown = holds_show s (transfers views) ghosts.states h.stack (λ o lo. ages o) in
         let new_shown = holds_show now (transfers (view_at now)) ghosts.states kept (λ o lo. refl) in
         inl (both_shown s now (present words ghosts.states) refl old_shown
-            (subst (λ (n : ℕ). ShowsState now (ghosts.states n)) tag new_shown))
+        (subst (λ (n : ℕ). ShowsState now (ghosts.states n)) tag new_shown))
 
     either_content : is_busy (views by) ≡ true → (t : Bool) → moves_transfer (views by) ≡ t → MoveContent s by (views by)
     either_content busy true moves = transfer_content moves
@@ -200,22 +200,22 @@ made_content s history turn fits made =
     let (ghosts, h) = meets in
     let here : views by ≡ v = get_or-set_same s.views by v (opening_view s.sizes by) low in
     let moved = subst (λ (w : ProcessView). MovedProcess by (next_met s.sizes w (met_word s.sizes s.words (next_action s.sizes w))) views
-        (view_at (with_step by w s))) (sym here)
+    (view_at (with_step by w s))) (sym here)
     (moved_twice s.sizes s.views by v (next_met s.sizes v (met_word s.sizes s.words (next_action s.sizes v))) low) in
     let busy = subst (λ (w : ProcessView). is_busy w ≡ true) (sym here) (turn_busy s history turn fits made li) in
     let allowed = step_allowed s.sizes words views history by fits.shape li meets busy in
     let does = table_acted s.sizes s.words (next_action s.sizes (views by)) fits.whole
-        (next_in_range s.sizes words (views by) (is_alone (views by).calls.way) refl allowed) in
+    (next_in_range s.sizes words (views by) (is_alone (views by).calls.way) refl allowed) in
     subst (MoveContent s by) here
-        (either_content s by views history ghosts fits.shape li h does moved (λ o. ages_of s.sizes s.views by v low (turning_age turn s) o)
-        busy (moves_transfer (views by)) refl)
+    (either_content s by views history ghosts fits.shape li h does moved (λ o. ages_of s.sizes s.views by v low (turning_age turn s) o)
+    busy (moves_transfer (views by)) refl)
 
 -- a turn that isn't made changes nothing
 content_of_turn : (s : CoreState) (history : List Entry) (turn : Turn) (t : Bool) → RunFits s history → is_made turn s ≡ t
     → LeavesContent s (if t then with_step (by_of turn) (turning_view turn s) s else s)
     ⊎ (IsExchange (next_step s (by_of turn))
-        × ((announcements : ℕ → ℕ)
-        × ((u : StackState) × AppliesPending s (if t then with_step (by_of turn) (turning_view turn s) s else s) announcements u)))
+    × ((announcements : ℕ → ℕ)
+    × ((u : StackState) × AppliesPending s (if t then with_step (by_of turn) (turning_view turn s) s else s) announcements u)))
 unfolding MoveContent
 content_of_turn s history turn true fits made =
     elim (made_content s history turn fits made) [

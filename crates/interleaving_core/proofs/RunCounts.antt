@@ -151,9 +151,9 @@ turning_moves s history turn fits made moves =
     let li = turn_low s turn made in
     let (ghosts, h) = turn_meets s history turn fits made li in
     let here : get_or (set s.views i v) i (opening_view s.sizes i) ≡ v = get_or-set_same s.views i v (opening_view s.sizes i)
-        (rw fits.seats li) in
+    (rw fits.seats li) in
     let uses : UsesPool s.sizes i v (ghosts.ledgers i) = subst (λ (w : ProcessView). UsesPool s.sizes i w (ghosts.ledgers i)) here
-        (h.pools i li) in
+    (h.pools i li) in
     in_transfer s.sizes i v (ghosts.ledgers i) (is_alone v.calls.way) refl uses (turn_busy s history turn fits made li) moves
 
 -- what a turn begins has made no step

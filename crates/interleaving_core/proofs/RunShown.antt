@@ -87,7 +87,7 @@ module _
     step_leaves not =
         let same = present_stays s.sizes (views i) (word_at s.sizes s.words) (word_at s.sizes now.words) states step_acted not in
         both_shown s now (present (word_at s.sizes s.words) states) sizes_stay old_shown
-            (subst (λ (t : StackState). ShowsState now t) same new_shown)
+        (subst (λ (t : StackState). ShowsState now t) same new_shown)
 
     step_applies : (second : Bool) → (views i).next ≡ Try second ExchangeState → word_at s.sizes s.words State ≡ (views i).loaded.state
         → AppliesPending s now (λ o. slice_index (views i).loaded.announcements o) (present (word_at s.sizes s.words) states)
@@ -102,7 +102,7 @@ module _
         let row = row_fits s.sizes words i v shape.few_processes li (h.transfers.records.own i li) in
         let made = present_installed s.sizes v words new states second row step_acted e hit in
         let same : SameState s.sizes.processes t2 (next_of s.sizes.processes heard t) = subst
-            (λ (z : StackState). SameState s.sizes.processes z (next_of s.sizes.processes heard t)) (sym made) gives.next in
+        (λ (z : StackState). SameState s.sizes.processes z (next_of s.sizes.processes heard t)) (sym made) gives.next in
         record {
           old = old_shown;
           present = λ o lo is.
@@ -114,8 +114,8 @@ module _
           once = λ o lo.
               ap (is_pending (heard o)) (new_shown.replies o (rw sizes_stay lo))
               ∙ applied_once (heard o) (t.reply o) (t2.reply o) (t.applied o) (t2.applied o)
-                  (h.helping.counts.parities o (state_tag words) lo (omega arith))
-                  (k.helping.counts.parities o (state_tag new) lo (omega arith))
+              (h.helping.counts.parities o (state_tag words) lo (omega arith))
+              (k.helping.counts.parities o (state_tag new) lo (omega arith))
               (same.applied o lo ∙ next_applied s.sizes.processes heard t o lo);
         }
 
@@ -123,8 +123,13 @@ module _
         ⊎ (IsExchange (views i).next × ((announcements : ℕ → ℕ) × ((t : StackState) × AppliesPending s now announcements t)))
     step_content = elim (exchanging (views i).next) [
       | inl at ↦ elim (cases_eq (word_at s.sizes s.words State) (views i).loaded.state) [
-        | inl hit ↦ inr (at, ((λ o. slice_index (views i).loaded.announcements o),
-            (present (word_at s.sizes s.words) states, step_applies at.0 at.1 hit)))
+        | inl hit ↦ inr (
+          at,
+          (
+            (λ o. slice_index (views i).loaded.announcements o),
+            (present (word_at s.sizes s.words) states, step_applies at.0 at.1 hit),
+          ),
+        )
         | inr fails ↦ inl (step_leaves (λ second e hit. fails hit))
       ]
       | inr other ↦ inl (step_leaves (λ second e hit. other second e))

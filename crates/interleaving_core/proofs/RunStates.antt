@@ -87,7 +87,7 @@ module _ (s : CoreState) (views : Views) (states : States) (h : StackHolds s.siz
       let own = h.helping.announced o lo in
       let tries = h.helping.tries o lo in
       let calm = λ (e : (present (word_at s.sizes s.words) states).applied o ≡ (views o).age). calm_where_applied (announcement_of s o)
-          (reply_to s o) ((present (word_at s.sizes s.words) states).applied o) (views o).age (parity_is o lo) own.tag e in
+      (reply_to s o) ((present (word_at s.sizes s.words) states).applied o) (views o).age (parity_is o lo) own.tag e in
       ((λ e. calm (own.idle e)), (λ e. calm (tries.ended e)))
 
 pub runs_show_states : RunsShowStates

@@ -25,11 +25,11 @@ transfers_end sizes past [] history s process run low never =
     none_more a b c e h = omega arith
 transfers_end sizes past (turn ∷ more) history s process run low (busy, never) =
     let counts = turn_counts process turn s history (run_fits sizes past history s run) (never_now process more (after_turn turn s) never)
-        in
+    in
     let rest = transfers_end sizes (past ++ turn ∷ []) more (history ++ entries_of (turn_answer turn s)) (after_turn turn s) process
-        (turns past history s turn run) low never in
+    (turns past history s turn run) low never in
     one_less (steps_made s process) (is_step_of process turn s) (steps_of process more (after_turn turn s))
-        (steps_made (after_turn turn s) process) (transfer_bound sizes) counts rest
+    (steps_made (after_turn turn s) process) (transfer_bound sizes) counts rest
   where
     one_less : (a b c d bound : ℕ) → d ≡ a + b → d + c + 1 ≤ bound → a + (b + c) + 1 ≤ bound
     one_less a b c d bound e h = omega arith
@@ -38,11 +38,11 @@ pub whole_transfers_end : WholeTransfersEnd
 unfolding steps_of
 whole_transfers_end sizes past more history s turn process run low rest never =
     let counts = turn_counts process turn s history (run_fits sizes past history s run) (never_now process more (after_turn turn s) never)
-        in
+    in
     let after = transfers_end sizes (past ++ turn ∷ []) more (history ++ entries_of (turn_answer turn s)) (after_turn turn s) process
-        (turns past history s turn run) low never in
+    (turns past history s turn run) low never in
     all_steps (steps_made s process) (is_step_of process turn s) (steps_of process more (after_turn turn s))
-        (steps_made (after_turn turn s) process) (transfer_bound sizes) counts after
+    (steps_made (after_turn turn s) process) (transfer_bound sizes) counts after
   where
     all_steps : (a b c d bound : ℕ) → d ≡ a + b → d + c + 1 ≤ bound → b + c + 1 ≤ bound
     all_steps a b c d bound e after = omega arith

@@ -37,8 +37,14 @@ run_sizes sizes past history s (turns before made old turn run) = turn_sizes tur
 pub run_holds : RunsMeetInvariant
 run_holds sizes past history s run =
     let fits = run_fits sizes past history s run in
-    record { same_sizes = run_sizes sizes past history s run; shape = fits.shape; words = fits.whole; views = fits.seats;
-        holders = fits.holders.size; meets = fits.meets }
+    record {
+      same_sizes = run_sizes sizes past history s run;
+      shape = fits.shape;
+      words = fits.whole;
+      views = fits.seats;
+      holders = fits.holders.size;
+      meets = fits.meets;
+    }
 
 -- more turns of a run
 more_turns : (sizes : Sizes) (past more : List Turn) (history : List Entry) (s : CoreState) → IsRun sizes past history s
@@ -47,9 +53,9 @@ unfolding after_turns entries_made
 more_turns sizes past [] history s run = rw (append-nil past, append-nil history) run
 more_turns sizes past (turn ∷ more) history s run =
     let rest = more_turns sizes (past ++ turn ∷ []) more (history ++ entries_of (turn_answer turn s)) (after_turn turn s)
-        (turns past history s turn run) in
+    (turns past history s turn run) in
     regrouped (append_assoc past (turn ∷ []) more)
-        (append_assoc history (entries_of (turn_answer turn s)) (entries_made more (after_turn turn s))) rest
+    (append_assoc history (entries_of (turn_answer turn s)) (entries_made more (after_turn turn s))) rest
   where
     regrouped : {sizes : Sizes} {a b : List Turn} {c d : List Entry} {s : CoreState} → a ≡ b → c ≡ d → IsRun sizes a c s → IsRun sizes b d s
     regrouped {sizes = sizes} {a = a} {b = b} {c = c} {d = d} {s = s} e f run =
@@ -70,7 +76,7 @@ one_entry [] turn s = append-nil (entries_of (turn_answer turn s))
 one_entry (first ∷ past) turn s =
     ap (λ (more : List Entry). entries_of (turn_answer first s) ++ more) (one_entry past turn (after_turn first s))
     ∙ sym (append_assoc (entries_of (turn_answer first s)) (entries_made past (after_turn first s))
-        (entries_of (turn_answer turn (after_turns past (after_turn first s)))))
+    (entries_of (turn_answer turn (after_turns past (after_turn first s)))))
 
 none_made : (s : CoreState) → s ≡ after_turns [] s
 unfolding after_turns
@@ -114,7 +120,7 @@ busy_go_on s process low busy =
       λ alone wish. is_low process s.sizes.processes
           (may_use_transfers v.calls.way && (not (is_rest v.transfer.next) || (nat_lt v.transfer.age most_age && may_wish wish v.pool))) low
           (moves_on v.calls.way (is_rest v.transfer.next) (nat_lt v.transfer.age most_age && may_wish wish v.pool) alone
-              (rw alone at busy)),
+          (rw alone at busy)),
       λ calls call. is_low process s.sizes.processes
           (is_in_call v.calls.stage || may_call s.sizes (holds_for s.holders process call) call v) low
           (goes_on (is_in_call v.calls.stage) (may_call s.sizes (holds_for s.holders process call) call v) (rw calls at busy)),

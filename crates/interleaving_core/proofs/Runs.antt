@@ -127,7 +127,7 @@ moving_meets : (s : CoreState) (history : List Entry) (i : ℕ) (wish : Wish) (t
     (λ o. get_or (set s.views i (if t then alone_begun wish (view_at s i) else view_at s i)) o (opening_view s.sizes o)) history
 moving_meets s history i wish true fits li may rest =
     alone_begins s.sizes (word_at s.sizes s.words) (view_at s) _ history i wish fits.shape li fits.meets
-        (rests (view_at s i).transfer.next rest) may (moved_seats s.sizes s.views i (alone_begun wish (view_at s i)) (rw fits.seats li))
+    (rests (view_at s i).transfer.next rest) may (moved_seats s.sizes s.views i (alone_begun wish (view_at s i)) (rw fits.seats li))
 moving_meets s history i wish false fits li may rest = rw (set-get_or s.views i (opening_view s.sizes i)) fits.meets
 
 calling_meets : (s : CoreState) (history : List Entry) (i : ℕ) (call : Call) (t : Bool) → RunFits s history → i < s.sizes.processes
@@ -139,7 +139,7 @@ calling_meets s history i call false fits li may inside =
     let v = view_at s i in
     let calls = either_may (is_in_call v.calls.stage) (may_call s.sizes (holds_for s.holders i call) call v) inside may in
     call_begins s.sizes (word_at s.sizes s.words) (view_at s) _ history i call (holds_for s.holders i call) fits.shape li fits.meets
-        (between_calls v.calls.stage inside) calls
+    (between_calls v.calls.stage inside) calls
     (truly_held s.sizes history s.holders i call fits.holders) (moved_seats s.sizes s.views i (call_begun call v) (rw fits.seats li))
 
 -- a process that turns has a next step
@@ -182,12 +182,12 @@ turn_busy s history (Moves by wish) fits made li =
     let v = view_at s by in
     let may = both_may (nat_lt by s.sizes.processes) (may_go_alone wish v) made in
     moving_busy wish v v.calls.way (is_rest v.transfer.next) refl
-        (fresh_rests s.sizes (word_at s.sizes s.words) (view_at s) history by li fits.meets) refl
-        (first_may (may_use_transfers v.calls.way) _ may)
+    (fresh_rests s.sizes (word_at s.sizes s.words) (view_at s) history by li fits.meets) refl
+    (first_may (may_use_transfers v.calls.way) _ may)
 turn_busy s history (Events by call) fits made li =
     let v = view_at s by in
     calling_busy call v v.calls.way (is_in_call v.calls.stage) refl
-        (alone_between s.sizes (word_at s.sizes s.words) (view_at s) history by li fits.meets) refl
+    (alone_between s.sizes (word_at s.sizes s.words) (view_at s) history by li fits.meets) refl
 
 pub turn_low : (s : CoreState) (turn : Turn) → is_made turn s ≡ true → by_of turn < s.sizes.processes
 turn_low s (Moves by wish) made = both_low by s.sizes.processes (may_go_alone wish (view_at s by)) made
@@ -207,7 +207,7 @@ made_fits s history turn fits made =
     let begun = turn_meets s history turn fits made li in
     let here : get_or xs by (opening_view s.sizes by) ≡ v = get_or-set_same s.views by v (opening_view s.sizes by) low in
     let stepped = table_step s.sizes s.words (λ o. get_or xs o (opening_view s.sizes o))
-        (λ o. get_or (set s.views by x) o (opening_view s.sizes o)) history by fits.shape fits.whole li begun in
+    (λ o. get_or (set s.views by x) o (opening_view s.sizes o)) history by fits.shape fits.whole li begun in
     let met = (rw here at stepped) (turn_busy s history turn fits made li) (moved_twice s.sizes s.views by v x low) in
     record {
       shape = fits.shape;
@@ -277,8 +277,8 @@ pub run_ignores : (sizes : Sizes) (past : List Turn) (history : List Entry) (s :
     → IsRun sizes past history s → IsRun sizes (past ++ turn ∷ []) (history ++ []) s
 run_ignores sizes past history s turn made run =
     subst (λ (b : Bool). IsRun sizes (past ++ turn ∷ [])
-        (history ++ entries_of (if b then step_answer (turning_view turn s) s else Ignored))
-        (if b then with_step (by_of turn) (turning_view turn s) s else s)) made (turns past history s turn run)
+    (history ++ entries_of (if b then step_answer (turning_view turn s) s else Ignored))
+    (if b then with_step (by_of turn) (turning_view turn s) s else s)) made (turns past history s turn run)
 
 pub run_makes : (sizes : Sizes) (past : List Turn) (history : List Entry) (s : CoreState) (turn : Turn) → is_made turn s ≡ true
     → IsRun sizes past history s
@@ -286,8 +286,8 @@ pub run_makes : (sizes : Sizes) (past : List Turn) (history : List Entry) (s : C
     (with_step (by_of turn) (turning_view turn s) s)
 run_makes sizes past history s turn made run =
     subst (λ (b : Bool). IsRun sizes (past ++ turn ∷ [])
-        (history ++ entries_of (if b then step_answer (turning_view turn s) s else Ignored))
-        (if b then with_step (by_of turn) (turning_view turn s) s else s)) made (turns past history s turn run)
+    (history ++ entries_of (if b then step_answer (turning_view turn s) s else Ignored))
+    (if b then with_step (by_of turn) (turning_view turn s) s else s)) made (turns past history s turn run)
 
 -- a process of a run, which is to make a turn
 pub run_made : (s now : CoreState) (turn : Turn) (b : Bool) → s ≡ now → b ≡ is_made turn now → b ≡ true → is_made turn s ≡ true
@@ -357,4 +357,4 @@ pub may_go_here : (s t : CoreState) (history : List Entry) (by : ℕ) (call : Ca
 may_go_here s t history by call v b holds e fits low here held may =
     let among = is_low by s.sizes.processes low in
     rw (sym e) (rw among (may ∙ ap (λ h. may_go s.sizes h call v) held ∙ ap (may_go s.sizes (holds_for s.holders by call) call)
-        (seat_here s history by v fits low here)))
+    (seat_here s history by v fits low here)))

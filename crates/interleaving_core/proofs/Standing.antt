@@ -49,7 +49,7 @@ pub fresh_rests : (sizes : Sizes) (words : Words) (views : ProcessViews) (histor
     → is_rest (views i).transfer.next ≡ true
 fresh_rests sizes words views history i li (ghosts, h) fresh =
     let calls = calls_used sizes i (views i) (ghosts.ledgers i) (views i).calls.way (λ e. fresh_is_not_alone (views i).calls.way fresh e)
-        (h.pools i li) in
+    (h.pools i li) in
     ap (λ v. is_rest v.transfer.next) (calls.fresh fresh).view
   where
     fresh_is_not_alone : (way : Way) → way ≡ Fresh → way ≡ Alone → ⊥
@@ -105,11 +105,11 @@ wish_fits_at sizes words views history ghosts i (Give head) shape li h may =
     let last = length heads - 1 in
     let spares = (views i).pool.plan.spares in
     let any : 0 < length heads = less 0 (length heads)
-        (both_first (nat_lt 0 (length heads)) (nat_le 1 spares && (slice_index heads last == head)) may) in
+    (both_first (nat_lt 0 (length heads)) (nat_le 1 spares && (slice_index heads last == head)) may) in
     let both = both_second (nat_lt 0 (length heads)) (nat_le 1 spares && (slice_index heads last == head)) may in
     let some : 1 ≤ spares = few 1 spares (both_first (nat_le 1 spares) (slice_index heads last == head) both) in
     let is : slice_index heads last ≡ head = same (slice_index heads last) head
-        (both_second (nat_le 1 spares) (slice_index heads last == head) both) in
+    (both_second (nat_le 1 spares) (slice_index heads last == head) both) in
     let block = spare_is_block sizes words views history ghosts i last shape li h (omega arith) in
     let limit = shape.few_blocks in
     (rw (sym is) (omega arith), (omega arith, some, is))
@@ -154,7 +154,7 @@ call_can sizes words views history ghosts i shape li h young =
     let kept = keeps sizes words views history ghosts i shape li h in
     calls_can_begin sizes (views i) kept young (λ three.
     let block = spare_is_block sizes words views history ghosts i (length (views i).pool.heads - 1) shape li h
-        (omega (arith, three, kept.heads)) in
+    (omega (arith, three, kept.heads)) in
     let limit = shape.few_blocks in
     omega arith)
 

@@ -123,7 +123,7 @@ call_number sizes v word Between = refl
 call_number sizes v word Moving = met_number sizes v.transfer word v.transfer.next
 call_number sizes v word Own = refl
 
-next_number : (sizes : Sizes) (v : ProcessView) (word : ℕ) (t : Bool) → is_alone v.calls.way ≡ t
+pub next_number : (sizes : Sizes) (v : ProcessView) (word : ℕ) (t : Bool) → is_alone v.calls.way ≡ t
     → (next_met sizes v word).transfer.number ≡ v.transfer.number
 next_number sizes v word true alone = rw alone (met_number sizes v.transfer word v.transfer.next)
 next_number sizes v word false alone = rw alone (call_number sizes v word v.calls.stage)
@@ -137,9 +137,9 @@ pub table_step : (sizes : Sizes) (table : List ℕ) (views after : ProcessViews)
 table_step sizes table views after history i shape whole li h busy moved =
     let allowed = step_allowed sizes (word_at sizes table) views history i shape li h busy in
     step_holds sizes (word_at sizes table) (word_at sizes (acted sizes table (next_action sizes (views i)))) views after history i shape li
-        h busy
+    h busy
     (table_acted sizes table (next_action sizes (views i)) whole
-        (next_in_range sizes (word_at sizes table) (views i) (is_alone (views i).calls.way) refl allowed)) moved
+    (next_in_range sizes (word_at sizes table) (views i) (is_alone (views i).calls.way) refl allowed)) moved
 
 -- the view of a process among those of the others
 pub with_view_here : (v : ProcessView) (others : ProcessViews) → with_view v others v.transfer.number ≡ v
@@ -175,7 +175,7 @@ pub among_allowed : (sizes : Sizes) (table : List ℕ) (v : ProcessView) → IsS
 among_allowed sizes table v shape busy among =
     let here = with_view_here v among.others in
     let allowed = step_allowed sizes (word_at sizes table) (with_view v among.others) among.past v.transfer.number shape among.low
-        among.meets in
+    among.meets in
     rw here at allowed busy
 
 -- what a process at rest needs to begin a transfer alone
@@ -191,7 +191,7 @@ pub among_fits : (sizes : Sizes) (table : List ℕ) (v : ProcessView) (wish : Wi
 among_fits sizes table v wish shape among rest may =
     let here = with_view_here v among.others in
     let fits = wish_fits sizes (word_at sizes table) (with_view v among.others) among.past v.transfer.number wish shape among.low
-        among.meets in
+    among.meets in
     rw here at fits rest may
 
 -- and a process between two calls to begin one
@@ -200,7 +200,7 @@ pub among_can_begin : (sizes : Sizes) (table : List ℕ) (v : ProcessView) (call
 among_can_begin sizes table v call holds shape among between may =
     let here = with_view_here v among.others in
     let can = call_can_begin sizes (word_at sizes table) (with_view v among.others) among.past v.transfer.number call holds shape among.low
-        among.meets in
+    among.meets in
     rw here at can between may
 
 -- a step at rest, and a stage outside any call
@@ -217,9 +217,14 @@ moving_among sizes table v wish true shape rest may among =
     let here = with_view_here v among.others in
     let x = alone_begun wish v in
     let begins = alone_begins sizes (word_at sizes table) (with_view v among.others) (with_view x among.others) among.past v.transfer.number
-        wish shape among.low among.meets in
-    record { low = among.low; others = among.others; past = among.past; meets = (rw here at begins) (rests v.transfer.next rest) may
-        (with_view_moved v x among.others refl) }
+    wish shape among.low among.meets in
+    record {
+      low = among.low;
+      others = among.others;
+      past = among.past;
+      meets = (rw here at begins) (rests v.transfer.next rest) may
+          (with_view_moved v x among.others refl);
+    }
 moving_among sizes table v wish false shape rest may among = among
 
 pub among_moving : (sizes : Sizes) (table : List ℕ) (v : ProcessView) (wish : Wish) → IsShape sizes → may_go_alone wish v ≡ true
@@ -251,7 +256,7 @@ calling_among sizes table v call holds false shape inside may h =
     let here = with_view_here v among.others in
     let x = call_begun call v in
     let begins = call_begins sizes (word_at sizes table) (with_view v among.others) (with_view x among.others) among.past v.transfer.number
-        call holds shape among.low among.meets in
+    call holds shape among.low among.meets in
     let number = begun_number call v in
     record {
       low = rw number among.low;

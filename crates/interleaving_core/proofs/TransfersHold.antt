@@ -36,13 +36,13 @@ use Rattle.interleaving_core.proofs.TransferSteps.{data_stays, known_of, known_e
 
 -- what a step of a transfer of process i owes besides: the view and the ledger that it leads to
 pub record Made (sizes : Sizes) (words : Words) (history : List Entry) (ghosts : Ghosts) (i : ℕ) (v x : ProcessView) (g : Ledger) : Type 0
-    where
-  pub parts : SameParts x (view_met sizes v (words (name_of (action_of sizes v.transfer))))
-  pub call : x.calls.call ≡ v.calls.call
-  pub entries : HistoryHolds (limits_of sizes) (transfer_bound sizes) sizes.quantum history (with_ledger i g ghosts.ledgers)
-  pub same : g.entries ≡ (ghosts.ledgers i).entries
-  pub found : is_announcing v.transfer.next ≡ false → g.found_nothing ≡ (ghosts.ledgers i).found_nothing
-  pub uses : UsesPool sizes i x g
+  where
+    pub parts : SameParts x (view_met sizes v (words (name_of (action_of sizes v.transfer))))
+    pub call : x.calls.call ≡ v.calls.call
+    pub entries : HistoryHolds (limits_of sizes) (transfer_bound sizes) sizes.quantum history (with_ledger i g ghosts.ledgers)
+    pub same : g.entries ≡ (ghosts.ledgers i).entries
+    pub found : is_announcing v.transfer.next ≡ false → g.found_nothing ≡ (ghosts.ledgers i).found_nothing
+    pub uses : UsesPool sizes i x g
 
 -- the ledgers afterwards
 abbrev pub ledgers_made : ℕ → Ledger → (ℕ → Bool) → Ledgers → Ledgers
@@ -68,15 +68,18 @@ pub step_made : (sizes : Sizes) (words new : Words) (views after : ProcessViews)
     → ((o : ℕ) → o < sizes.processes → KnowsOfNothing (states_after words (views i).transfer ghosts.states (state_tag new)) o
     (after o).transfer (ledgers_made i g found ghosts.ledgers o))
     → Holds sizes new after history
-    (record { states = states_after words (views i).transfer ghosts.states; ledgers = ledgers_made i g found ghosts.ledgers;
-    known = ghosts.known })
+    (record {
+      states = states_after words (views i).transfer ghosts.states;
+      ledgers = ledgers_made i g found ghosts.ledgers;
+      known = ghosts.known;
+    })
 step_made sizes words new views after history ghosts i x g found shape li h acted moved made few knows =
     let v = views i in
     let ledgers = ledgers_made i g found ghosts.ledgers in
     let met = view_met sizes v (words (name_of (action_of sizes v.transfer))) in
     let same = held_same i g found ghosts.ledgers made.same in
     let chains = transfer_keeps sizes words new views after ghosts.states h.chains.batch_blocks h.chains.current_blocks
-        (held_in ghosts.ledgers) i x shape li h.chains.hold (in_step sizes words views history ghosts i li h)
+    (held_in ghosts.ledgers) i x shape li h.chains.hold (in_step sizes words views history ghosts i li h)
     (λ second. installs_next sizes words views history ghosts i second shape li h) acted made.parts moved in
     let moves = transfers_move i x views after moved in
     record {
@@ -84,9 +87,13 @@ step_made sizes words new views after history ghosts i x g found shape li h acte
           steps_keep_stack sizes words new (transfers views) (transfers after) ghosts.states i shape li h.stack
           (supplied sizes words views history ghosts i shape li h) acted (rw made.parts.transfer at moves);
       chains =
-          record { batch_blocks = h.chains.batch_blocks; current_blocks = h.chains.current_blocks; hold = subst
-          (λ (f : ℕ → List ℕ). ChainsHold sizes new (states_after words v.transfer ghosts.states (state_tag new)) after
-          h.chains.batch_blocks h.chains.current_blocks f) (sym same) chains };
+          record {
+            batch_blocks = h.chains.batch_blocks;
+            current_blocks = h.chains.current_blocks;
+            hold = subst
+                (λ (f : ℕ → List ℕ). ChainsHold sizes new (states_after words v.transfer ghosts.states (state_tag new)) after
+                h.chains.batch_blocks h.chains.current_blocks f) (sym same) chains;
+          };
       pools =
           λ o lo. uses_stay sizes o (after o) (with_ledger i g ghosts.ledgers o) (ledgers o) (after o).calls.way
           (known_account (found o) (with_ledger i g ghosts.ledgers o)) (known_entries (found o) (with_ledger i g ghosts.ledgers o))
@@ -117,9 +124,9 @@ step_made sizes words new views after history ghosts i x g found shape li h acte
           within = d.within;
           value = λ block index value e.
               let (low, apart) = held_are_apart sizes words (ghosts.states (state_tag words)) views (held_in ghosts.ledgers) o block lo
-                  h.chains (d.holds block index value e) in
+              h.chains (d.holds block index value e) in
               data_stays sizes (views i).transfer words new block index acted low (d.within block index value e) ∙ d.value block index value
-                  e;
+              e;
         }
 
 -- who knows of nothing after a step that leaves the state
@@ -137,7 +144,7 @@ stays_known sizes words new views after history ghosts i x g li h acted moved ma
     rw now (each_ledger (λ k l. KnowsOfNothing (ghosts.states (state_tag words)) k (after k).transfer l) i o g ghosts.ledgers
     (λ e. rw e (rw moved.here (rw made.parts.transfer
     (own_knows sizes (ghosts.states (state_tag words)) i v (words (name_of (action_of sizes v))) (ghosts.ledgers i) g v.next refl
-        (in_step sizes words views history ghosts i li h).calm made.found (h.empties i li)))))
+    (in_step sizes words views history ghosts i li h).calm made.found (h.empties i li)))))
     (λ ne. rw (moved.elsewhere o ne) (h.empties o lo)))
 
 -- a step of a transfer that leaves the state
@@ -147,9 +154,11 @@ pub step_stays : (sizes : Sizes) (words new : Words) (views after : ProcessViews
     → Acted sizes (action_of sizes (views i).transfer) words new → MovedProcess i x views after
     → Made sizes words history ghosts i (views i) x g → HitsNot (views i).transfer words (views i).transfer.next
     → Meets sizes new after history
-step_stays sizes words new views after history ghosts i x g shape li h acted moved made not =
-    (_, step_made sizes words new views after history ghosts i x g (λ o. false) shape li h acted moved made (λ o lo e. absurd (never e))
-        (stays_known sizes words new views after history ghosts i x g li h acted moved made not))
+step_stays sizes words new views after history ghosts i x g shape li h acted moved made not = (
+  _,
+  step_made sizes words new views after history ghosts i x g (λ o. false) shape li h acted moved made (λ o lo e. absurd (never e))
+      (stays_known sizes words new views after history ghosts i x g li h acted moved made not),
+)
   where
     never : false ≡ true → ⊥
     never e = grind arith

@@ -79,7 +79,7 @@ call_step_holds sizes words new views after history ghosts i shape li h calls st
     let next = ledger_moved word v g in
     let used = calls_used sizes i v g v.calls.way calls (h.pools i li) in
     let carries = transfer_steps_carry sizes i v word g used (scheduled sizes words views history ghosts i shape li h) stage shape.a_process
-        (given sizes words views history ghosts i li h) (knows_at_end sizes words views history ghosts i li h) in
+    (given sizes words views history ghosts i li h) (knows_at_end sizes words views history ghosts i li h) in
     let (entries, seen, found) = enters_nothing word v.calls.steps v.transfer.next g in
     transfer_step_holds sizes words new views after history ghosts i x next shape li h acted moved (record {
       parts = record { transfer = refl; pool = refl };
@@ -88,7 +88,7 @@ call_step_holds sizes words new views after history ghosts i shape li h calls st
           step_kept (limits_of sizes) (transfer_bound sizes) sizes.quantum history ghosts.ledgers (with_ledger i next ghosts.ledgers) i next
           li h.entries
           (going_fits (limits_of sizes) (transfer_bound sizes) sizes.quantum history i g next (shape_fits sizes shape) (h.entries.each i li)
-              carries.goes) (going_sees g next carries.goes) (replaced_with i next ghosts.ledgers);
+          carries.goes) (going_sees g next carries.goes) (replaced_with i next ghosts.ledgers);
       same = entries;
       found = λ e. found_kept (is_announcing v.transfer.next) next.found_nothing g.found_nothing e found;
       uses = uses_calls sizes i x next x.calls.way calls carries.calls;

@@ -1,8 +1,10 @@
 -- laws of labels: the kind and the index of a next step fit what it does to which word, and a phase fits the next step
-use Rattle.std.specs.Prelude.{◌≡◌, ℕ, ◌+◌, ◌<◌, ◌⊎◌, Bool, true, false, Option, None, Some}
+use Rattle.std.specs.Prelude.{◌≡◌, ◌≢◌, ℕ, ◌+◌, ◌<◌, ◌⊎◌, Bool, true, false, Option, None, Some}
 use Rattle.word_layout.specs.Sizes.{Sizes}
 use Rattle.word_layout.specs.declared.name.WordName.{WordName}
 use Rattle.word_layout.specs.declared.name.WordName.TheVariants.{State, Announcement, RecordWord, Slot, Next, Data}
+use Rattle.pool_model.specs.declared.entry.Entry.{Entry}
+use Rattle.pool_model.specs.declared.entry.Entry.TheVariants.{Got, Back, Dry}
 use Rattle.transfer_machine.specs.Loads.{loaded_record, loaded_base}
 use Rattle.transfer_machine.specs.Machine.{action_of}
 use Rattle.transfer_machine.specs.Stages.{is_rest}
@@ -19,10 +21,12 @@ use Rattle.pool_machine.specs.declared.phase.Phase.TheVariants as phase
 use Rattle.transfer_machine.specs.declared.stage.Stage.{Stage}
 use Rattle.transfer_machine.specs.declared.transfer.TransferView.{TransferView}
 use Rattle.pool_machine.specs.declared.view.ProcessView.{ProcessView}
+use Rattle.pool_machine.specs.declared.event.Happened.{Happened}
+use Rattle.pool_machine.specs.declared.event.Happened.TheVariants.{Step, Ended, Loaded, Stored, Ignored}
 use Rattle.pool_machine.specs.OwnSteps.{own_action}
 use Rattle.interleaving_core.specs.CallLaws.{EveryRun}
 use Rattle.interleaving_core.specs.Moves.{view_at}
-use Rattle.interleaving_core.specs.Steps.{is_busy, next_action, next_kind}
+use Rattle.interleaving_core.specs.Steps.{is_busy, next_action, next_answer, next_kind}
 
 -- an action loads, stores or exchanges the word of this name
 abbrev pub Loads : WordName → Action → Type 0
@@ -76,6 +80,24 @@ TurnFits kind turn = (turn ≡ 1) ⊎ (turn ≡ 2)
 -- so does the next step of every transfer
 abbrev pub TurnsFit : Type 0
 TurnsFit = (v : TransferView) → TurnFits (stage_of v).kind (stage_of v).turn
+
+-- a call that ends with an entry has made an own step of this kind
+abbrev pub ending_kind : Entry → Kind
+ending_kind (Got by block) = K12
+ending_kind (Back by block) = K13
+ending_kind (Dry by) = K14
+
+-- an answer names the kind of the step that was made; a read loaded a data word, and a write stored one
+abbrev pub AnswerFits : ProcessView → Happened → Type 0
+AnswerFits v (Step kind) = kind ≡ next_kind v
+AnswerFits v (Ended kind entry) = (kind ≡ next_kind v) × (kind ≡ ending_kind entry)
+AnswerFits v (Loaded word) = v.calls.call ≢ None → next_kind v ≡ K15
+AnswerFits v Stored = next_kind v ≡ K16
+AnswerFits v Ignored = ⊥
+
+-- so does that of every process that has a next step, whatever word it meets
+abbrev pub AnswersFit : Type 0
+AnswersFit = (v : ProcessView) (word : ℕ) → is_busy v ≡ true → AnswerFits v (next_answer v word)
 
 -- a phase says what the next step of a process is: none, that of its transfer at its stage, or the own step of its call
 abbrev pub PhaseFits : Sizes → ProcessView → Phase → Type 0

@@ -1,5 +1,5 @@
 //! Labels: what is told of a next step fits what it does to which word.
-ghost use Rattle.interleaving_core.specs.LabelLaws.{TransferKindsFit, NextKindsFit, TurnsFit, PhasesFit, WaitingsFit};
+ghost use Rattle.interleaving_core.specs.LabelLaws.{TransferKindsFit, NextKindsFit, TurnsFit, AnswersFit, PhasesFit, WaitingsFit};
 
 /// The kind and the index of the next step of every view fit the word that it is on, and whether it loads, stores or
 /// exchanges it. The turn of a transfer goes with the kind.
@@ -7,6 +7,11 @@ pub fn kinds_fit()
     ensures transfers { TransferKindsFit }
     ensures all { NextKindsFit }
     ensures turns { TurnsFit }
+{}
+
+/// The answer of a step names its kind.
+pub fn answers_fit()
+    ensures { AnswersFit }
 {}
 
 /// What a process of a run is said to be at fits its next step: it has none between two calls or at rest, that of its

@@ -11,4 +11,4 @@ loop-place-preserved c =
     let values = stack_at c.args.shape.now c.args.words.now in
     let pushed = c.in_ok-push.ensures in
     pushed.items ∙ ap (λ xs. xs ++ c.head_at.result ∷ []) c.loop-place.invariant ∙ ap
-        (λ head. first_of c.loop-place.place values ++ head ∷ []) c.head_at.ensures ∙ sym (first_more c.loop-place.place values)
+    (λ head. first_of c.loop-place.place values ++ head ∷ []) c.head_at.ensures ∙ sym (first_more c.loop-place.place values)

@@ -7,5 +7,8 @@ pub call_view-requires-clause-invariant : goal.call_view-requires-clause-invaria
 call_view-requires-clause-invariant c =
     let seat = c.index_mut-view.ensures in
     let table = c.deref_mut.ensures in
-    rw (table.value, seat.value ∙ get_or_default c.args.views.now.items c.args.event.now.by _
-        (opening_view c.args.shape.now c.args.event.now.by) c.requires.low) c.requires.invariant
+    rw (
+      table.value,
+      seat.value ∙ get_or_default c.args.views.now.items c.args.event.now.by _
+          (opening_view c.args.shape.now c.args.event.now.by) c.requires.low,
+    ) c.requires.invariant

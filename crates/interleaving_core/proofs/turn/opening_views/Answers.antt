@@ -10,8 +10,8 @@ pub loop-process-preserved : goal.loop-process-preserved
 loop-process-preserved c =
     let pushed = c.in_ok-push.ensures in
     pushed.items ∙ ap (λ xs. xs ++ c.open.result ∷ []) c.loop-process.invariant ∙ ap
-        (λ v. opening_views c.args.shape.now c.loop-process.process ++ v ∷ []) c.open.ensures ∙ sym
-        (opening_more c.args.shape.now c.loop-process.process)
+    (λ v. opening_views c.args.shape.now c.loop-process.process ++ v ∷ []) c.open.ensures ∙ sym
+    (opening_more c.args.shape.now c.loop-process.process)
 
 pub returns : goal.returns
 returns c =

@@ -18,5 +18,5 @@ returns c =
     let value = c.processes.ensures.value in
     let list = c.deref.ensures in
     may_go_here _ _ history c.args.event.now.by c.args.event.now.call _ _ _ c.self.view_is (run_fits _ past history _ run)
-        (rw value at test) c.index.ensures
+    (rw value at test) c.index.ensures
     (c.held_by-holds.ensures ∙ ap (λ holders. holds_for holders c.args.event.now.by c.args.event.now.call) list.value) c.may_go.ensures

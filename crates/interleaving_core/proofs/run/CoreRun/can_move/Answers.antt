@@ -16,4 +16,4 @@ returns-then-by-processes c =
     let test = c.if-by-processes.true in
     let value = c.processes.ensures.value in
     may_go_alone_here _ _ history c.args.by c.args.wish _ _ c.self.view_is (run_fits _ past history _ run) (rw value at test)
-        c.index.ensures c.may_go_alone.ensures
+    c.index.ensures c.may_go_alone.ensures

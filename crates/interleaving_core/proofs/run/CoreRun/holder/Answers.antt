@@ -12,5 +12,5 @@ pub returns : goal.returns
 returns c =
     let (past, history, run) = c.self.invariant in
     rw (sym c.self.view_is)
-        (c.index.ensures ∙ get_or_default c.self.inside.holders.items c.args.block _ _
-        (holder_low _ _ history c.args.block c.self.view_is (run_fits _ past history _ run) c.requires))
+    (c.index.ensures ∙ get_or_default c.self.inside.holders.items c.args.block _ _
+    (holder_low _ _ history c.args.block c.self.view_is (run_fits _ past history _ run) c.requires))

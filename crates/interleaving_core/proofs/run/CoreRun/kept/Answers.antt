@@ -18,7 +18,7 @@ pub kept_by-requires-clause-few : goal.kept_by-requires-clause-few
 kept_by-requires-clause-few c =
     let (past, history, run) = c.self.invariant in
     rw (kept_read _ _ c.args.process c.deref.result.now c.view.result.now c.self.view_is c.deref.ensures.value c.view.ensures)
-        (kept_small _ _ history c.args.process c.self.view_is (run_fits _ past history _ run) c.requires)
+    (kept_small _ _ history c.args.process c.self.view_is (run_fits _ past history _ run) c.requires)
 
 pub returns-clause-value : goal.returns-clause-value
 returns-clause-value c =
@@ -29,4 +29,4 @@ pub returns-clause-few : goal.returns-clause-few
 returns-clause-few c =
     let (past, history, run) = c.self.invariant in
     rw (c.kept_by.ensures ∙ kept_read _ _ c.args.process c.deref.result.now c.view.result.now c.self.view_is c.deref.ensures.value
-        c.view.ensures) (kept_five _ _ history c.args.process c.self.view_is (run_fits _ past history _ run) c.requires)
+    c.view.ensures) (kept_five _ _ history c.args.process c.self.view_is (run_fits _ past history _ run) c.requires)

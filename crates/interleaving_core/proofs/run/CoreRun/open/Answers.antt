@@ -5,8 +5,12 @@ use Rattle.interleaving_core.proofs.run.CoreRun.open.Goals as goal
 
 opens_run : (c : goal.After-result-1)
     → IsRun c.args.shape.now [] []
-    (record { sizes = c.args.shape.now; words = c.in_ok-words.words.items; views = c.in_ok-views.views.items;
-    holders = c.in_ok-holders.holders.items })
+    (record {
+      sizes = c.args.shape.now;
+      words = c.in_ok-words.words.items;
+      views = c.in_ok-views.views.items;
+      holders = c.in_ok-holders.holders.items;
+    })
 opens_run c =
     let seats = c.in_ok-views.ensures in
     let opening = c.in_ok-words.ensures in
