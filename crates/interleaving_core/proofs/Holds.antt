@@ -60,7 +60,7 @@ way_holds sizes words new views after history ghosts i true shape li h alone bus
 way_holds sizes words new views after history ghosts i false shape li h alone busy acted moved = call_stage_holds sizes words new views after history ghosts i (views i).calls.stage shape li h (isnt_alone (views i).calls.way alone) refl (busy refl) acted moved
 
 -- what a process with a next step is at
-in_its_call : (v : ProcessView) (t : Bool) → is_alone v.calls.way ≡ t → is_busy v ≡ true → t ≡ false → is_in_call v.calls.stage ≡ true
+pub in_its_call : (v : ProcessView) (t : Bool) → is_alone v.calls.way ≡ t → is_busy v ≡ true → t ≡ false → is_in_call v.calls.stage ≡ true
 in_its_call v true alone busy e = absurd (outside (sym e))
 in_its_call v false alone busy e = rw alone at busy
 

@@ -33,3 +33,4 @@ pub mod CallLawsData
 pub mod CallLawsPending
 pub mod CallLawsTurns
 pub mod CallLawsAges
+pub mod DataSteps

@@ -8,3 +8,5 @@ pub mod TransferLaws
 pub mod Kept
 pub mod CallLaws
 pub mod InvariantLaws
+pub mod DataWords
+pub mod StepLaws

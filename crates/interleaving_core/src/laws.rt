@@ -2,4 +2,5 @@
 
 pub mod calls;
 pub mod invariant;
+pub mod steps;
 pub mod transfers;

@@ -1,0 +1,24 @@
+//! What the next step of one process makes of words and views that meet the invariant, whether or not a run led to
+//! them.
+ghost use Rattle.interleaving_core.specs.StepLaws.{StepsLeaveData, StepsTellData, StepsEnterOwn, HoldersAreApart};
+
+/// A step leaves each data word of each block that its process doesn't hold.
+pub fn steps_leave_data()
+    ensures { StepsLeaveData }
+{}
+
+/// What a process knows of the data words of its blocks holds after its step, with the word that a read loaded or a
+/// write stored, and without those of a block that it freed.
+pub fn steps_tell_data()
+    ensures { StepsTellData }
+{}
+
+/// A step makes no entry of another process.
+pub fn steps_enter_own()
+    ensures { StepsEnterOwn }
+{}
+
+/// What a process holds is a block of the pool, and no other process holds it.
+pub fn holders_are_apart()
+    ensures { HoldersAreApart }
+{}
