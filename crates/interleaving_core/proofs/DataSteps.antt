@@ -151,27 +151,27 @@ module _ (sizes : Sizes) (words new : Words) (views : ProcessViews) (history : L
 pub due_acts : (sizes : Sizes) (words : List ℕ) (views : ProcessViews) (history : List Entry) (i : ℕ) → StepIsDue sizes words views history i
     → Acted sizes (next_action sizes (views i)) (word_at sizes words) (word_at sizes (words_after sizes words (views i)))
 due_acts sizes words views history i due =
-    let allowed = step_allowed sizes (word_at sizes words) views history i due.shape due.low due.meets due.busy in
-    table_acted sizes words (next_action sizes (views i)) due.whole (next_in_range sizes (word_at sizes words) (views i) (is_alone (views i).calls.way) refl allowed)
+    let allowed = step_allowed sizes (word_at sizes words) views history i due.table.shape due.table.low due.table.meets due.busy in
+    table_acted sizes words (next_action sizes (views i)) due.table.whole (next_in_range sizes (word_at sizes words) (views i) (is_alone (views i).calls.way) refl allowed)
 
 pub steps_leave_data : StepsLeaveData
 steps_leave_data sizes words views history i due block index lb lk isnt =
-    let (ghosts, h) = due.meets in
+    let (ghosts, h) = due.table.meets in
     let new = word_at sizes (words_after sizes words (views i)) in
-    way_leaves_data sizes (word_at sizes words) new views history ghosts i due.shape due.low h (is_alone (views i).calls.way) block index (in_its_call (views i) (is_alone (views i).calls.way) refl due.busy) lb lk isnt
+    way_leaves_data sizes (word_at sizes words) new views history ghosts i due.table.shape due.table.low h (is_alone (views i).calls.way) block index (in_its_call (views i) (is_alone (views i).calls.way) refl due.busy) lb lk isnt
     (due_acts sizes words views history i due)
 
 pub steps_tell_data : StepsTellData
 steps_tell_data sizes words views history i due known d =
-    let (ghosts, h) = due.meets in
+    let (ghosts, h) = due.table.meets in
     let new = word_at sizes (words_after sizes words (views i)) in
-    way_tells sizes (word_at sizes words) new views history ghosts i due.shape due.low h (is_alone (views i).calls.way) known refl (in_its_call (views i) (is_alone (views i).calls.way) refl due.busy)
+    way_tells sizes (word_at sizes words) new views history ghosts i due.table.shape due.table.low h (is_alone (views i).calls.way) known refl (in_its_call (views i) (is_alone (views i).calls.way) refl due.busy)
     (due_acts sizes words views history i due) d
 
 pub steps_enter_own : StepsEnterOwn
 steps_enter_own sizes words views history i due other ne =
-    let (ghosts, h) = due.meets in
-    let number = numbered sizes (word_at sizes words) views history ghosts i due.low h in
+    let (ghosts, h) = due.table.meets in
+    let number = numbered sizes (word_at sizes words) views history ghosts i due.table.low h in
     step_elsewhere history (views i) other (word_met sizes words (views i)) (is_alone (views i).calls.way) (λ e. ne (e ∙ number))
 
 pub holders_are_apart : HoldersAreApart

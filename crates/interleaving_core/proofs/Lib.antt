@@ -34,3 +34,4 @@ pub mod CallLawsPending
 pub mod CallLawsTurns
 pub mod CallLawsAges
 pub mod DataSteps
+pub mod Due

@@ -93,7 +93,7 @@ moved_twice sizes xs i v x lt = record {
 }
 
 -- an action leaves the number of words
-acted_length : (sizes : Sizes) (words : List ℕ) (action : Action) → length (acted sizes words action) ≡ length words
+pub acted_length : (sizes : Sizes) (words : List ℕ) (action : Action) → length (acted sizes words action) ≡ length words
 unfolding set_word
 acted_length sizes words action = length-set words (place sizes (name_of action)) (left_by action (met_word sizes words action))
 
@@ -106,7 +106,7 @@ both_may : (a b : Bool) → (a && b) ≡ true → b ≡ true
 both_may true b h = h
 both_may false b h = grind arith
 
-first_may : (a b : Bool) → (a && b) ≡ true → a ≡ true
+pub first_may : (a b : Bool) → (a && b) ≡ true → a ≡ true
 first_may true b h = refl
 first_may false b h = grind arith
 
@@ -127,7 +127,7 @@ calling_meets s history i call false fits li may inside =
     (truly_held s.sizes history s.holders i call fits.holders) (moved_seats s.sizes s.views i (call_begun call v) (rw fits.seats li))
 
 -- a process that turns has a next step
-moving_busy : (wish : Wish) (v : ProcessView) (way : Way) (t : Bool) → v.calls.way ≡ way → (way ≡ Fresh → is_rest v.transfer.next ≡ true) → is_rest v.transfer.next ≡ t → may_use_transfers way ≡ true → is_busy (if t then alone_begun wish v else v) ≡ true
+pub moving_busy : (wish : Wish) (v : ProcessView) (way : Way) (t : Bool) → v.calls.way ≡ way → (way ≡ Fresh → is_rest v.transfer.next ≡ true) → is_rest v.transfer.next ≡ t → may_use_transfers way ≡ true → is_busy (if t then alone_begun wish v else v) ≡ true
 moving_busy wish v way true e fresh rest may = refl
 moving_busy wish v Fresh false e fresh rest may = let h = fresh refl in grind arith
 moving_busy wish v Alone false e fresh rest may = rw (e, rest) refl
@@ -137,13 +137,13 @@ pub first_inside : (t : Bool) → is_in_call (if t then Own else Moving) ≡ tru
 first_inside true = refl
 first_inside false = refl
 
-begun_inside : (call : Call) (v : ProcessView) → is_busy (call_begun call v) ≡ true
+pub begun_inside : (call : Call) (v : ProcessView) → is_busy (call_begun call v) ≡ true
 begun_inside Allocate v = first_inside (is_idle (before_call v).pool.plan.pending)
 begun_inside (Free block) v = first_inside (is_idle (before_call v).pool.plan.pending)
 begun_inside (Read block index) v = refl
 begun_inside (Write block index value) v = refl
 
-calling_busy : (call : Call) (v : ProcessView) (way : Way) (t : Bool) → v.calls.way ≡ way → (way ≡ Alone → is_in_call v.calls.stage ≡ false) → is_in_call v.calls.stage ≡ t → is_busy (if t then v else call_begun call v) ≡ true
+pub calling_busy : (call : Call) (v : ProcessView) (way : Way) (t : Bool) → v.calls.way ≡ way → (way ≡ Alone → is_in_call v.calls.stage ≡ false) → is_in_call v.calls.stage ≡ t → is_busy (if t then v else call_begun call v) ≡ true
 calling_busy call v Fresh true e alone inside = rw (e, inside) refl
 calling_busy call v Alone true e alone inside = let h = alone refl in grind arith
 calling_busy call v Calls true e alone inside = rw (e, inside) refl

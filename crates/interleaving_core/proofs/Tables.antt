@@ -115,7 +115,7 @@ call_number sizes v word Between = refl
 call_number sizes v word Moving = met_number sizes v.transfer word v.transfer.next
 call_number sizes v word Own = refl
 
-next_number : (sizes : Sizes) (v : ProcessView) (word : ℕ) (t : Bool) → is_alone v.calls.way ≡ t → (next_met sizes v word).transfer.number ≡ v.transfer.number
+pub next_number : (sizes : Sizes) (v : ProcessView) (word : ℕ) (t : Bool) → is_alone v.calls.way ≡ t → (next_met sizes v word).transfer.number ≡ v.transfer.number
 next_number sizes v word true alone = rw alone (met_number sizes v.transfer word v.transfer.next)
 next_number sizes v word false alone = rw alone (call_number sizes v word v.calls.stage)
 
@@ -203,7 +203,7 @@ due_number : (wish : Option Wish) (v : ProcessView) → (begun_if_due wish v).tr
 due_number None v = refl
 due_number (Some wish) v = refl
 
-begun_number : (call : Call) (v : ProcessView) → (call_begun call v).transfer.number ≡ v.transfer.number
+pub begun_number : (call : Call) (v : ProcessView) → (call_begun call v).transfer.number ≡ v.transfer.number
 begun_number Allocate v = due_number (due v.pool) v
 begun_number (Free block) v = due_number (due v.pool) v
 begun_number (Read block index) v = refl

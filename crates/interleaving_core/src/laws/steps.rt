@@ -1,6 +1,25 @@
 //! What the next step of one process makes of words and views that meet the invariant, whether or not a run led to
 //! them.
-ghost use Rattle.interleaving_core.specs.StepLaws.{StepsLeaveData, StepsTellData, StepsEnterOwn, HoldersAreApart};
+ghost use Rattle.interleaving_core.specs.StepLaws.{StepsKeepInvariant, StepsLeaveData, StepsTellData, StepsEnterOwn, HoldersAreApart, CallsAreDue, CallsKeepInvariant, MovesAreDue, MovesKeepInvariant};
+
+/// A step keeps the invariant, with the history that its answer makes.
+pub fn steps_keep_invariant()
+    ensures { StepsKeepInvariant }
+{}
+
+/// A process between two calls that may begin this one begins it and makes its first step; one in a call goes on. The
+/// step is due as soon as the call is begun, and keeps the invariant.
+pub fn calls_keep_invariant()
+    ensures due { CallsAreDue }
+    ensures kept { CallsKeepInvariant }
+{}
+
+/// A process at rest that may begin a transfer alone begins it and makes its first step; one in such a transfer goes
+/// on. The step is due as soon as the transfer is begun, and keeps the invariant.
+pub fn moves_keep_invariant()
+    ensures due { MovesAreDue }
+    ensures kept { MovesKeepInvariant }
+{}
 
 /// A step leaves each data word of each block that its process doesn't hold.
 pub fn steps_leave_data()
