@@ -48,7 +48,8 @@ between_is_no_call : is_in_call Between ≡ true → ⊥
 between_is_no_call e = grind arith
 
 -- the entries of a step are its process's
-recorded_elsewhere : (history : List Entry) (by other : ℕ) (block : Option ℕ) (kind : Kind) → other ≢ by → own (history ++ entries_of (happened kind (allocate_answer by block))) other ≡ own history other
+recorded_elsewhere : (history : List Entry) (by other : ℕ) (block : Option ℕ) (kind : Kind) → other ≢ by
+    → own (history ++ entries_of (happened kind (allocate_answer by block))) other ≡ own history other
 recorded_elsewhere history by other None kind ne = own_other history (Dry by) other (λ e. ne (sym e))
 recorded_elsewhere history by other (Some block) kind ne = own_other history (Got by block) other (λ e. ne (sym e))
 
@@ -58,12 +59,14 @@ nothing_entered history other = ap (λ entries. own entries other) (append-nil h
 own_step_elsewhere : (history : List Entry) (by other word : ℕ) (pool : PoolView) (call : Option Call) → other ≢ by
     → own (history ++ entries_of (happened (own_kind_for pool call) (own_answer_for by pool word call))) other ≡ own history other
 own_step_elsewhere history by other word pool None ne = nothing_entered history other
-own_step_elsewhere history by other word pool (Some Allocate) ne = recorded_elsewhere history by other (next_block pool) (own_kind_for pool (Some Allocate)) ne
+own_step_elsewhere history by other word pool (Some Allocate) ne = recorded_elsewhere history by other (next_block pool)
+    (own_kind_for pool (Some Allocate)) ne
 own_step_elsewhere history by other word pool (Some (Free block)) ne = own_other history (Back by block) other (λ e. ne (sym e))
 own_step_elsewhere history by other word pool (Some (Read block index)) ne = nothing_entered history other
 own_step_elsewhere history by other word pool (Some (Write block index value)) ne = nothing_entered history other
 
-call_elsewhere : (history : List Entry) (v : ProcessView) (other word : ℕ) (stage : CallStage) → other ≢ v.transfer.number → own (history ++ entries_of (call_answer_at v word stage)) other ≡ own history other
+call_elsewhere : (history : List Entry) (v : ProcessView) (other word : ℕ) (stage : CallStage) → other ≢ v.transfer.number
+    → own (history ++ entries_of (call_answer_at v word stage)) other ≡ own history other
 call_elsewhere history v other word Between ne = nothing_entered history other
 call_elsewhere history v other word Moving ne = nothing_entered history other
 call_elsewhere history v other word Own ne = own_step_elsewhere history v.transfer.number other word v.pool v.calls.call ne
@@ -73,7 +76,8 @@ step_elsewhere : (history : List Entry) (v : ProcessView) (other word : ℕ) (t 
 step_elsewhere history v other word true ne = nothing_entered history other
 step_elsewhere history v other word false ne = call_elsewhere history v other word v.calls.stage ne
 
-module _ (sizes : Sizes) (words new : Words) (views : ProcessViews) (history : List Entry) (ghosts : Ghosts) (i : ℕ) (shape : IsShape sizes) (li : i < sizes.processes) (h : Holds sizes words views history ghosts) where
+module _ (sizes : Sizes) (words new : Words) (views : ProcessViews) (history : List Entry) (ghosts : Ghosts) (i : ℕ)
+    (shape : IsShape sizes) (li : i < sizes.processes) (h : Holds sizes words views history ghosts) where
   -- what the history says that a process holds
   entries_of_process : (o : ℕ) → o < sizes.processes → own history o ≡ (ghosts.ledgers o).entries
   entries_of_process o lo = (h.entries.each o lo).sees.own_entries
@@ -84,30 +88,38 @@ module _ (sizes : Sizes) (words new : Words) (views : ProcessViews) (history : L
   of_held : (o block : ℕ) → o < sizes.processes → Contains (held_in ghosts.ledgers o) block → Contains (grip (own history o)) block
   of_held o block lo has = subst (λ entries. Contains (grip entries) block) (sym (entries_of_process o lo)) has
 
-  pub holders_apart : (block : ℕ) → Contains (grip (own history i)) block → (block < blocks sizes) × ((other : ℕ) → other < sizes.processes → other ≢ i → ¬ Contains (grip (own history other)) block)
+  pub holders_apart : (block : ℕ) → Contains (grip (own history i)) block
+      → (block < blocks sizes) × ((other : ℕ) → other < sizes.processes → other ≢ i → ¬ Contains (grip (own history other)) block)
   holders_apart block has =
-      let (low, apart) = held_are_apart sizes words (ghosts.states (state_tag words)) views (held_in ghosts.ledgers) i block li h.chains (held_of i block li has) in
+      let (low, apart) = held_are_apart sizes words (ghosts.states (state_tag words)) views (held_in ghosts.ledgers) i block li h.chains
+      (held_of i block li has) in
       (low, λ other lo ne theirs. apart other lo ne (held_of other block lo theirs))
 
   mine_low : HeldAreLow sizes (held_in ghosts.ledgers i)
   mine_low b has = (holders_apart b (of_held i b li has)).0
 
   -- a block that the process doesn't hold
-  call_leaves_data : (stage : CallStage) (block index : ℕ) → is_in_call stage ≡ true → block < blocks sizes → index < sizes.words → ¬ Contains (held_in ghosts.ledgers i) block
+  call_leaves_data : (stage : CallStage) (block index : ℕ) → is_in_call stage ≡ true → block < blocks sizes → index < sizes.words
+      → ¬ Contains (held_in ghosts.ledgers i) block
       → Acted sizes (call_action_at sizes (views i) stage) words new → new (Data block index) ≡ words (Data block index)
   call_leaves_data Between block index inside lb lk isnt a = absurd (between_is_no_call inside)
   call_leaves_data Moving block index inside lb lk isnt a = transfer_steps.data_stays sizes (views i).transfer words new block index a lb lk
   call_leaves_data Own block index inside lb lk isnt a =
       others_words_stay sizes words new (views i).pool (held_in ghosts.ledgers i) (block ∷ []) (views i).calls.call
-      (λ b has. rw (only_member block b has) lb) (λ b has one. isnt (subst (Contains (held_in ghosts.ledgers i)) (only_member block b one) has)) (h.names i li) a block index (grind arith) lk
+      (λ b has. rw (only_member block b has) lb) (λ b has one. isnt
+      (subst (Contains (held_in ghosts.ledgers i)) (only_member block b one) has)) (h.names i li) a block index (grind arith) lk
 
-  way_leaves_data : (t : Bool) (block index : ℕ) → (t ≡ false → is_in_call (views i).calls.stage ≡ true) → block < blocks sizes → index < sizes.words → ¬ Contains (grip (own history i)) block
-      → Acted sizes (if t then action_of sizes (views i).transfer else call_action sizes (views i)) words new → new (Data block index) ≡ words (Data block index)
+  way_leaves_data : (t : Bool) (block index : ℕ) → (t ≡ false → is_in_call (views i).calls.stage ≡ true) → block < blocks sizes
+      → index < sizes.words → ¬ Contains (grip (own history i)) block
+      → Acted sizes (if t then action_of sizes (views i).transfer else call_action sizes (views i)) words new
+      → new (Data block index) ≡ words (Data block index)
   way_leaves_data true block index inside lb lk isnt a = transfer_steps.data_stays sizes (views i).transfer words new block index a lb lk
-  way_leaves_data false block index inside lb lk isnt a = call_leaves_data (views i).calls.stage block index (inside refl) lb lk (λ has. isnt (of_held i block li has)) a
+  way_leaves_data false block index inside lb lk isnt a = call_leaves_data (views i).calls.stage block index (inside refl) lb lk
+      (λ has. isnt (of_held i block li has)) a
 
   -- the words that the process knows, where its step is one of a transfer
-  transfer_tells : (known : Known) → Acted sizes (action_of sizes (views i).transfer) words new → DataHolds sizes words (grip (own history i)) known → DataHolds sizes new (grip (own (history ++ []) i)) known
+  transfer_tells : (known : Known) → Acted sizes (action_of sizes (views i).transfer) words new
+      → DataHolds sizes words (grip (own history i)) known → DataHolds sizes new (grip (own (history ++ []) i)) known
   transfer_tells known a d =
       rw (append-nil history)
       (data_stays sizes words new (grip (own history i)) (grip (own history i)) known d
@@ -115,57 +127,74 @@ module _ (sizes : Sizes) (words new : Words) (views : ProcessViews) (history : L
 
   -- and where it is the own one of a call
   own_grip : (word : ℕ) → (views i).calls.way ≢ Alone → (views i).calls.stage ≡ Own
-      → grip (own (history ++ entries_of (call_answer_at (views i) word Own)) i) ≡ held_by_call (views i).pool (views i).calls.call (held_in ghosts.ledgers i)
+      → grip (own (history ++ entries_of (call_answer_at (views i) word Own)) i) ≡ held_by_call (views i).pool (views i).calls.call
+      (held_in ghosts.ledgers i)
   own_grip word ne own_stage =
       let v = views i in
       let due = due_of sizes words views history ghosts i shape li h ne own_stage in
-      let after = own_history sizes words views history ghosts i due v.transfer.number word (numbered sizes words views history ghosts i li h) v.calls.call refl in
+      let after = own_history sizes words views history ghosts i due v.transfer.number word
+      (numbered sizes words views history ghosts i li h) v.calls.call refl in
       let ledger = ledger_by_call history i v.pool v.calls.call (ghosts.ledgers i) in
-      ap grip (after.each i li).sees.own_entries ∙ ap (λ g. grip g.entries) (replaced_with i ledger ghosts.ledgers).here ∙ grip_by_call history i v.pool v.calls.call (ghosts.ledgers i)
+      ap grip (after.each i li).sees.own_entries ∙ ap (λ g. grip g.entries) (replaced_with i ledger ghosts.ledgers).here
+      ∙ grip_by_call history i v.pool v.calls.call (ghosts.ledgers i)
 
-  own_tells : (known : Known) → (views i).calls.way ≢ Alone → (views i).calls.stage ≡ Own → Acted sizes (own_action (views i)) words new → DataHolds sizes words (grip (own history i)) known
-      → DataHolds sizes new (grip (own (history ++ entries_of (call_answer_at (views i) (words (name_of (own_action (views i)))) Own)) i)) (known_by_call (words (name_of (own_action (views i)))) (views i).calls.call known)
+  own_tells : (known : Known) → (views i).calls.way ≢ Alone → (views i).calls.stage ≡ Own → Acted sizes (own_action (views i)) words new
+      → DataHolds sizes words (grip (own history i)) known
+      → DataHolds sizes new (grip (own (history ++ entries_of (call_answer_at (views i) (words (name_of (own_action (views i)))) Own)) i))
+      (known_by_call (words (name_of (own_action (views i)))) (views i).calls.call known)
   own_tells known ne own_stage a d =
       let v = views i in
       let word = words (name_of (own_action v)) in
       rw (own_grip word ne own_stage)
-      (own_data sizes words new v.pool (held_in ghosts.ledgers i) known v.calls.call mine_low (h.names i li) a (subst (λ entries. DataHolds sizes words (grip entries) known) (entries_of_process i li) d))
+      (own_data sizes words new v.pool (held_in ghosts.ledgers i) known v.calls.call mine_low (h.names i li) a
+      (subst (λ entries. DataHolds sizes words (grip entries) known) (entries_of_process i li) d))
 
   call_tells : (stage : CallStage) (known : Known) → (views i).calls.way ≢ Alone → (views i).calls.stage ≡ stage → is_in_call stage ≡ true
       → Acted sizes (call_action_at sizes (views i) stage) words new → DataHolds sizes words (grip (own history i)) known
-      → DataHolds sizes new (grip (own (history ++ entries_of (call_answer_at (views i) (words (name_of (call_action_at sizes (views i) stage))) stage)) i))
+      → DataHolds sizes new (grip
+      (own (history ++ entries_of (call_answer_at (views i) (words (name_of (call_action_at sizes (views i) stage))) stage)) i))
       (known_at_stage (words (name_of (call_action_at sizes (views i) stage))) (views i).calls.call stage known)
   call_tells Between known ne e inside a d = absurd (between_is_no_call inside)
   call_tells Moving known ne e inside a d = transfer_tells known a d
   call_tells Own known ne e inside a d = own_tells known ne e a d
 
   way_tells : (t : Bool) (known : Known) → is_alone (views i).calls.way ≡ t → (t ≡ false → is_in_call (views i).calls.stage ≡ true)
-      → Acted sizes (if t then action_of sizes (views i).transfer else call_action sizes (views i)) words new → DataHolds sizes words (grip (own history i)) known
+      → Acted sizes (if t then action_of sizes (views i).transfer else call_action sizes (views i)) words new
+      → DataHolds sizes words (grip (own history i)) known
       → DataHolds sizes new
-      (grip (own (history ++ entries_of (if t then Step (kind_of (views i).transfer.next) else call_answer (views i) (words (name_of (if t then action_of sizes (views i).transfer else call_action sizes (views i)))))) i))
-      (if t then known else known_at_stage (words (name_of (if t then action_of sizes (views i).transfer else call_action sizes (views i)))) (views i).calls.call (views i).calls.stage known)
+      (grip (own (history ++ entries_of
+      (if t then Step (kind_of (views i).transfer.next) else call_answer (views i)
+      (words (name_of (if t then action_of sizes (views i).transfer else call_action sizes (views i)))))) i))
+      (if t then known else known_at_stage (words
+      (name_of (if t then action_of sizes (views i).transfer else call_action sizes (views i)))) (views i).calls.call
+      (views i).calls.stage known)
   way_tells true known alone inside a d = transfer_tells known a d
-  way_tells false known alone inside a d = call_tells (views i).calls.stage known (isnt_alone (views i).calls.way alone) refl (inside refl) a d
+  way_tells false known alone inside a d = call_tells (views i).calls.stage known (isnt_alone (views i).calls.way alone) refl
+      (inside refl) a d
 
 -- the next step of a process acts on the words by their names
-pub due_acts : (sizes : Sizes) (words : List ℕ) (views : ProcessViews) (history : List Entry) (i : ℕ) → StepIsDue sizes words views history i
+pub due_acts : (sizes : Sizes) (words : List ℕ) (views : ProcessViews) (history : List Entry) (i : ℕ)
+    → StepIsDue sizes words views history i
     → Acted sizes (next_action sizes (views i)) (word_at sizes words) (word_at sizes (words_after sizes words (views i)))
 due_acts sizes words views history i due =
     let allowed = step_allowed sizes (word_at sizes words) views history i due.table.shape due.table.low due.table.meets due.busy in
-    table_acted sizes words (next_action sizes (views i)) due.table.whole (next_in_range sizes (word_at sizes words) (views i) (is_alone (views i).calls.way) refl allowed)
+    table_acted sizes words (next_action sizes (views i)) due.table.whole
+    (next_in_range sizes (word_at sizes words) (views i) (is_alone (views i).calls.way) refl allowed)
 
 pub steps_leave_data : StepsLeaveData
 steps_leave_data sizes words views history i due block index lb lk isnt =
     let (ghosts, h) = due.table.meets in
     let new = word_at sizes (words_after sizes words (views i)) in
-    way_leaves_data sizes (word_at sizes words) new views history ghosts i due.table.shape due.table.low h (is_alone (views i).calls.way) block index (in_its_call (views i) (is_alone (views i).calls.way) refl due.busy) lb lk isnt
+    way_leaves_data sizes (word_at sizes words) new views history ghosts i due.table.shape due.table.low h
+    (is_alone (views i).calls.way) block index (in_its_call (views i) (is_alone (views i).calls.way) refl due.busy) lb lk isnt
     (due_acts sizes words views history i due)
 
 pub steps_tell_data : StepsTellData
 steps_tell_data sizes words views history i due known d =
     let (ghosts, h) = due.table.meets in
     let new = word_at sizes (words_after sizes words (views i)) in
-    way_tells sizes (word_at sizes words) new views history ghosts i due.table.shape due.table.low h (is_alone (views i).calls.way) known refl (in_its_call (views i) (is_alone (views i).calls.way) refl due.busy)
+    way_tells sizes (word_at sizes words) new views history ghosts i due.table.shape due.table.low h
+    (is_alone (views i).calls.way) known refl (in_its_call (views i) (is_alone (views i).calls.way) refl due.busy)
     (due_acts sizes words views history i due) d
 
 pub steps_enter_own : StepsEnterOwn

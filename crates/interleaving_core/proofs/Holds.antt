@@ -33,7 +33,7 @@ use Rattle.interleaving_core.specs.Runs.{entries_of}
 use Rattle.interleaving_core.specs.Steps.{is_alone, is_busy, is_in_call, next_action, next_met, next_answer}
 
 -- ways and stages
-is_alone_way : (way : Way) → is_alone way ≡ true → way ≡ Alone
+pub is_alone_way : (way : Way) → is_alone way ≡ true → way ≡ Alone
 is_alone_way way e = grind arith
 
 rest_not : (s : NextStep) → not (is_rest s) ≡ true → s ≢ Rest

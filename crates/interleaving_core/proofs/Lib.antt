@@ -16,6 +16,7 @@ pub mod OwnSteps
 pub mod OwnAllowed
 pub mod Holds
 pub mod Tables
+pub mod Busy
 pub mod Holders
 pub mod Runs
 pub mod RunTurns
@@ -35,3 +36,5 @@ pub mod CallLawsTurns
 pub mod CallLawsAges
 pub mod DataSteps
 pub mod Due
+pub mod Conditions
+pub mod Replies

@@ -9,4 +9,5 @@ pub mod Kept
 pub mod CallLaws
 pub mod InvariantLaws
 pub mod DataWords
+pub mod CallConditions
 pub mod StepLaws

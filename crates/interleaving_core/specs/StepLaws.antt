@@ -2,20 +2,25 @@
 use Rattle.std.specs.Prelude.{◌≡◌, ◌≢◌, ℕ, ◌<◌, Bool, true, List, ◌++◌, length, Contains}
 use Rattle.word_layout.specs.Sizes.{Sizes, IsShape, blocks}
 use Rattle.word_layout.specs.Names.{table_words, word_at}
+use Rattle.word_layout.specs.Packing.{reply_of}
 use Rattle.word_layout.specs.declared.announced.Wish.{Wish}
 use Rattle.word_layout.specs.declared.name.WordName.TheVariants.{Data}
 use Rattle.pool_model.specs.declared.entry.Entry.{Entry}
 use Rattle.pool_model.specs.History.{own, grip}
 use Rattle.transfer_machine.specs.Words.{acted, met_word}
+use Rattle.transfer_machine.specs.declared.stage.NextStep.TheVariants.{LoadReply}
 use Rattle.pool_machine.specs.declared.call.Call.{Call}
 use Rattle.pool_machine.specs.declared.view.ProcessView.{ProcessView}
 use Rattle.batch_invariant.specs.Batches.{ProcessViews, MovedProcess}
+use Rattle.interleaving_core.specs.CallConditions.{CallConditions}
 use Rattle.interleaving_core.specs.DataWords.{known_after}
 use Rattle.interleaving_core.specs.Invariant.{Known, DataHolds, BlockIsHeld, MeetsInvariant}
 use Rattle.interleaving_core.specs.InvariantLaws.{WhereverMet}
+use Rattle.interleaving_core.specs.Kept.{reply_value_at}
 use Rattle.interleaving_core.specs.Moves.{may_go, calling_view, may_go_alone, moving_view}
 use Rattle.interleaving_core.specs.Runs.{entries_of}
 use Rattle.interleaving_core.specs.Steps.{is_busy, next_action, next_met, next_answer}
+use Rattle.interleaving_core.specs.TransferLaws.{moves_transfer}
 
 -- the word that the next step of a view meets
 abbrev pub word_met : Sizes → List ℕ → ProcessView → ℕ
@@ -69,6 +74,12 @@ StepsTellData = AtEachStep (λ sizes words views history i.
     → DataHolds sizes (word_at sizes (words_after sizes words (views i))) (grip (own (history_after sizes words (views i) history) i))
     (known_after (views i) (word_met sizes words (views i)) known))
 
+-- where it loads the reply that ends a transfer, its process is answered with its reply in the current record
+abbrev pub AnswersAreReplies : Type 0
+AnswersAreReplies = AtEachStep (λ sizes words views history i.
+    moves_transfer (views i) ≡ true → (views i).transfer.next ≡ LoadReply
+    → (view_after sizes words (views i)).transfer.answer ≡ reply_of (reply_value_at sizes words i))
+
 -- it makes no entry of another process
 abbrev pub StepsEnterOwn : Type 0
 StepsEnterOwn = AtEachStep (λ sizes words views history i. (other : ℕ) → other ≢ i
@@ -81,15 +92,15 @@ HoldersAreApart = WhereverMet (λ sizes words views history. (i block : ℕ) →
 
 -- a process goes on with its call, or begins this one, whose block it holds: its next step is due
 abbrev pub CallsAreDue : Type 0
-CallsAreDue = (sizes : Sizes) (words : List ℕ) (views begun : ProcessViews) (history : List Entry) (i : ℕ) (call : Call) (holds : Bool)
-    → TableMeets sizes words views history i
+CallsAreDue = (sizes : Sizes) (words : List ℕ) (views begun : ProcessViews) (history : List Entry) (i : ℕ)
+    (call : Call) (holds : Bool) → TableMeets sizes words views history i
     → may_go sizes holds call (views i) ≡ true → (holds ≡ true → BlockIsHeld (grip (own history i)) call)
     → MovedProcess i (calling_view call (views i)) views begun → StepIsDue sizes words begun history i
 
 -- and so, with that step, it keeps the invariant
 abbrev pub CallsKeepInvariant : Type 0
-CallsKeepInvariant = (sizes : Sizes) (words : List ℕ) (views after : ProcessViews) (history : List Entry) (i : ℕ) (call : Call) (holds : Bool)
-    → TableMeets sizes words views history i
+CallsKeepInvariant = (sizes : Sizes) (words : List ℕ) (views after : ProcessViews) (history : List Entry) (i : ℕ)
+    (call : Call) (holds : Bool) → TableMeets sizes words views history i
     → may_go sizes holds call (views i) ≡ true → (holds ≡ true → BlockIsHeld (grip (own history i)) call)
     → MovedProcess i (view_after sizes words (calling_view call (views i))) views after
     → MeetsInvariant sizes (words_after sizes words (calling_view call (views i))) after
@@ -108,3 +119,8 @@ MovesKeepInvariant = (sizes : Sizes) (words : List ℕ) (views after : ProcessVi
     → MovedProcess i (view_after sizes words (moving_view wish (views i))) views after
     → MeetsInvariant sizes (words_after sizes words (moving_view wish (views i))) after
     (history_after sizes words (moving_view wish (views i)) history)
+
+-- a process that is to make a step of a transfer meets the conditions on the call that its view names, if any
+abbrev pub CallsMeetConditions : Type 0
+CallsMeetConditions = WhereverMet (λ sizes words views history. (i : ℕ) → i < sizes.processes → moves_transfer (views i) ≡ true
+    → CallConditions sizes (grip (own history i)) (views i).calls.call (views i))

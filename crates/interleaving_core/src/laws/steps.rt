@@ -1,6 +1,6 @@
 //! What the next step of one process makes of words and views that meet the invariant, whether or not a run led to
 //! them.
-ghost use Rattle.interleaving_core.specs.StepLaws.{StepsKeepInvariant, StepsLeaveData, StepsTellData, StepsEnterOwn, HoldersAreApart, CallsAreDue, CallsKeepInvariant, MovesAreDue, MovesKeepInvariant};
+ghost use Rattle.interleaving_core.specs.StepLaws.{StepsKeepInvariant, StepsLeaveData, StepsTellData, StepsEnterOwn, HoldersAreApart, CallsAreDue, CallsKeepInvariant, MovesAreDue, MovesKeepInvariant, CallsMeetConditions, AnswersAreReplies};
 
 /// A step keeps the invariant, with the history that its answer makes.
 pub fn steps_keep_invariant()
@@ -40,4 +40,16 @@ pub fn steps_enter_own()
 /// What a process holds is a block of the pool, and no other process holds it.
 pub fn holders_are_apart()
     ensures { HoldersAreApart }
+{}
+
+/// The process whose step loads the reply that ends its transfer is answered with its reply in the current record,
+/// whatever the others did since its last try.
+pub fn answers_are_replies()
+    ensures { AnswersAreReplies }
+{}
+
+/// A process that is to make a step of a transfer meets the conditions on its call: alone it has begun none; in a
+/// call it holds the block that this names, and has made fewer than a quantum of steps in it.
+pub fn calls_meet_conditions()
+    ensures { CallsMeetConditions }
 {}
