@@ -139,7 +139,7 @@ call_wish_due (Free block) v wish e = e
 call_wish_due (Read block index) v wish e = absurd (grind arith)
 call_wish_due (Write block index value) v wish e = absurd (grind arith)
 
-call_named : (call : Call) (v : ProcessView) → (call_begun call v).calls.call ≡ Some call
+pub call_named : (call : Call) (v : ProcessView) → (call_begun call v).calls.call ≡ Some call
 call_named Allocate v = refl
 call_named (Free block) v = refl
 call_named (Read block index) v = refl

@@ -26,7 +26,8 @@ use Rattle.interleaving_core.specs.Moves.{CoreState, view_at, calling_view, with
 use Rattle.interleaving_core.specs.Runs.{Turn, Events, IsRun, turns, by_of, is_made, turning_view, after_turn}
 use Rattle.interleaving_core.specs.Steps.{is_alone, is_in_call, next_action, next_met}
 use Rattle.interleaving_core.proofs.Standing.{alone_between}
-use Rattle.interleaving_core.proofs.Runs.{first_inside, RunFits, turn_low}
+use Rattle.interleaving_core.proofs.Busy.{first_inside}
+use Rattle.interleaving_core.proofs.Runs.{RunFits, turn_low}
 use Rattle.interleaving_core.proofs.RunTurns.{own_view}
 use Rattle.interleaving_core.proofs.CallLaws.{shapes_stay, every_run, quanta_here}
 

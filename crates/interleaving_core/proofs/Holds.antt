@@ -33,7 +33,7 @@ use Rattle.interleaving_core.specs.Runs.{entries_of}
 use Rattle.interleaving_core.specs.Steps.{is_alone, is_busy, is_in_call, next_action, next_met, next_answer}
 
 -- ways and stages
-is_alone_way : (way : Way) → is_alone way ≡ true → way ≡ Alone
+pub is_alone_way : (way : Way) → is_alone way ≡ true → way ≡ Alone
 is_alone_way way e = grind arith
 
 rest_not : (s : NextStep) → not (is_rest s) ≡ true → s ≢ Rest
@@ -77,7 +77,7 @@ way_holds sizes words new views after history ghosts i false shape li h alone bu
     refl (busy refl) acted moved
 
 -- what a process with a next step is at
-in_its_call : (v : ProcessView) (t : Bool) → is_alone v.calls.way ≡ t → is_busy v ≡ true → t ≡ false → is_in_call v.calls.stage ≡ true
+pub in_its_call : (v : ProcessView) (t : Bool) → is_alone v.calls.way ≡ t → is_busy v ≡ true → t ≡ false → is_in_call v.calls.stage ≡ true
 in_its_call v true alone busy e = absurd (outside (sym e))
 in_its_call v false alone busy e = rw alone at busy
 

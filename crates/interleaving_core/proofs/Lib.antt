@@ -17,6 +17,7 @@ pub mod OwnAllowed
 pub mod Holds
 pub mod Tables
 pub mod Surface
+pub mod Busy
 pub mod Holders
 pub mod Runs
 pub mod RunTurns
@@ -37,3 +38,7 @@ pub mod CallLawsAges
 pub mod MovingBegins
 pub mod MovingAnswers
 pub mod Labels
+pub mod DataSteps
+pub mod Due
+pub mod Conditions
+pub mod Replies

@@ -16,23 +16,8 @@ use Rattle.transfer_invariant.specs.Memory.{Words, Acted}
 use Rattle.pool_machine.specs.OwnSteps.{next_block, allocate_action, own_action_for}
 use Rattle.chain_invariant.specs.Calls.{with_got, held_by_call, NamesHeld}
 use Rattle.chain_invariant.specs.Chains.{without}
+use Rattle.interleaving_core.specs.DataWords.{with_word, forgets, known_by_call}
 use Rattle.interleaving_core.specs.Invariant.{Known, DataHolds}
-
--- a data word is known to have this value
-abbrev pub with_word : ℕ → ℕ → ℕ → Known → Known
-with_word block index value known = λ b k. if b == block && (k == index) then Some value else known b k
-
--- nothing is known of a block
-abbrev pub forgets : ℕ → Known → Known
-forgets block known = λ b k. if b == block then None else known b k
-
--- the data words that a process knows after the own step of this call, which met this word
-abbrev pub known_by_call : ℕ → Option Call → Known → Known
-known_by_call word None known = known
-known_by_call word (Some Allocate) known = known
-known_by_call word (Some (Free block)) known = forgets block known
-known_by_call word (Some (Read block index)) known = with_word block index word known
-known_by_call word (Some (Write block index value)) known = with_word block index value known
 
 -- the data words of held blocks stay
 abbrev pub HeldWordsStay : Sizes → List ℕ → Words → Words → Type 0

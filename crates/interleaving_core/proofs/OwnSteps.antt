@@ -27,9 +27,10 @@ use Rattle.history_invariant.specs.Steps.{with_ledger}
 use Rattle.history_invariant.proofs.Replacing.{replaced_with}
 use Rattle.call_invariant.specs.Uses.{UsesPool}
 use Rattle.call_invariant.proofs.Uses.{uses_calls}
+use Rattle.interleaving_core.specs.DataWords.{known_by_call}
 use Rattle.interleaving_core.specs.Invariant.{Known, Ghosts, held_in, KnowsOfNothing, DataHolds, Holds, Meets}
 use Rattle.interleaving_core.specs.Runs.{entries_of}
-use Rattle.interleaving_core.proofs.OwnData.{HeldAreLow, known_by_call, data_stays, others_words_stay, own_data}
+use Rattle.interleaving_core.proofs.OwnData.{HeldAreLow, data_stays, others_words_stay, own_data}
 use Rattle.interleaving_core.proofs.OwnLedgers.{OwnDue, due_of, own_goes, own_history}
 use Rattle.interleaving_core.proofs.OwnParts.{ledger_by_call, grip_by_call, finds_by_call, own_leaves_stack}
 

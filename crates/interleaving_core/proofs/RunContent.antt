@@ -93,14 +93,14 @@ ages_of sizes xs i v low same o = elim (cases_eq o i) [
 ]
 
 -- a step is one of the transfer, or the own one of a call
-moves_action : (sizes : Sizes) (v : ProcessView) (t : Bool) (stage : CallStage) → is_alone v.calls.way ≡ t → v.calls.stage ≡ stage
+pub moves_action : (sizes : Sizes) (v : ProcessView) (t : Bool) (stage : CallStage) → is_alone v.calls.way ≡ t → v.calls.stage ≡ stage
     → moves_transfer v ≡ true → next_action sizes v ≡ action_of sizes v.transfer
 moves_action sizes v true stage alone here moves = rw alone refl
 moves_action sizes v false Between alone here moves = absurd (false≢true (rw (alone, here) at moves))
 moves_action sizes v false Moving alone here moves = rw (alone, here) refl
 moves_action sizes v false Own alone here moves = absurd (false≢true (rw (alone, here) at moves))
 
-moves_met : (sizes : Sizes) (v : ProcessView) (word : ℕ) (t : Bool) (stage : CallStage) → is_alone v.calls.way ≡ t → v.calls.stage ≡ stage
+pub moves_met : (sizes : Sizes) (v : ProcessView) (word : ℕ) (t : Bool) (stage : CallStage) → is_alone v.calls.way ≡ t → v.calls.stage ≡ stage
     → moves_transfer v ≡ true → (next_met sizes v word).transfer ≡ met_of sizes v.transfer word
 moves_met sizes v word true stage alone here moves = rw alone refl
 moves_met sizes v word false Between alone here moves = absurd (false≢true (rw (alone, here) at moves))

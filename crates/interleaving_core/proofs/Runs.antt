@@ -7,23 +7,17 @@ use Rattle.std.proofs.lemmas.Bool.{cases_eq}
 use Rattle.std.proofs.lemmas.Bool.Decides.{nat_tests}
 use Rattle.std.proofs.lemmas.List.{set-get_or, length-append, get_or_push, get_or_append_left, get_or_default, append-nil}
 use Rattle.word_layout.specs.Sizes.{Sizes, IsShape, blocks}
-use Rattle.word_layout.specs.Names.{table_words, word_at, set_word, place}
+use Rattle.word_layout.specs.Names.{table_words, word_at, place}
 use Rattle.word_layout.specs.declared.announced.Wish.{Wish}
 use Rattle.pool_model.specs.declared.entry.Entry.{Entry}
-use Rattle.transfer_schedule.specs.Numbers.{is_idle}
 use Rattle.transfer_machine.specs.Opening.{AreOpening}
 use Rattle.pool_machine.specs.Pools.{opening_view}
-use Rattle.transfer_machine.specs.Words.{acted, met_word, name_of, left_by}
-use Rattle.transfer_machine.specs.declared.action.Action.{Action}
+use Rattle.transfer_machine.specs.Words.{acted, met_word}
 use Rattle.transfer_machine.specs.Stages.{is_rest}
 use Rattle.pool_machine.specs.declared.call.Call.{Call}
-use Rattle.pool_machine.specs.declared.call.Call.TheVariants.{Allocate, Free, Read, Write}
-use Rattle.pool_machine.specs.declared.call.CallStage.TheVariants.{Moving, Own}
-use Rattle.pool_machine.specs.declared.call.Way.{Way}
-use Rattle.pool_machine.specs.declared.call.Way.TheVariants.{Fresh, Alone, Calls}
 use Rattle.pool_machine.specs.declared.view.ProcessView.{ProcessView}
 use Rattle.batch_invariant.specs.Batches.{ProcessViews, MovedProcess}
-use Rattle.pool_machine.specs.Beginning.{alone_begun, call_begun, before_call}
+use Rattle.pool_machine.specs.Beginning.{alone_begun, call_begun}
 use Rattle.pool_machine.specs.Conditions.{may_use_transfers, may_call}
 use Rattle.pool_machine.specs.declared.event.Happened.{Happened}
 use Rattle.pool_machine.specs.declared.event.Happened.TheVariants.{Ignored}
@@ -36,9 +30,10 @@ use Rattle.interleaving_core.specs.Runs.{Turn, Moves, Events, IsRun, opens, turn
 use Rattle.interleaving_core.specs.Runs.{after_turn, turn_answer, entries_of}
 use Rattle.interleaving_core.proofs.Holders.{HoldersFit, opened_holders, step_holders, truly_held}
 use Rattle.interleaving_core.proofs.Begins.{alone_begins, call_begins}
+use Rattle.interleaving_core.proofs.Busy.{moving_busy, calling_busy}
 use Rattle.interleaving_core.proofs.Opens.{opening_holds}
 use Rattle.interleaving_core.proofs.Standing.{number_holds, fresh_rests, alone_between}
-use Rattle.interleaving_core.proofs.Tables.{table_step, with_view_here, rests, between_calls, either_may}
+use Rattle.interleaving_core.proofs.Tables.{acted_length, table_step, with_view_here, rests, between_calls, either_may}
 
 -- the words and views at the end of a run are those of the shape, and meet the invariant
 pub record RunFits (s : CoreState) (history : List Entry) : Type 0 where
@@ -102,11 +97,6 @@ moved_twice sizes xs i v x lt = record {
   elsewhere = λ o ne. get_or-set_other xs i o x (opening_view sizes o) ne ∙ sym (get_or-set_other xs i o v (opening_view sizes o) ne);
 }
 
--- an action leaves the number of words
-acted_length : (sizes : Sizes) (words : List ℕ) (action : Action) → length (acted sizes words action) ≡ length words
-unfolding set_word
-acted_length sizes words action = length-set words (place sizes (name_of action)) (left_by action (met_word sizes words action))
-
 -- both conditions of a turn
 both_low : (a b : ℕ) (t : Bool) → (nat_lt a b && t) ≡ true → a < b
 both_low a b true h = grind (arith, nat_tests)
@@ -141,31 +131,6 @@ calling_meets s history i call false fits li may inside =
     call_begins s.sizes (word_at s.sizes s.words) (view_at s) _ history i call (holds_for s.holders i call) fits.shape li fits.meets
     (between_calls v.calls.stage inside) calls
     (truly_held s.sizes history s.holders i call fits.holders) (moved_seats s.sizes s.views i (call_begun call v) (rw fits.seats li))
-
--- a process that turns has a next step
-moving_busy : (wish : Wish) (v : ProcessView) (way : Way) (t : Bool) → v.calls.way ≡ way → (way ≡ Fresh → is_rest v.transfer.next ≡ true)
-    → is_rest v.transfer.next ≡ t → may_use_transfers way ≡ true → is_busy (if t then alone_begun wish v else v) ≡ true
-moving_busy wish v way true e fresh rest may = refl
-moving_busy wish v Fresh false e fresh rest may = let h = fresh refl in grind arith
-moving_busy wish v Alone false e fresh rest may = rw (e, rest) refl
-moving_busy wish v Calls false e fresh rest may = grind arith
-
-pub first_inside : (t : Bool) → is_in_call (if t then Own else Moving) ≡ true
-first_inside true = refl
-first_inside false = refl
-
-begun_inside : (call : Call) (v : ProcessView) → is_busy (call_begun call v) ≡ true
-begun_inside Allocate v = first_inside (is_idle (before_call v).pool.plan.pending)
-begun_inside (Free block) v = first_inside (is_idle (before_call v).pool.plan.pending)
-begun_inside (Read block index) v = refl
-begun_inside (Write block index value) v = refl
-
-calling_busy : (call : Call) (v : ProcessView) (way : Way) (t : Bool) → v.calls.way ≡ way → (way ≡ Alone → is_in_call v.calls.stage ≡ false)
-    → is_in_call v.calls.stage ≡ t → is_busy (if t then v else call_begun call v) ≡ true
-calling_busy call v Fresh true e alone inside = rw (e, inside) refl
-calling_busy call v Alone true e alone inside = let h = alone refl in grind arith
-calling_busy call v Calls true e alone inside = rw (e, inside) refl
-calling_busy call v way false e alone inside = begun_inside call v
 
 pub turn_meets : (s : CoreState) (history : List Entry) (turn : Turn) → RunFits s history → is_made turn s ≡ true
     → by_of turn < s.sizes.processes

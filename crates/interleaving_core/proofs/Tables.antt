@@ -1,9 +1,9 @@
 -- steps on the words of a table keep the invariant
-use Rattle.std.proofs.Common.{◌≡◌, ◌≢◌, ℕ, ◌<◌, ◌==◌, Bool, true, false, Option, None, Some, List, ◌++◌, length, refl, arith}
+use Rattle.std.proofs.Common.{◌≡◌, ◌≢◌, ℕ, ◌<◌, ◌==◌, Bool, true, false, Option, None, Some, List, ◌++◌, length, refl, arith, length-set}
 use Rattle.std.specs.Prelude.{if◌then◌else◌, ◌||◌}
 use Rattle.std.proofs.lemmas.Bool.Decides.{nat_tests}
 use Rattle.word_layout.specs.Sizes.{Sizes, IsShape}
-use Rattle.word_layout.specs.Names.{InRange, table_words, word_at}
+use Rattle.word_layout.specs.Names.{InRange, table_words, word_at, set_word, place}
 use Rattle.word_layout.specs.Packing.{FitsWish}
 use Rattle.word_layout.specs.declared.announced.Wish.{Wish}
 use Rattle.word_layout.proofs.Placed.{word_at-set_word_same, word_at-set_word_other}
@@ -53,6 +53,11 @@ table_acted sizes table action whole range =
       here = word_at-set_word_same sizes table (name_of action) word whole range;
       elsewhere = λ name low ne. word_at-set_word_other sizes table (name_of action) name word range low ne;
     }
+
+-- an action leaves the number of words
+pub acted_length : (sizes : Sizes) (words : List ℕ) (action : Action) → length (acted sizes words action) ≡ length words
+unfolding set_word
+acted_length sizes words action = length-set words (place sizes (name_of action)) (left_by action (met_word sizes words action))
 
 -- the name that a view acts on in a transfer is in range
 try_in_range : (sizes : Sizes) (v : TransferView) (s : TryStep) → CanActInTry sizes v s → InRange sizes (name_of (try_action sizes v s))
@@ -236,7 +241,7 @@ due_number : (wish : Option Wish) (v : ProcessView) → (begun_if_due wish v).tr
 due_number None v = refl
 due_number (Some wish) v = refl
 
-begun_number : (call : Call) (v : ProcessView) → (call_begun call v).transfer.number ≡ v.transfer.number
+pub begun_number : (call : Call) (v : ProcessView) → (call_begun call v).transfer.number ≡ v.transfer.number
 begun_number Allocate v = due_number (due v.pool) v
 begun_number (Free block) v = due_number (due v.pool) v
 begun_number (Read block index) v = refl

@@ -10,3 +10,6 @@ pub mod CallLaws
 pub mod InvariantLaws
 pub mod MovingLaws
 pub mod LabelLaws
+pub mod DataWords
+pub mod CallConditions
+pub mod StepLaws

@@ -4,4 +4,5 @@ pub mod calls;
 pub mod invariant;
 pub mod labels;
 pub mod moving;
+pub mod steps;
 pub mod transfers;

@@ -1,0 +1,44 @@
+-- a process that goes on with a call or a transfer alone, or begins one, has a next step
+use Rattle.std.proofs.Common.{◌≡◌, Bool, true, false, refl, arith}
+use Rattle.std.specs.Prelude.{if◌then◌else◌}
+use Rattle.word_layout.specs.declared.announced.Wish.{Wish}
+use Rattle.transfer_schedule.specs.Numbers.{is_idle}
+use Rattle.transfer_machine.specs.Stages.{is_rest}
+use Rattle.pool_machine.specs.Beginning.{alone_begun, call_begun, before_call}
+use Rattle.pool_machine.specs.Conditions.{may_use_transfers}
+use Rattle.pool_machine.specs.declared.call.Call.{Call}
+use Rattle.pool_machine.specs.declared.call.Call.TheVariants.{Allocate, Free, Read, Write}
+use Rattle.pool_machine.specs.declared.call.CallStage.TheVariants.{Moving, Own}
+use Rattle.pool_machine.specs.declared.call.Way.{Way}
+use Rattle.pool_machine.specs.declared.call.Way.TheVariants.{Fresh, Alone, Calls}
+use Rattle.pool_machine.specs.declared.view.ProcessView.{ProcessView}
+use Rattle.interleaving_core.specs.Steps.{is_busy, is_in_call}
+
+-- one that makes transfers alone, and goes on or begins with this wish
+pub moving_busy : (wish : Wish) (v : ProcessView) (way : Way) (t : Bool) → v.calls.way ≡ way
+    → (way ≡ Fresh → is_rest v.transfer.next ≡ true)
+    → is_rest v.transfer.next ≡ t → may_use_transfers way ≡ true → is_busy (if t then alone_begun wish v else v) ≡ true
+moving_busy wish v way true e fresh rest may = refl
+moving_busy wish v Fresh false e fresh rest may = let h = fresh refl in grind arith
+moving_busy wish v Alone false e fresh rest may = rw (e, rest) refl
+moving_busy wish v Calls false e fresh rest may = grind arith
+
+-- one that begins a call
+pub first_inside : (t : Bool) → is_in_call (if t then Own else Moving) ≡ true
+first_inside true = refl
+first_inside false = refl
+
+pub begun_inside : (call : Call) (v : ProcessView) → is_busy (call_begun call v) ≡ true
+begun_inside Allocate v = first_inside (is_idle (before_call v).pool.plan.pending)
+begun_inside (Free block) v = first_inside (is_idle (before_call v).pool.plan.pending)
+begun_inside (Read block index) v = refl
+begun_inside (Write block index value) v = refl
+
+-- and one that goes on with its call, or begins this one
+pub calling_busy : (call : Call) (v : ProcessView) (way : Way) (t : Bool) → v.calls.way ≡ way
+    → (way ≡ Alone → is_in_call v.calls.stage ≡ false)
+    → is_in_call v.calls.stage ≡ t → is_busy (if t then v else call_begun call v) ≡ true
+calling_busy call v Fresh true e alone inside = rw (e, inside) refl
+calling_busy call v Alone true e alone inside = let h = alone refl in grind arith
+calling_busy call v Calls true e alone inside = rw (e, inside) refl
+calling_busy call v way false e alone inside = begun_inside call v

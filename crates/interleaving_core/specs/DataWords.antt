@@ -1,0 +1,35 @@
+-- the data words that a process knows, as its steps tell them
+use Rattle.std.specs.Prelude.{ℕ, ◌==◌, ◌&&◌, if◌then◌else◌, Option, None, Some}
+use Rattle.pool_machine.specs.declared.call.Call.{Call}
+use Rattle.pool_machine.specs.declared.call.Call.TheVariants.{Allocate, Free, Read, Write}
+use Rattle.pool_machine.specs.declared.call.CallStage.{CallStage}
+use Rattle.pool_machine.specs.declared.call.CallStage.TheVariants.{Between, Moving, Own}
+use Rattle.pool_machine.specs.declared.view.ProcessView.{ProcessView}
+use Rattle.interleaving_core.specs.Invariant.{Known}
+use Rattle.interleaving_core.specs.Steps.{is_alone}
+
+-- a data word is known to have this value
+abbrev pub with_word : ℕ → ℕ → ℕ → Known → Known
+with_word block index value known = λ b k. if b == block && (k == index) then Some value else known b k
+
+-- nothing is known of a block
+abbrev pub forgets : ℕ → Known → Known
+forgets block known = λ b k. if b == block then None else known b k
+
+-- the data words that a process knows after the own step of this call, which met this word
+abbrev pub known_by_call : ℕ → Option Call → Known → Known
+known_by_call word None known = known
+known_by_call word (Some Allocate) known = known
+known_by_call word (Some (Free block)) known = forgets block known
+known_by_call word (Some (Read block index)) known = with_word block index word known
+known_by_call word (Some (Write block index value)) known = with_word block index value known
+
+-- the same after a step at that stage of its call: only the own step is on a data word
+abbrev pub known_at_stage : ℕ → Option Call → CallStage → Known → Known
+known_at_stage word call Between known = known
+known_at_stage word call Moving known = known
+known_at_stage word call Own known = known_by_call word call known
+
+-- and after the next step of a process, which met this word
+abbrev pub known_after : ProcessView → ℕ → Known → Known
+known_after v word known = if is_alone v.calls.way then known else known_at_stage word v.calls.call v.calls.stage known
