@@ -69,11 +69,11 @@ begun_calls (Free block) v = refl
 begun_calls (Read block index) v = refl
 begun_calls (Write block index value) v = refl
 
-begun_inside : (call : Call) (v : ProcessView) → is_in_call (call_begun call v).calls.stage ≡ true
-begun_inside Allocate v = first_inside (is_idle (before_call v).pool.plan.pending)
-begun_inside (Free block) v = first_inside (is_idle (before_call v).pool.plan.pending)
-begun_inside (Read block index) v = refl
-begun_inside (Write block index value) v = refl
+begun_in_call : (call : Call) (v : ProcessView) → is_in_call (call_begun call v).calls.stage ≡ true
+begun_in_call Allocate v = first_inside (is_idle (before_call v).pool.plan.pending)
+begun_in_call (Free block) v = first_inside (is_idle (before_call v).pool.plan.pending)
+begun_in_call (Read block index) v = refl
+begun_in_call (Write block index value) v = refl
 
 -- the step of a view in a call
 next_left : (sizes : Sizes) (v : ProcessView) (word : ℕ) → is_alone v.calls.way ≡ false → is_in_call v.calls.stage ≡ true
@@ -139,7 +139,7 @@ first_left history s fits i call between made =
     let some = some_quantum s.sizes (shape_fits s.sizes fits.shape) in
     let v = call_begun call (view_at s i) in
     let word = met_word s.sizes s.words (next_action s.sizes v) in
-    let step = next_left s.sizes v word (begun_calls call (view_at s i)) (begun_inside call (view_at s i))
+    let step = next_left s.sizes v word (begun_calls call (view_at s i)) (begun_in_call call (view_at s i))
     (λ e. rw (begun_steps call (view_at s i)) some) in
     let begun : calling_view call (view_at s i) ≡ v = rw between refl in
     made_left s history (Events i call) (most_moves s.sizes call + 1) fits made

@@ -26,7 +26,8 @@ use Rattle.interleaving_core.specs.Moves.{CoreState, view_at}
 use Rattle.interleaving_core.specs.MovingLaws.{is_event_of, events_of, answers_call, is_answered, CallsAreAnswered}
 use Rattle.interleaving_core.specs.Runs.{Turn, Moves, Events, IsRun, turns, is_made, turning_view, after_turn, turn_answer}
 use Rattle.interleaving_core.specs.Steps.{is_in_call, next_action}
-use Rattle.interleaving_core.proofs.Runs.{first_inside, RunFits, run_fits, turn_low}
+use Rattle.interleaving_core.proofs.Busy.{first_inside}
+use Rattle.interleaving_core.proofs.Runs.{RunFits, run_fits, turn_low}
 use Rattle.interleaving_core.proofs.CallLaws.{shapes_stay, every_run}
 use Rattle.interleaving_core.proofs.CallLawsShort.{FirstStepsLeave, first_left, LaterStepsLeave, later_left, in_call_made, inside_view}
 use Rattle.interleaving_core.proofs.CallLawsShort.{other_view, ignored_state, low_here}
