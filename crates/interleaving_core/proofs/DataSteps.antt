@@ -28,13 +28,13 @@ use Rattle.batch_invariant.specs.Batches.{ProcessViews}
 use Rattle.chain_invariant.specs.Calls.{held_by_call}
 use Rattle.chain_invariant.proofs.Gives.{held_are_apart}
 use Rattle.history_invariant.proofs.Replacing.{replaced_with}
-use Rattle.interleaving_core.specs.DataWords.{known_by_call, known_at_stage}
+use Rattle.interleaving_core.specs.DataWords.{known_by_call, changed_by_call, known_at_stage}
 use Rattle.interleaving_core.specs.Invariant.{Known, Ghosts, held_in, DataHolds, Holds}
 use Rattle.interleaving_core.specs.Runs.{entries_of}
-use Rattle.interleaving_core.specs.StepLaws.{word_met, words_after, StepIsDue, StepsLeaveData, StepsTellData, StepsEnterOwn, HoldersAreApart}
+use Rattle.interleaving_core.specs.StepLaws.{word_met, words_after, history_after, StepIsDue, StepsLeaveData, StepsTellData, StepsKeepData, StepsEnterOwn, HoldersAreApart}
 use Rattle.interleaving_core.specs.Steps.{is_alone, is_in_call, next_action}
 use Rattle.interleaving_core.proofs.Holds.{in_its_call, step_allowed}
-use Rattle.interleaving_core.proofs.OwnData.{HeldAreLow, data_stays, others_words_stay, own_data}
+use Rattle.interleaving_core.proofs.OwnData.{HeldAreLow, data_stays, others_words_stay, own_data, own_data_unread}
 use Rattle.interleaving_core.proofs.OwnLedgers.{due_of, own_history}
 use Rattle.interleaving_core.proofs.OwnParts.{ledger_by_call, grip_by_call}
 use Rattle.interleaving_core.proofs.Standing.{isnt_alone, numbered}
@@ -75,6 +75,11 @@ step_elsewhere : (history : List Entry) (v : ProcessView) (other word : ℕ) (t 
     → own (history ++ entries_of (if t then Step (kind_of v.transfer.next) else call_answer v word)) other ≡ own history other
 step_elsewhere history v other word true ne = nothing_entered history other
 step_elsewhere history v other word false ne = call_elsewhere history v other word v.calls.stage ne
+
+-- the own step of a call makes this of what its process knows
+abbrev OwnTells : Sizes → Words → Words → ProcessView → List ℕ → Known → Type 0
+OwnTells sizes words new v held told = Acted sizes (own_action v) words new
+    → DataHolds sizes new (held_by_call v.pool v.calls.call held) told
 
 module _ (sizes : Sizes) (words new : Words) (views : ProcessViews) (history : List Entry) (ghosts : Ghosts) (i : ℕ)
     (shape : IsShape sizes) (li : i < sizes.processes) (h : Holds sizes words views history ghosts) where
@@ -138,39 +143,42 @@ module _ (sizes : Sizes) (words new : Words) (views : ProcessViews) (history : L
       ap grip (after.each i li).sees.own_entries ∙ ap (λ g. grip g.entries) (replaced_with i ledger ghosts.ledgers).here
       ∙ grip_by_call history i v.pool v.calls.call (ghosts.ledgers i)
 
-  own_tells : (known : Known) → (views i).calls.way ≢ Alone → (views i).calls.stage ≡ Own → Acted sizes (own_action (views i)) words new
-      → DataHolds sizes words (grip (own history i)) known
-      → DataHolds sizes new (grip (own (history ++ entries_of (call_answer_at (views i) (words (name_of (own_action (views i)))) Own)) i))
-      (known_by_call (words (name_of (own_action (views i)))) (views i).calls.call known)
-  own_tells known ne own_stage a d =
-      let v = views i in
-      let word = words (name_of (own_action v)) in
-      rw (own_grip word ne own_stage)
-      (own_data sizes words new v.pool (held_in ghosts.ledgers i) known v.calls.call mine_low (h.names i li) a
-      (subst (λ entries. DataHolds sizes words (grip entries) known) (entries_of_process i li) d))
+  call_tells : (stage : CallStage) (known told : Known) → (views i).calls.way ≢ Alone → (views i).calls.stage ≡ stage
+      → is_in_call stage ≡ true → Acted sizes (call_action_at sizes (views i) stage) words new
+      → DataHolds sizes words (grip (own history i)) known → OwnTells sizes words new (views i) (held_in ghosts.ledgers i) told
+      → (word : ℕ) → DataHolds sizes new (grip
+      (own (history ++ entries_of (call_answer_at (views i) word stage)) i)) (known_at_stage told stage known)
+  call_tells Between known told ne e inside a d tells word = absurd (between_is_no_call inside)
+  call_tells Moving known told ne e inside a d tells word = transfer_tells known a d
+  call_tells Own known told ne e inside a d tells word = rw (own_grip word ne e) (tells a)
 
-  call_tells : (stage : CallStage) (known : Known) → (views i).calls.way ≢ Alone → (views i).calls.stage ≡ stage → is_in_call stage ≡ true
-      → Acted sizes (call_action_at sizes (views i) stage) words new → DataHolds sizes words (grip (own history i)) known
-      → DataHolds sizes new (grip
-      (own (history ++ entries_of (call_answer_at (views i) (words (name_of (call_action_at sizes (views i) stage))) stage)) i))
-      (known_at_stage (words (name_of (call_action_at sizes (views i) stage))) (views i).calls.call stage known)
-  call_tells Between known ne e inside a d = absurd (between_is_no_call inside)
-  call_tells Moving known ne e inside a d = transfer_tells known a d
-  call_tells Own known ne e inside a d = own_tells known ne e a d
-
-  way_tells : (t : Bool) (known : Known) → is_alone (views i).calls.way ≡ t → (t ≡ false → is_in_call (views i).calls.stage ≡ true)
+  way_tells : (t : Bool) (known told : Known) → is_alone (views i).calls.way ≡ t → (t ≡ false → is_in_call (views i).calls.stage ≡ true)
       → Acted sizes (if t then action_of sizes (views i).transfer else call_action sizes (views i)) words new
-      → DataHolds sizes words (grip (own history i)) known
-      → DataHolds sizes new
-      (grip (own (history ++ entries_of
-      (if t then Step (kind_of (views i).transfer.next) else call_answer (views i)
-      (words (name_of (if t then action_of sizes (views i).transfer else call_action sizes (views i)))))) i))
-      (if t then known else known_at_stage (words
-      (name_of (if t then action_of sizes (views i).transfer else call_action sizes (views i)))) (views i).calls.call
-      (views i).calls.stage known)
-  way_tells true known alone inside a d = transfer_tells known a d
-  way_tells false known alone inside a d = call_tells (views i).calls.stage known (isnt_alone (views i).calls.way alone) refl
-      (inside refl) a d
+      → DataHolds sizes words (grip (own history i)) known → OwnTells sizes words new (views i) (held_in ghosts.ledgers i) told
+      → (word : ℕ) → DataHolds sizes new
+      (grip (own (history ++ entries_of (if t then Step (kind_of (views i).transfer.next) else call_answer (views i) word)) i))
+      (if t then known else known_at_stage told (views i).calls.stage known)
+  way_tells true known told alone inside a d tells word = transfer_tells known a d
+  way_tells false known told alone inside a d tells word =
+      call_tells (views i).calls.stage known told (isnt_alone (views i).calls.way alone) refl (inside refl) a d tells word
+
+  -- what its own step makes of what it knows
+  known_of_held : (known : Known) → DataHolds sizes words (grip (own history i)) known
+      → DataHolds sizes words (held_in ghosts.ledgers i) known
+  known_of_held known d = subst (λ entries. DataHolds sizes words (grip entries) known) (entries_of_process i li) d
+
+  own_tells : (known : Known) → DataHolds sizes words (grip (own history i)) known
+      → OwnTells sizes words new (views i) (held_in ghosts.ledgers i)
+      (known_by_call (words (name_of (own_action (views i)))) (views i).calls.call known)
+  own_tells known d a =
+      let v = views i in
+      own_data sizes words new v.pool (held_in ghosts.ledgers i) known v.calls.call mine_low (h.names i li) a (known_of_held known d)
+
+  own_changes : (known : Known) → DataHolds sizes words (grip (own history i)) known
+      → OwnTells sizes words new (views i) (held_in ghosts.ledgers i) (changed_by_call (views i).calls.call known)
+  own_changes known d a =
+      let v = views i in
+      own_data_unread sizes words new v.pool (held_in ghosts.ledgers i) known v.calls.call mine_low (h.names i li) a (known_of_held known d)
 
 -- the next step of a process acts on the words by their names
 pub due_acts : (sizes : Sizes) (words : List ℕ) (views : ProcessViews) (history : List Entry) (i : ℕ)
@@ -189,13 +197,54 @@ steps_leave_data sizes words views history i due block index lb lk isnt =
     (is_alone (views i).calls.way) block index (in_its_call (views i) (is_alone (views i).calls.way) refl due.busy) lb lk isnt
     (due_acts sizes words views history i due)
 
+-- what the word that is met says: that of the own step, where the step is one
+word_at_stage : (sizes : Sizes) (words : Words) (v : ProcessView) (stage : CallStage) (known : Known)
+    → known_at_stage (known_by_call (words (name_of (own_action v))) v.calls.call known) stage known
+    ≡ known_at_stage (known_by_call (words (name_of (call_action_at sizes v stage))) v.calls.call known) stage known
+word_at_stage sizes words v Between known = refl
+word_at_stage sizes words v Moving known = refl
+word_at_stage sizes words v Own known = refl
+
+told_by_way : (sizes : Sizes) (words : Words) (v : ProcessView) (t : Bool) (known : Known)
+    → (if t then known else known_at_stage (known_by_call (words (name_of (own_action v))) v.calls.call known) v.calls.stage known)
+    ≡ (if t then known else known_at_stage
+    (known_by_call (words
+    (name_of (if t then action_of sizes v.transfer else call_action sizes v))) v.calls.call known) v.calls.stage known)
+told_by_way sizes words v true known = refl
+told_by_way sizes words v false known = word_at_stage sizes words v v.calls.stage known
+
+module _ (sizes : Sizes) (words : List ℕ) (views : ProcessViews) (history : List Entry) (i : ℕ)
+    (due : StepIsDue sizes words views history i)
+    (known : Known) (d : DataHolds sizes (word_at sizes words) (grip (own history i)) known) where
+  -- what is known after the step, where the own one makes this of it
+  due_tells : (told : Known)
+      → ((ghosts : Ghosts) → Holds sizes (word_at sizes words) views history ghosts
+      → OwnTells sizes (word_at sizes words) (word_at sizes (words_after sizes words (views i))) (views i) (held_in ghosts.ledgers i) told)
+      → DataHolds sizes (word_at sizes (words_after sizes words (views i))) (grip (own (history_after sizes words (views i) history) i))
+      (if is_alone (views i).calls.way then known else known_at_stage told (views i).calls.stage known)
+  due_tells told tells =
+      let (ghosts, h) = due.table.meets in
+      let alone = is_alone (views i).calls.way in
+      way_tells sizes (word_at sizes words) (word_at sizes (words_after sizes words (views i))) views history ghosts i due.table.shape
+      due.table.low h alone known told refl (in_its_call (views i) alone refl due.busy) (due_acts sizes words views history i due) d
+      (tells ghosts h) (word_met sizes words (views i))
+
 pub steps_tell_data : StepsTellData
 steps_tell_data sizes words views history i due known d =
-    let (ghosts, h) = due.table.meets in
+    let v = views i in
+    let named = word_at sizes words in
+    let new = word_at sizes (words_after sizes words v) in
+    let told = known_by_call (named (name_of (own_action v))) v.calls.call known in
+    let all = due_tells sizes words views history i due known d told
+    (λ ghosts h. own_tells sizes named new views history ghosts i due.table.shape due.table.low h known d) in
+    subst (DataHolds sizes new (grip (own (history_after sizes words v history) i)))
+    (told_by_way sizes named v (is_alone v.calls.way) known) all
+
+pub steps_keep_data : StepsKeepData
+steps_keep_data sizes words views history i due known d =
     let new = word_at sizes (words_after sizes words (views i)) in
-    way_tells sizes (word_at sizes words) new views history ghosts i due.table.shape due.table.low h
-    (is_alone (views i).calls.way) known refl (in_its_call (views i) (is_alone (views i).calls.way) refl due.busy)
-    (due_acts sizes words views history i due) d
+    due_tells sizes words views history i due known d (changed_by_call (views i).calls.call known)
+    (λ ghosts h. own_changes sizes (word_at sizes words) new views history ghosts i due.table.shape due.table.low h known d)
 
 pub steps_enter_own : StepsEnterOwn
 steps_enter_own sizes words views history i due other ne =

@@ -25,7 +25,8 @@ use Rattle.interleaving_core.proofs.Standing.{fresh_rests, alone_between, both_f
 use Rattle.interleaving_core.proofs.Tables.{table_step, rests, between_calls, either_may}
 
 pub steps_keep_invariant : StepsKeepInvariant
-steps_keep_invariant sizes words views history i due after moved = table_step sizes words views after history i due.table.shape due.table.whole due.table.low due.table.meets due.busy moved
+steps_keep_invariant sizes words views history i due after moved =
+    table_step sizes words views after history i due.table.shape due.table.whole due.table.low due.table.meets due.busy moved
 
 -- views of which one was replaced by itself are the same
 replaced_by_itself : (i : ℕ) (views begun : ProcessViews) → MovedProcess i (views i) views begun → begun ≡ views

@@ -16,7 +16,7 @@ use Rattle.transfer_invariant.specs.Memory.{Words, Acted}
 use Rattle.pool_machine.specs.OwnSteps.{next_block, allocate_action, own_action_for}
 use Rattle.chain_invariant.specs.Calls.{with_got, held_by_call, NamesHeld}
 use Rattle.chain_invariant.specs.Chains.{without}
-use Rattle.interleaving_core.specs.DataWords.{with_word, forgets, known_by_call}
+use Rattle.interleaving_core.specs.DataWords.{with_word, forgets, known_by_call, changed_by_call}
 use Rattle.interleaving_core.specs.Invariant.{Known, DataHolds}
 
 -- the data words of held blocks stay
@@ -187,3 +187,16 @@ own_data sizes words new pool held known (Some (Read block index)) low names a h
 own_data sizes words new pool held known (Some (Write block index value)) low names a h =
     knows_word sizes words new held known block index value h names.0 names.1 a.here
     (λ b k has lt apart. stored_elsewhere sizes block index value words new b k (low b has) lt apart a)
+
+-- and so it does where it doesn't note a word that it read
+pub own_data_unread : (sizes : Sizes) (words new : Words) (pool : PoolView) (held : List ℕ) (known : Known) (call : Option Call) → HeldAreLow sizes held
+    → NamesHeld sizes held call → Acted sizes (own_action_for pool call) words new → DataHolds sizes words held known
+    → DataHolds sizes new (held_by_call pool call held) (changed_by_call call known)
+own_data_unread sizes words new pool held known None low names a h = own_data sizes words new pool held known None low names a h
+own_data_unread sizes words new pool held known (Some Allocate) low names a h = own_data sizes words new pool held known (Some Allocate) low names a h
+own_data_unread sizes words new pool held known (Some (Free block)) low names a h =
+    own_data sizes words new pool held known (Some (Free block)) low names a h
+own_data_unread sizes words new pool held known (Some (Read block index)) low names a h =
+    data_stays sizes words new held held known h (loads_data sizes block index words new held low a) (λ b has. has)
+own_data_unread sizes words new pool held known (Some (Write block index value)) low names a h =
+    own_data sizes words new pool held known (Some (Write block index value)) low names a h

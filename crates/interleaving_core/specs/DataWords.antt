@@ -24,12 +24,26 @@ known_by_call word (Some (Free block)) known = forgets block known
 known_by_call word (Some (Read block index)) known = with_word block index word known
 known_by_call word (Some (Write block index value)) known = with_word block index value known
 
--- the same after a step at that stage of its call: only the own step is on a data word
-abbrev pub known_at_stage : ℕ → Option Call → CallStage → Known → Known
-known_at_stage word call Between known = known
-known_at_stage word call Moving known = known
-known_at_stage word call Own known = known_by_call word call known
+-- the same, where it doesn't note a word that it read
+abbrev pub changed_by_call : Option Call → Known → Known
+changed_by_call None known = known
+changed_by_call (Some Allocate) known = known
+changed_by_call (Some (Free block)) known = forgets block known
+changed_by_call (Some (Read block index)) known = known
+changed_by_call (Some (Write block index value)) known = with_word block index value known
 
--- and after the next step of a process, which met this word
+-- what is known after a step at that stage of a call, where its own step makes this of it
+abbrev pub known_at_stage : Known → CallStage → Known → Known
+known_at_stage told Between known = known
+known_at_stage told Moving known = known
+known_at_stage told Own known = told
+
+-- the data words that a process knows after its next step, which met this word
 abbrev pub known_after : ProcessView → ℕ → Known → Known
-known_after v word known = if is_alone v.calls.way then known else known_at_stage word v.calls.call v.calls.stage known
+known_after v word known =
+    if is_alone v.calls.way then known else known_at_stage (known_by_call word v.calls.call known) v.calls.stage known
+
+-- the same, where it doesn't note a word that it read
+abbrev pub changed_after : ProcessView → Known → Known
+changed_after v known =
+    if is_alone v.calls.way then known else known_at_stage (changed_by_call v.calls.call known) v.calls.stage known

@@ -13,7 +13,7 @@ use Rattle.pool_machine.specs.declared.call.Call.{Call}
 use Rattle.pool_machine.specs.declared.view.ProcessView.{ProcessView}
 use Rattle.batch_invariant.specs.Batches.{ProcessViews, MovedProcess}
 use Rattle.interleaving_core.specs.CallConditions.{CallConditions}
-use Rattle.interleaving_core.specs.DataWords.{known_after}
+use Rattle.interleaving_core.specs.DataWords.{known_after, changed_after}
 use Rattle.interleaving_core.specs.Invariant.{Known, DataHolds, BlockIsHeld, MeetsInvariant}
 use Rattle.interleaving_core.specs.InvariantLaws.{WhereverMet}
 use Rattle.interleaving_core.specs.Kept.{reply_value_at}
@@ -73,6 +73,13 @@ StepsTellData = AtEachStep (λ sizes words views history i.
     (known : Known) → DataHolds sizes (word_at sizes words) (grip (own history i)) known
     → DataHolds sizes (word_at sizes (words_after sizes words (views i))) (grip (own (history_after sizes words (views i) history) i))
     (known_after (views i) (word_met sizes words (views i)) known))
+
+-- and so it does where its process doesn't note a word that it read
+abbrev pub StepsKeepData : Type 0
+StepsKeepData = AtEachStep (λ sizes words views history i.
+    (known : Known) → DataHolds sizes (word_at sizes words) (grip (own history i)) known
+    → DataHolds sizes (word_at sizes (words_after sizes words (views i))) (grip (own (history_after sizes words (views i) history) i))
+    (changed_after (views i) known))
 
 -- where it loads the reply that ends a transfer, its process is answered with its reply in the current record
 abbrev pub AnswersAreReplies : Type 0

@@ -1,6 +1,6 @@
 //! What the next step of one process makes of words and views that meet the invariant, whether or not a run led to
 //! them.
-ghost use Rattle.interleaving_core.specs.StepLaws.{StepsKeepInvariant, StepsLeaveData, StepsTellData, StepsEnterOwn, HoldersAreApart, CallsAreDue, CallsKeepInvariant, MovesAreDue, MovesKeepInvariant, CallsMeetConditions, AnswersAreReplies};
+ghost use Rattle.interleaving_core.specs.StepLaws.{StepsKeepInvariant, StepsLeaveData, StepsTellData, StepsKeepData, StepsEnterOwn, HoldersAreApart, CallsAreDue, CallsKeepInvariant, MovesAreDue, MovesKeepInvariant, CallsMeetConditions, AnswersAreReplies};
 
 /// A step keeps the invariant, with the history that its answer makes.
 pub fn steps_keep_invariant()
@@ -27,9 +27,10 @@ pub fn steps_leave_data()
 {}
 
 /// What a process knows of the data words of its blocks holds after its step, with the word that a read loaded or a
-/// write stored, and without those of a block that it freed.
+/// write stored, and without those of a block that it freed. It needn't note a word that it read.
 pub fn steps_tell_data()
-    ensures { StepsTellData }
+    ensures told { StepsTellData }
+    ensures kept { StepsKeepData }
 {}
 
 /// A step makes no entry of another process.
