@@ -5,7 +5,7 @@ use Rattle.word_layout.specs.Sizes.{Sizes}
 use Rattle.word_layout.specs.Names.{record_words}
 use Rattle.word_layout.specs.Packing.{tag_of}
 use Rattle.transfer_machine.specs.Loads.{loaded_tag}
-use Rattle.transfer_machine.specs.Tries.{begun_plan, pops_slot, after_announcement}
+use Rattle.transfer_machine.specs.Tries.{begun_draft, pops_slot, after_announcement}
 use Rattle.transfer_machine.specs.Machine.{met_at, met_in_try, after_try, try_ended, installed, after_record, after_heard, record_word_loaded, announcement_loaded}
 use Rattle.transfer_machine.specs.declared.loaded.Loaded.{Loaded}
 use Rattle.transfer_machine.specs.declared.transfer.TransferView.{TransferView}
@@ -32,7 +32,7 @@ ended_same second v h = record { was = h; announced = after_try_announced second
 record_word_same : (sizes : Sizes) (second : Bool) (index : ℕ) (loaded : Loaded) (v : TransferView) → has_announced v.next ≡ true
     → SameAnnouncement v (record_word_loaded sizes second index loaded v)
 record_word_same sizes second index loaded v h = either_view (index + 1 == record_words sizes) v
-    (record v { loaded = loaded; next = Try second (after_record loaded); plan = begun_plan loaded v.plan })
+    (record v { loaded = loaded; next = Try second (after_record loaded); draft = begun_draft loaded v.draft })
     (record v { loaded = loaded; next = Try second (LoadRecordWord (index + 1)) })
     (record { was = h; announced = refl; wish = refl; age = refl }) (record { was = h; announced = refl; wish = refl; age = refl })
 
@@ -40,10 +40,10 @@ announcement_same : (sizes : Sizes) (second : Bool) (process word : ℕ) (v : Tr
     → SameAnnouncement v (announcement_loaded sizes second process word v)
 announcement_same sizes second process word v h =
     let loaded = record v.loaded { announcements = slice_set v.loaded.announcements process word } in
-    let plan = after_announcement sizes.processes v.loaded process word 0 v.plan in
-    either_view (pops_slot sizes.processes v.loaded process word v.plan) v
+    let draft = after_announcement sizes.processes v.loaded process word 0 v.draft in
+    either_view (pops_slot sizes.processes v.loaded process word v.draft) v
     (record v { loaded = loaded; next = Try second (LoadPoppedSlot process) })
-    (record v { loaded = loaded; next = Try second (after_heard sizes process); plan = plan })
+    (record v { loaded = loaded; next = Try second (after_heard sizes process); draft = draft })
     (record { was = h; announced = refl; wish = refl; age = refl }) (record { was = h; announced = refl; wish = refl; age = refl })
 
 -- a step of a try goes on

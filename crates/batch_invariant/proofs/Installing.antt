@@ -11,7 +11,7 @@ use Rattle.transfer_machine.specs.States.{StackState, with_transfer, try_begun, 
 use Rattle.transfer_machine.specs.Tries.{is_pending, is_odd_transfer, announced_wish}
 use Rattle.transfer_machine.specs.declared.transfer.TransferView.{TransferView}
 use Rattle.transfer_invariant.specs.Progress.{has_announced}
-use Rattle.transfer_invariant.specs.Installing.{planned_state}
+use Rattle.transfer_invariant.specs.Installing.{drafted_state}
 use Rattle.batch_invariant.specs.Places.{moving}
 use Rattle.batch_invariant.specs.Batches.{ProcessViews, weight}
 use Rattle.batch_invariant.specs.Transit.{transit_weight, HeadsFit, Carried}
@@ -107,10 +107,10 @@ next_carried sizes s views announcements (suc k) le fits present =
 -- so does the state that a view installs
 pub planned_carried : (sizes : Sizes) (s : StackState) (views : ProcessViews) (v : TransferView) → HeadsFit sizes s views
     → InstallsNext sizes s views v
-    → Carried sizes s (planned_state s v) views
+    → Carried sizes s (drafted_state s v) views
 planned_carried sizes s views v fits installs =
     let announcements = λ (o : ℕ). slice_index v.loaded.announcements o in
     let next = next_of sizes.processes announcements s in
-    carried_on sizes s next (planned_state s v) views (next_carried sizes s views announcements sizes.processes
+    carried_on sizes s next (drafted_state s v) views (next_carried sizes s views announcements sizes.processes
     (omega arith) fits installs.present)
-    (same_carried sizes next (planned_state s v) views installs.planned)
+    (same_carried sizes next (drafted_state s v) views installs.drafted)

@@ -7,7 +7,7 @@ use Rattle.transfer_machine.specs.declared.transfer.TransferView.{TransferView}
 use Rattle.transfer_machine.specs.declared.stage.NextStep.TheVariants.{Rest}
 use Rattle.pool_machine.specs.Pools.{view_begun, view_met, MayBegin}
 use Rattle.pool_machine.specs.declared.view.ProcessView.{ProcessView}
-use Rattle.transfer_invariant.specs.Installing.{planned_state}
+use Rattle.transfer_invariant.specs.Installing.{drafted_state}
 use Rattle.batch_invariant.specs.Batches.{ProcessViews, ReplyMatches, KeepsBatches}
 use Rattle.batch_invariant.specs.Transit.{HeadsFit, Carried}
 use Rattle.batch_invariant.specs.Premises.{InStep, PendingIsPresent, InstallsNext, SameStack}
@@ -42,4 +42,4 @@ abbrev pub PlannedStatesCarry : Type 0
 PlannedStatesCarry = (sizes : Sizes) (s : StackState) (views : ProcessViews) (v : TransferView)
     → HeadsFit sizes s views
     → InstallsNext sizes s views v
-    → Carried sizes s (planned_state s v) views
+    → Carried sizes s (drafted_state s v) views

@@ -7,7 +7,7 @@ use Rattle.transfer_machine.specs.Tries.{is_pending}
 use Rattle.transfer_machine.specs.declared.transfer.TransferView.{TransferView}
 use Rattle.transfer_machine.specs.declared.stage.NextStep.TheVariants.{LoadReply}
 use Rattle.transfer_invariant.specs.Progress.{has_announced}
-use Rattle.transfer_invariant.specs.Installing.{planned_state}
+use Rattle.transfer_invariant.specs.Installing.{drafted_state}
 use Rattle.batch_invariant.specs.Batches.{ProcessViews}
 
 -- a transfer whose next step meets this word is in step with the present state: none is left to apply unless one is announced,
@@ -30,8 +30,8 @@ pub record SameStack (processes : ℕ) (s t : StackState) : Type 0 where
   pub reply : (i : ℕ) → i < processes → t.reply i ≡ s.reply i
   pub applied : (i : ℕ) → i < processes → t.applied i ≡ s.applied i
 
--- a view that installs the state after this one: its pending announcements are present, and it planned what they make of this state
+-- a view that installs the state after this one: its pending announcements are present, and it drafted what they make of this state
 pub record InstallsNext (sizes : Sizes) (s : StackState) (views : ProcessViews) (v : TransferView) : Type 0 where
   pub row : v.next_record < value_limit
   pub present : (o : ℕ) → o < sizes.processes → PendingIsPresent s (slice_index v.loaded.announcements o) o (views o).transfer
-  pub planned : SameStack sizes.processes (next_of sizes.processes (λ o. slice_index v.loaded.announcements o) s) (planned_state s v)
+  pub drafted : SameStack sizes.processes (next_of sizes.processes (λ o. slice_index v.loaded.announcements o) s) (drafted_state s v)

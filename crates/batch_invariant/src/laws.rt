@@ -12,5 +12,5 @@ pub fn views()
 pub fn states()
     ensures next { NextStatesCarry }
     ensures same { SameStatesCarry }
-    ensures planned { PlannedStatesCarry }
+    ensures drafted { PlannedStatesCarry }
 {}

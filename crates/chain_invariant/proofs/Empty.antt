@@ -13,7 +13,7 @@ use Rattle.word_layout.proofs.Packed.{reply_of-reply_value}
 use Rattle.transfer_machine.specs.States.{StackState, with_transfer, answer_to, next_of}
 use Rattle.transfer_machine.specs.Tries.{is_pending, is_take, is_odd_transfer, announced_wish}
 use Rattle.transfer_machine.specs.declared.transfer.TransferView.{TransferView}
-use Rattle.transfer_invariant.specs.Installing.{planned_state}
+use Rattle.transfer_invariant.specs.Installing.{drafted_state}
 use Rattle.transfer_invariant.specs.Memory.{Words}
 use Rattle.batch_invariant.specs.Batches.{ProcessViews}
 use Rattle.batch_invariant.specs.Premises.{InstallsNext}
@@ -65,10 +65,10 @@ take_found_nothing : (wish : Wish) (s : StackState) → is_take wish ≡ true �
 take_found_nothing Take s take e = nothing_where_empty (s.height == 0) s.height (s.content (s.height - 1)) refl e
 take_found_nothing (Give head) s take e = absurd (grind arith)
 
--- the applied transfers of the planned state say whose announcement was pending
+-- the applied transfers of the drafted state say whose announcement was pending
 was_pending : (s : StackState) (v : TransferView) (i : ℕ) (t : Bool) → is_pending (slice_index v.loaded.announcements i) (s.reply i) ≡ t
-    → (planned_state s v).applied i ≢ s.applied i → t ≡ true
-unfolding planned_state
+    → (drafted_state s v).applied i ≢ s.applied i → t ≡ true
+unfolding drafted_state
 was_pending s v i true e differs = refl
 was_pending s v i false e differs = absurd (differs (rw e refl))
 
@@ -76,8 +76,8 @@ was_pending s v i false e differs = absurd (differs (rw e refl))
 module _ (sizes : Sizes) (words : Words) (s : StackState) (views : ProcessViews) (held : BlockLists) (v : TransferView) (i : ℕ)
     (shape : IsShape sizes) (li : i < sizes.processes)
     (chains : Chains sizes words s views held) (installs : InstallsNext sizes s views v) (take : is_take (views i).transfer.wish ≡ true)
-    (applied : (planned_state s v).applied i ≢ s.applied i)
-    (nothing : reply_of ((planned_state s v).reply i) ≡ Nothing) where
+    (applied : (drafted_state s v).applied i ≢ s.applied i)
+    (nothing : reply_of ((drafted_state s v).reply i) ≡ Nothing) where
   pending : is_pending (slice_index v.loaded.announcements i) (s.reply i) ≡ true
   pending = was_pending s v i (is_pending (slice_index v.loaded.announcements i) (s.reply i)) refl applied
 
@@ -96,13 +96,13 @@ module _ (sizes : Sizes) (words : Words) (s : StackState) (views : ProcessViews)
       ap announced_wish (present.word pending) ∙ wish_read (views i).transfer.age (views i).transfer.wish
       (pending_fits sizes s views i li fits (present.announced pending) (λ e. omega (arith, present.next pending)))
 
-  reply_is : (planned_state s v).reply i ≡ (next_of (suc i) (λ o. slice_index v.loaded.announcements o) s).reply i
+  reply_is : (drafted_state s v).reply i ≡ (next_of (suc i) (λ o. slice_index v.loaded.announcements o) s).reply i
   reply_is =
       let rest : suc i + (sizes.processes - suc i) ≡ sizes.processes = omega arith in
-      installs.planned.reply i li ∙ sym (ap (λ k. (next_of k (λ o. slice_index v.loaded.announcements o) s).reply i) rest)
+      installs.drafted.reply i li ∙ sym (ap (λ k. (next_of k (λ o. slice_index v.loaded.announcements o) s).reply i) rest)
       ∙ later_stay (λ o. slice_index v.loaded.announcements o) s i (sizes.processes - suc i)
 
-  answer_is : reply_of ((planned_state s v).reply i)
+  answer_is : reply_of ((drafted_state s v).reply i)
       ≡ answer_to (views i).transfer.wish (next_of i (λ o. slice_index v.loaded.announcements o) s)
   answer_is =
       let met = next_of i (λ o. slice_index v.loaded.announcements o) s in

@@ -9,10 +9,10 @@ use Rattle.word_layout.proofs.Limits.{two_blocks_a_batch}
 use Rattle.transfer_machine.specs.States.{StackState}
 use Rattle.transfer_machine.specs.declared.transfer.TransferView.{TransferView}
 use Rattle.transfer_machine.specs.declared.stage.NextStep.TheVariants.{Announce}
-use Rattle.transfer_invariant.specs.Installing.{planned_state}
+use Rattle.transfer_invariant.specs.Installing.{drafted_state}
 use Rattle.transfer_invariant.specs.Memory.{Words}
 use Rattle.transfer_invariant.specs.Progress.{has_announced}
-use Rattle.transfer_invariant.specs.Laws.{PlanFits}
+use Rattle.transfer_invariant.specs.Laws.{DraftFits}
 use Rattle.batch_invariant.specs.Places.{moving}
 use Rattle.batch_invariant.specs.Batches.{ProcessViews}
 use Rattle.batch_invariant.specs.Premises.{InstallsNext}
@@ -23,9 +23,9 @@ use Rattle.chain_invariant.proofs.Pool.{spare_pooled}
 use Rattle.chain_invariant.proofs.Places.{head_once}
 use Rattle.chain_invariant.proofs.Counts.{content_low, spare_low, transit_low, begun_low, pending_low, current_is_free, current_code, current_next, head_is_free, head_next, held_apart, room}
 
--- the planned overlay stands above the planned base
-planned_height : (s : StackState) (v : TransferView) → (planned_state s v).height ≡ v.plan.base + v.plan.overlay
-unfolding planned_state
+-- the drafted overlay stands above the drafted base
+planned_height : (s : StackState) (v : TransferView) → (drafted_state s v).height ≡ v.draft.base + v.draft.overlay
+unfolding drafted_state
 planned_height s v = refl
 
 overlay_above : (base k low : ℕ) (high : ℕ → ℕ) → (if nat_lt (base + k) base then low else high (base + k - base)) ≡ high k
@@ -33,18 +33,18 @@ overlay_above base k low high =
     let test : nat_lt (base + k) base ≡ false = grind (arith, nat_tests) in
     let place : base + k - base ≡ k = omega arith in rw (test, place) refl
 
-planned_overlay : (s : StackState) (v : TransferView) (k : ℕ) → (planned_state s v).content (v.plan.base + k) ≡ slice_index v.plan.heads k
-unfolding planned_state
-planned_overlay s v k = overlay_above v.plan.base k (s.content (v.plan.base + k)) (λ place. slice_index v.plan.heads place)
+planned_overlay : (s : StackState) (v : TransferView) (k : ℕ) → (drafted_state s v).content (v.draft.base + k) ≡ slice_index v.draft.heads k
+unfolding drafted_state
+planned_overlay s v k = overlay_above v.draft.base k (s.content (v.draft.base + k)) (λ place. slice_index v.draft.heads place)
 
 -- so a plan has room where the state that it makes has
-planned_fits : (sizes : Sizes) (s : StackState) (v : TransferView) → (planned_state s v).height ≤ sizes.batches
-    → ((place : ℕ) → place < (planned_state s v).height → (planned_state s v).content place < blocks sizes) → PlanFits sizes v.plan
-planned_fits sizes s v within low =
+drafted_fits : (sizes : Sizes) (s : StackState) (v : TransferView) → (drafted_state s v).height ≤ sizes.batches
+    → ((place : ℕ) → place < (drafted_state s v).height → (drafted_state s v).content place < blocks sizes) → DraftFits sizes v.draft
+drafted_fits sizes s v within low =
     let height = planned_height s v in
     record {
       within = omega (arith, height, within);
-      heads = λ k lt. omega (arith, planned_overlay s v k, low (v.plan.base + k) (omega (arith, height)));
+      heads = λ k lt. omega (arith, planned_overlay s v k, low (v.draft.base + k) (omega (arith, height)));
     }
 
 pub some_long : (sizes : Sizes) → IsShape sizes → 1 ≤ sizes.length
@@ -104,9 +104,9 @@ module _ (sizes : Sizes) (words : Words) (s : StackState) (views : ProcessViews)
   )
 
   pub plans_have_room : (v : TransferView) → IsShape sizes → Chains sizes words s views held → InstallsNext sizes s views v
-      → PlanFits sizes v.plan
+      → DraftFits sizes v.draft
   plans_have_room v shape chains installs =
       let long = some_long sizes shape in
       let hold = installs_carry sizes words s views chains.batch_blocks chains.current_blocks held v shape chains.hold installs in
-      planned_fits sizes s v (room sizes words (planned_state s v) views chains.batch_blocks chains.current_blocks held hold long)
-      (λ place lt. content_low sizes words (planned_state s v) views chains.batch_blocks chains.current_blocks held hold place long lt)
+      drafted_fits sizes s v (room sizes words (drafted_state s v) views chains.batch_blocks chains.current_blocks held hold long)
+      (λ place lt. content_low sizes words (drafted_state s v) views chains.batch_blocks chains.current_blocks held hold place long lt)

@@ -19,7 +19,7 @@ use Rattle.transfer_machine.specs.declared.stage.NextStep.TheVariants.{Rest, Ann
 use Rattle.pool_machine.specs.Pools.{MayBegin, view_begun, view_met, pool_begun, pool_met_at, pool_ended, step_counted}
 use Rattle.pool_machine.specs.declared.view.PoolView.{PoolView}
 use Rattle.pool_machine.specs.declared.view.ProcessView.{ProcessView}
-use Rattle.transfer_invariant.specs.Installing.{planned_state}
+use Rattle.transfer_invariant.specs.Installing.{drafted_state}
 use Rattle.transfer_invariant.specs.Memory.{Words}
 use Rattle.batch_invariant.specs.Places.{moving}
 use Rattle.batch_invariant.specs.Batches.{ProcessViews, MovedProcess, ReplyMatches, KeepsBatches, weight}
@@ -192,7 +192,7 @@ next_chains sizes words s views batch_blocks current_blocks held_blocks announce
 pub installs_carry : (sizes : Sizes) (words : Words) (s : StackState) (views : ProcessViews)
     (batch_blocks current_blocks held_blocks : BlockLists) (v : TransferView) → IsShape sizes
     → ChainsHold sizes words s views batch_blocks current_blocks held_blocks → InstallsNext sizes s views v
-    → ChainsHold sizes words (planned_state s v) views batch_blocks current_blocks held_blocks
+    → ChainsHold sizes words (drafted_state s v) views batch_blocks current_blocks held_blocks
 installs_carry sizes words s views batch_blocks current_blocks held_blocks v shape hold installs =
-    carried_chains sizes words s (planned_state s v) views batch_blocks current_blocks held_blocks hold
+    carried_chains sizes words s (drafted_state s v) views batch_blocks current_blocks held_blocks hold
     (planned_carried sizes s views v (chains_fit sizes words s views batch_blocks current_blocks held_blocks shape hold) installs)

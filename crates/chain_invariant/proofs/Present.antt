@@ -1,4 +1,4 @@
--- the present state after a step: it stays, or the planned one is installed
+-- the present state after a step: it stays, or the drafted one is installed
 use Rattle.std.proofs.Common.{◌≡◌, ℕ, ◌+◌, ◌-◌, ◌<◌, ◌==◌, Bool, true, false, refl, sym, ap, ◌∙◌, arith}
 use Rattle.std.specs.Prelude.{if◌then◌else◌}
 use Rattle.std.proofs.lemmas.Bool.Decides.{nat_tests}
@@ -15,7 +15,7 @@ use Rattle.transfer_machine.specs.declared.stage.NextStep.TheVariants.{Rest, Ann
 use Rattle.transfer_machine.specs.declared.stage.TryStep.{TryStep}
 use Rattle.transfer_machine.specs.declared.stage.TryStep.TheVariants.{LoadState, LoadRecordWord, LoadCoveredSlot, ExchangeSlot, LoadAnnouncement, LoadPoppedSlot, StoreRecordWord, ExchangeState}
 use Rattle.transfer_invariant.specs.Memory.{Words, States, Acted, state_tag}
-use Rattle.transfer_invariant.specs.Installing.{planned_state, states_with_planned, states_after_try_step, states_after_at}
+use Rattle.transfer_invariant.specs.Installing.{drafted_state, states_with_drafted, states_after_try_step, states_after_at}
 use Rattle.transfer_invariant.proofs.Acts.{leaves_records, announces, exchanges_slot, exchanges_state, keeps_state}
 use Rattle.transfer_invariant.proofs.Writes.{with_state_here}
 
@@ -28,9 +28,9 @@ record_stored sizes row index word m n a = ap tag_of (a.elsewhere State tt (λ e
 same_words : (a b : ℕ) → (a == b) ≡ true → a ≡ b
 same_words a b h = grind (arith, nat_tests)
 
--- where the present state is the one that a view loaded, its next record is a row, and the state that it planned has a property
+-- where the present state is the one that a view loaded, its next record is a row, and the state that it drafted has a property
 abbrev PlannedHas : (StackState → Type 0) → Words → TransferView → States → Type 0
-PlannedHas P m v states = m State ≡ v.loaded.state → (v.next_record < value_limit) × P (planned_state (states (state_tag m)) v)
+PlannedHas P m v states = m State ≡ v.loaded.state → (v.next_record < value_limit) × P (drafted_state (states (state_tag m)) v)
 
 -- the state is exchanged, or not
 exchange_holds_after : (P : StackState → Type 0) (sizes : Sizes) (m n : Words) (v : TransferView) (states : States) (t : Bool)
@@ -38,16 +38,16 @@ exchange_holds_after : (P : StackState → Type 0) (sizes : Sizes) (m n : Words)
     → PlannedHas P m v states
     → (m State == v.loaded.state) ≡ t
     → Acted sizes (Exchange State v.loaded.state (next_state v)) m n
-    → P ((if t then states_with_planned m v states else states) (state_tag n))
+    → P ((if t then states_with_drafted m v states else states) (state_tag n))
 unfolding state_tag
 exchange_holds_after P sizes m n v states true holds installs test a =
     let same : m State ≡ v.loaded.state = same_words (m State) v.loaded.state test in
-    let planned = installs same in
+    let drafted = installs same in
     let now : loaded_tag v.loaded ≡ state_tag m = sym (ap tag_of same) in
-    let exchanged = exchanges_state sizes v.loaded.state (loaded_tag v.loaded + 1) v.next_record m n planned.0 test a in
+    let exchanged = exchanges_state sizes v.loaded.state (loaded_tag v.loaded + 1) v.next_record m n drafted.0 test a in
     let tag : state_tag n ≡ state_tag m + 1 = exchanged.state ∙ ap (λ k. k + 1) now in
-    let here = with_state_here (state_tag m + 1) (planned_state (states (state_tag m)) v) states in
-    rw (tag, here) planned.1
+    let here = with_state_here (state_tag m + 1) (drafted_state (states (state_tag m)) v) states in
+    rw (tag, here) drafted.1
 exchange_holds_after P sizes m n v states false holds installs test a =
     rw (keeps_state sizes v.loaded.state (next_state v) m n test a).state holds
 
@@ -66,7 +66,7 @@ try_holds_after P sizes m n v states (ExchangeSlot offset) holds installs a = rw
 try_holds_after P sizes m n v states (LoadAnnouncement process) holds installs a =
     rw (leaves_records sizes (Load (Announcement process)) m n a refl).state holds
 try_holds_after P sizes m n v states (LoadPoppedSlot process) holds installs a =
-    rw (leaves_records sizes (Load (Slot (v.plan.base - 1))) m n a refl).state holds
+    rw (leaves_records sizes (Load (Slot (v.draft.base - 1))) m n a refl).state holds
 try_holds_after P sizes m n v states (StoreRecordWord index) holds installs a =
     rw (record_stored sizes v.next_record index (stored_word sizes v index) m n a) holds
 try_holds_after P sizes m n v states ExchangeState holds installs a =

@@ -1,4 +1,4 @@
--- the step of a transfer on the words: no next word changes, and the present state stays or the planned one is installed
+-- the step of a transfer on the words: no next word changes, and the present state stays or the drafted one is installed
 use Rattle.std.proofs.Common.{◌≡◌, ℕ, ◌<◌, Bool, true, false, refl, ap, ◌∙◌, arith}
 use Rattle.word_layout.specs.Sizes.{Sizes, IsShape}
 use Rattle.word_layout.specs.declared.name.WordName.{WordName}
@@ -13,7 +13,7 @@ use Rattle.transfer_machine.specs.declared.stage.TryStep.{TryStep}
 use Rattle.transfer_machine.specs.declared.stage.TryStep.TheVariants.{LoadState, LoadRecordWord, LoadCoveredSlot, ExchangeSlot, LoadAnnouncement, LoadPoppedSlot, StoreRecordWord, ExchangeState}
 use Rattle.pool_machine.specs.Pools.{view_met}
 use Rattle.pool_machine.specs.declared.view.ProcessView.{ProcessView}
-use Rattle.transfer_invariant.specs.Installing.{planned_state, states_after}
+use Rattle.transfer_invariant.specs.Installing.{drafted_state, states_after}
 use Rattle.transfer_invariant.specs.Memory.{Words, States, Acted, state_tag}
 use Rattle.batch_invariant.specs.Batches.{ProcessViews, MovedProcess}
 use Rattle.batch_invariant.specs.Premises.{InStep}
@@ -81,10 +81,10 @@ transfer_keeps sizes m n views after states batch_blocks current_blocks held_blo
     words_stay sizes m n (states_after m v states (state_tag n)) after batch_blocks current_blocks held_blocks
     (holds_after (λ t. ChainsHold sizes m t after batch_blocks current_blocks held_blocks) sizes m n v states v.next stay (λ second is same.
     let next = installs second is same in
-    let planned = planned_state now v in (
+    let drafted = drafted_state now v in (
       next.row,
-      step_keeps sizes m planned views after batch_blocks current_blocks held_blocks i word x li
+      step_keeps sizes m drafted views after batch_blocks current_blocks held_blocks i word x li
           (installs_carry sizes m now views batch_blocks current_blocks held_blocks v shape hold next)
-          (exchange_in_step planned i v word second is) parts moved,
+          (exchange_in_step drafted i v word second is) parts moved,
     )) a)
     (transfer_keeps_nexts sizes v m n a)

@@ -21,9 +21,9 @@ use Rattle.transfer_machine.specs.declared.stage.TryStep.TheVariants.{ExchangeSt
 use Rattle.pool_machine.specs.Pools.{opening_view, view_begun, view_met, MayBegin}
 use Rattle.pool_machine.specs.declared.view.ProcessView.{ProcessView}
 use Rattle.transfer_invariant.specs.Progress.{has_announced}
-use Rattle.transfer_invariant.specs.Installing.{planned_state, states_after}
+use Rattle.transfer_invariant.specs.Installing.{drafted_state, states_after}
 use Rattle.transfer_invariant.specs.Memory.{Words, States, Acted, state_tag}
-use Rattle.transfer_invariant.specs.Laws.{PlanFits}
+use Rattle.transfer_invariant.specs.Laws.{DraftFits}
 use Rattle.batch_invariant.specs.Places.{moving}
 use Rattle.batch_invariant.specs.Batches.{ProcessViews, MovedProcess}
 use Rattle.batch_invariant.specs.Premises.{InStep, PendingIsPresent, InstallsNext, SameStack}
@@ -242,7 +242,7 @@ GivesAreBlocks = (sizes : Sizes) (words : Words) (s : StackState) (views : Proce
 abbrev pub PlansHaveRoom : Type 0
 PlansHaveRoom = (sizes : Sizes) (words : Words) (s : StackState) (views : ProcessViews) (held : BlockLists) (v : TransferView)
     → IsShape sizes → Chains sizes words s views held
-    → InstallsNext sizes s views v → PlanFits sizes v.plan
+    → InstallsNext sizes s views v → DraftFits sizes v.draft
 
 -- the reply that ends a transfer is one to its wish: a give is answered that it gave, a take never
 abbrev pub EndsAnswerWishes : Type 0
@@ -291,7 +291,7 @@ EmptyTakesFindFew = (sizes : Sizes) (words : Words) (s : StackState) (views : Pr
     → Chains sizes words s views held
     → InstallsNext sizes s views v
     → is_take (views i).transfer.wish ≡ true
-    → (planned_state s v).applied i ≢ s.applied i
-    → reply_of ((planned_state s v).reply i) ≡ Nothing
+    → (drafted_state s v).applied i ≢ s.applied i
+    → reply_of ((drafted_state s v).reply i) ≡ Nothing
     → ((t : StackState) (o : ℕ) → o < sizes.processes → kept_blocks sizes t o (views o) ≤ 5 * sizes.length)
     → blocks sizes ≤ total sizes.processes (λ o. length (held o)) + slack (limits_of sizes)

@@ -10,10 +10,10 @@ use Rattle.word_layout.specs.declared.name.WordName.{WordName}
 use Rattle.word_layout.specs.declared.name.WordName.TheVariants.{State, Announcement}
 use Rattle.word_layout.proofs.Packed.{tagged-parts}
 use Rattle.transfer_machine.specs.Loads.{loaded_tag, loaded_record}
-use Rattle.transfer_machine.specs.Tries.{begun_plan}
+use Rattle.transfer_machine.specs.Tries.{begun_draft}
 use Rattle.transfer_machine.specs.Machine.{try_ended, after_slot, after_record, after_heard, after_stored, record_word_loaded}
 use Rattle.transfer_machine.specs.declared.loaded.Loaded.{Loaded}
-use Rattle.transfer_machine.specs.declared.try_plan.TryPlan.{TryPlan}
+use Rattle.transfer_machine.specs.declared.try_draft.TryDraft.{TryDraft}
 use Rattle.transfer_machine.specs.declared.transfer.TransferView.{TransferView}
 use Rattle.transfer_machine.specs.declared.action.Action.TheVariants.{Load}
 use Rattle.transfer_machine.specs.declared.stage.NextStep.TheVariants.{Try}
@@ -110,13 +110,13 @@ word_goes_on : (sizes : Sizes) (m : Words) (views after : Views) (states : State
     → Moved i (if t then record (views i) {
       loaded = loaded;
       next = Try second (after_record loaded);
-      plan = begun_plan loaded (views i).plan;
+      draft = begun_draft loaded (views i).draft;
     } else record (views i) { loaded = loaded; next = Try second (LoadRecordWord (index + 1)) }) views after
     → HelpingHolds sizes m after states
 word_goes_on sizes m views after states i second index loaded li h past e es ea true moved =
     let v = views i in
     let next = after_record loaded in
-    let x = record v { loaded = loaded; next = Try second next; plan = begun_plan loaded v.plan } in
+    let x = record v { loaded = loaded; next = Try second next; draft = begun_draft loaded v.draft } in
     let follows = record_follows loaded in
     let stays = going second (LoadRecordWord index) next v x e refl refl follows refl refl refl refl es (ap length ea) in
     view_same sizes m views after states i x li h past moved stays (rw (record_deaf sizes.processes loaded) (omega arith)) ea
@@ -148,7 +148,7 @@ word_step sizes m views after states i second index word li inv h e et false tes
 
 -- an announcement is loaded
 pub announcement_step : (sizes : Sizes) (m : Words) (views after : Views) (states : States) (i : ℕ) (second : Bool) (process : ℕ)
-    (plan : TryPlan) → sizes.processes ≤ 32 → i < sizes.processes → HelpingHolds sizes m views states → LoadedPast sizes m views
+    (draft : TryDraft) → sizes.processes ≤ 32 → i < sizes.processes → HelpingHolds sizes m views states → LoadedPast sizes m views
     → (views i).next ≡ Try second (LoadAnnouncement process) → (t : Bool)
     → Moved i (if t then record (views i) {
       loaded = record (views i).loaded { announcements = set (views i).loaded.announcements process (m (Announcement process)) };
@@ -156,10 +156,10 @@ pub announcement_step : (sizes : Sizes) (m : Words) (views after : Views) (state
     } else record (views i) {
       loaded = record (views i).loaded { announcements = set (views i).loaded.announcements process (m (Announcement process)) };
       next = Try second (after_heard sizes process);
-      plan = plan;
+      draft = draft;
     }) views after
     → HelpingHolds sizes m after states
-announcement_step sizes m views after states i second process plan few li h past e true moved =
+announcement_step sizes m views after states i second process draft few li h past e true moved =
     let v = views i in
     let heard = set v.loaded.announcements process (m (Announcement process)) in
     let next = LoadPoppedSlot process in
@@ -167,11 +167,11 @@ announcement_step sizes m views after states i second process plan few li h past
     let room = length-set v.loaded.announcements process (m (Announcement process)) in
     let stays = going second (LoadAnnouncement process) next v x e refl refl refl refl refl refl refl refl room in
     view_hears sizes m views after states i process second x few li h past moved stays e refl (omega arith)
-announcement_step sizes m views after states i second process plan few li h past e false moved =
+announcement_step sizes m views after states i second process draft few li h past e false moved =
     let v = views i in
     let heard = set v.loaded.announcements process (m (Announcement process)) in
     let next = after_heard sizes process in
-    let x = record v { loaded = record v.loaded { announcements = heard }; next = Try second next; plan = plan } in
+    let x = record v { loaded = record v.loaded { announcements = heard }; next = Try second next; draft = draft } in
     let room = length-set v.loaded.announcements process (m (Announcement process)) in
     let stays = going second (LoadAnnouncement process) next v x e refl refl (heard_follows sizes process) refl refl refl refl refl room in
     view_hears sizes m views after states i process second x few li h past moved stays e refl (heard_more sizes process)

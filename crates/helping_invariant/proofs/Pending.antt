@@ -1,4 +1,4 @@
--- whether an announcement pends, as a comparison of parities, and what the planned state applies
+-- whether an announcement pends, as a comparison of parities, and what the drafted state applies
 use Rattle.std.proofs.Common.{◌≡◌, ◌≢◌, ℕ, ◌+◌, ◌%◌, ◌<◌, ◌==◌, Bool, true, false, not, refl, sym, ◌∙◌, inl, inr, arith}
 use Rattle.std.specs.Prelude.{if◌then◌else◌}
 use Rattle.std.proofs.lemmas.Bool.Decides.{nat_tests}
@@ -11,8 +11,8 @@ use Rattle.transfer_machine.specs.States.{StackState}
 use Rattle.transfer_machine.specs.declared.transfer.TransferView.{TransferView}
 use Rattle.transfer_machine.specs.declared.stage.NextStep.TheVariants.{Try}
 use Rattle.transfer_machine.specs.declared.stage.TryStep.TheVariants.{ExchangeState}
-use Rattle.transfer_invariant.specs.Installing.{planned_state}
-use Rattle.transfer_invariant.specs.Plans.{RepliesPlanned}
+use Rattle.transfer_invariant.specs.Installing.{drafted_state}
+use Rattle.transfer_invariant.specs.Drafts.{RepliesDrafted}
 use Rattle.helping_invariant.specs.Parts.{heard}
 use Rattle.helping_invariant.proofs.Changes.{AppliesHeard}
 
@@ -57,20 +57,20 @@ next_parity a b ne = let e : a % 2 ≡ (b + 1) % 2 = omega arith in rw e refl
 same_parity : (a b : ℕ) → a % 2 ≡ b % 2 → (a % 2 == 1) ≡ (b % 2 == 1)
 same_parity a b e = rw e refl
 
--- the planned state applies what its view heard
-pub planned_applies : (sizes : Sizes) (s : StackState) (second : Bool) (v : TransferView) → v.next ≡ Try second ExchangeState
-    → IsLoaded sizes.processes v.loaded s → RepliesPlanned sizes.processes v
+-- the drafted state applies what its view heard
+pub drafted_applies : (sizes : Sizes) (s : StackState) (second : Bool) (v : TransferView) → v.next ≡ Try second ExchangeState
+    → IsLoaded sizes.processes v.loaded s → RepliesDrafted sizes.processes v
     → ((o : ℕ) → o < sizes.processes → is_odd_reply (s.reply o) ≡ (s.applied o % 2 == 1))
-    → AppliesHeard sizes.processes s (planned_state s v) v
-unfolding planned_state
-planned_applies sizes s second v e loaded plans parities =
+    → AppliesHeard sizes.processes s (drafted_state s v) v
+unfolding drafted_state
+drafted_applies sizes s second v e loaded drafts parities =
     let waits = λ (o : ℕ) (lo : o < sizes.processes). pends_not (heard v o) (s.reply o) (s.applied o) (parities o lo) in
     let pends = λ (o : ℕ) (lo : o < sizes.processes). pends_so (heard v o) (s.reply o) (s.applied o) (parities o lo) in
     record {
       same_applied = λ o lo same. rw (waits o lo same) refl;
       more_applied = λ o lo ne. rw (pends o lo ne) refl;
-      same_reply = λ o lo same. plans.kept o (rw e lo) (rw (loaded.replies o lo) (waits o lo same)) ∙ loaded.replies o lo;
-      parity = λ o lo. plans.parity o (rw e lo) ∙ elim (cases_eq (tag_of (heard v o) % 2) (s.applied o % 2)) [
+      same_reply = λ o lo same. drafts.kept o (rw e lo) (rw (loaded.replies o lo) (waits o lo same)) ∙ loaded.replies o lo;
+      parity = λ o lo. drafts.parity o (rw e lo) ∙ elim (cases_eq (tag_of (heard v o) % 2) (s.applied o % 2)) [
         | inl same ↦ rw (waits o lo same) (same_parity (tag_of (heard v o)) (s.applied o) same)
         | inr ne ↦ rw (pends o lo ne) (next_parity (tag_of (heard v o)) (s.applied o) ne)
       ];

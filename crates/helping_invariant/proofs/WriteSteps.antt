@@ -7,19 +7,19 @@ use Rattle.word_layout.specs.Sizes.{Sizes}
 use Rattle.word_layout.specs.Packing.{tag_of, value_limit, is_odd_reply}
 use Rattle.word_layout.specs.declared.name.WordName.TheVariants.{State, Announcement}
 use Rattle.transfer_machine.specs.Loads.{loaded_tag}
-use Rattle.transfer_machine.specs.Tries.{planned_value}
+use Rattle.transfer_machine.specs.Tries.{drafted_value}
 use Rattle.transfer_machine.specs.NextStates.{IsLoaded}
 use Rattle.transfer_machine.specs.Machine.{try_action, next_state}
 use Rattle.transfer_machine.specs.Machine.{try_ended, installed, after_stored}
-use Rattle.transfer_machine.specs.declared.try_plan.TryPlan.{TryPlan}
+use Rattle.transfer_machine.specs.declared.try_draft.TryDraft.{TryDraft}
 use Rattle.transfer_machine.specs.declared.transfer.TransferView.{TransferView}
 use Rattle.transfer_machine.specs.declared.action.Action.TheVariants.{Exchange}
 use Rattle.transfer_machine.specs.declared.stage.NextStep.TheVariants.{Try}
 use Rattle.transfer_machine.specs.declared.stage.TryStep.TheVariants.{StoreRecordWord, ExchangeState}
 use Rattle.transfer_invariant.specs.Memory.{Words, Views, States, Acted, Moved, state_tag}
-use Rattle.transfer_invariant.specs.Progress.{in_try, has_announced, heard_announcements, planned_announcements}
-use Rattle.transfer_invariant.specs.Plans.{RepliesPlanned}
-use Rattle.transfer_invariant.specs.Installing.{planned_state, states_with_planned}
+use Rattle.transfer_invariant.specs.Progress.{in_try, has_announced, heard_announcements, drafted_announcements}
+use Rattle.transfer_invariant.specs.Drafts.{RepliesDrafted}
+use Rattle.transfer_invariant.specs.Installing.{drafted_state, states_with_drafted}
 use Rattle.transfer_invariant.specs.Invariant.{RecordsHold}
 use Rattle.transfer_invariant.proofs.Changes.{StateInstalled}
 use Rattle.transfer_invariant.proofs.Writes.{with_state_here, with_state_below}
@@ -30,58 +30,58 @@ use Rattle.transfer_invariant.proofs.Counts.{stored_follows}
 use Rattle.helping_invariant.specs.Parts.{heard, AnnouncementHolds, HearsPresent}
 use Rattle.helping_invariant.specs.Holds.{HelpingHolds}
 use Rattle.helping_invariant.proofs.Changes.{StatesGrow, AppliesHeard}
-use Rattle.helping_invariant.proofs.Pending.{pends_not, planned_applies}
+use Rattle.helping_invariant.proofs.Pending.{pends_not, drafted_applies}
 use Rattle.helping_invariant.proofs.Stored.{misses_announcements}
 use Rattle.helping_invariant.proofs.Moves.{stay, store}
 use Rattle.helping_invariant.proofs.Turns.{view_same, view_ends_try}
 use Rattle.helping_invariant.proofs.Makes.{view_installs}
 use Rattle.helping_invariant.proofs.LoadSteps.{past, going, exchange_failed, stored_heard}
 
--- the reply that is planned for an applied transfer is the present one
-final_reply : (processes : ℕ) (m : Words) (states : States) (o : ℕ) (v w : TransferView) → o < processes → RepliesPlanned processes v
-    → IsLoaded processes v.loaded (states (loaded_tag v.loaded)) → o < planned_announcements processes v.next
+-- the reply that is drafted for an applied transfer is the present one
+final_reply : (processes : ℕ) (m : Words) (states : States) (o : ℕ) (v w : TransferView) → o < processes → RepliesDrafted processes v
+    → IsLoaded processes v.loaded (states (loaded_tag v.loaded)) → o < drafted_announcements processes v.next
     → o < heard_announcements processes v.next → in_try v.next ≡ true → loaded_tag v.loaded ≤ state_tag m
     → is_odd_reply ((states (loaded_tag v.loaded)).reply o) ≡ ((states (loaded_tag v.loaded)).applied o % 2 == 1)
     → HearsPresent processes m states o v w → AnnouncementHolds m states o w
     → ((t : ℕ) → t ≤ state_tag m → (states t).applied o ≡ w.age → (states t).reply o ≡ (states (state_tag m)).reply o)
     → has_announced w.next ≡ true → (states (loaded_tag v.loaded)).applied o ≡ w.age
-    → get_or v.plan.replies o 0 ≡ (states (state_tag m)).reply o
-final_reply processes m states o v w lo plans loaded met heard_it trying le parity h a settled pends applied =
+    → get_or v.draft.replies o 0 ≡ (states (state_tag m)).reply o
+final_reply processes m states o v w lo drafts loaded met heard_it trying le parity h a settled pends applied =
     let s = states (loaded_tag v.loaded) in
     let present : heard v o ≡ m (Announcement o) = h.heard_present trying pends applied heard_it in
     let number : tag_of (heard v o) ≡ s.applied o = rw present (a.tag ∙ sym applied) in
     let not_pending = pends_not (heard v o) (s.reply o) (s.applied o) parity (ap (λ k. k % 2) number) in
-    plans.kept o met (rw (loaded.replies o lo) not_pending) ∙ loaded.replies o lo ∙ settled (loaded_tag v.loaded) le applied
+    drafts.kept o met (rw (loaded.replies o lo) not_pending) ∙ loaded.replies o lo ∙ settled (loaded_tag v.loaded) le applied
 
 -- it stands in the reply's word
-planned_reply : (processes o : ℕ) (plan : TryPlan) → planned_value processes plan (processes + 2 + o) ≡ get_or plan.replies o 0
-planned_reply processes o plan = grind (arith, nat_tests)
+drafted_reply : (processes o : ℕ) (draft : TryDraft) → drafted_value processes draft (processes + 2 + o) ≡ get_or draft.replies o 0
+drafted_reply processes o draft = grind (arith, nat_tests)
 
 -- so what a view stores there is the present reply
 stored_reply : (sizes : Sizes) (m : Words) (views : Views) (states : States) (i : ℕ) (second : Bool) (index o : ℕ) → i < sizes.processes
-    → RecordsHold sizes m views states → HelpingHolds sizes m views states → RepliesPlanned sizes.processes (views i)
+    → RecordsHold sizes m views states → HelpingHolds sizes m views states → RepliesDrafted sizes.processes (views i)
     → (views i).next ≡ Try second (StoreRecordWord index) → o < sizes.processes → has_announced (views o).next ≡ true
     → (states (loaded_tag (views i).loaded)).applied o ≡ (views o).age → sizes.processes + 2 + o ≡ index
-    → planned_value sizes.processes (views i).plan index ≡ (states (state_tag m)).reply o
-stored_reply sizes m views states i second index o li inv h plans e lo pends applied ei =
+    → drafted_value sizes.processes (views i).draft index ≡ (states (state_tag m)).reply o
+stored_reply sizes m views states i second index o li inv h drafts e lo pends applied ei =
     let v = views i in
     let le : loaded_tag v.loaded ≤ state_tag m = (inv.loaded i li).past (rw e refl) in
     let whole = whole_record sizes m states v inv.states_fit (inv.loaded i li) (rw e refl) in
     let parity = h.counts.parities o (loaded_tag v.loaded) lo le in
-    rw (← ei) (planned_reply sizes.processes o v.plan ∙ final_reply sizes.processes m states o v (views o) lo plans whole (rw e lo)
+    rw (← ei) (drafted_reply sizes.processes o v.draft ∙ final_reply sizes.processes m states o v (views o) lo drafts whole (rw e lo)
     (rw e lo) (rw e refl) le parity (h.hears i o li lo) (h.announced o lo) ((h.settled o lo).in_states pends) pends applied)
 
 -- a record word is stored
 pub store_step : (sizes : Sizes) (m n : Words) (views after : Views) (states : States) (i : ℕ) (second : Bool) (index : ℕ)
-    → i < sizes.processes → RecordsHold sizes m views states → HelpingHolds sizes m views states → RepliesPlanned sizes.processes (views i)
-    → (views i).next ≡ Try second (StoreRecordWord index) → planned_value sizes.processes (views i).plan index < value_limit
+    → i < sizes.processes → RecordsHold sizes m views states → HelpingHolds sizes m views states → RepliesDrafted sizes.processes (views i)
+    → (views i).next ≡ Try second (StoreRecordWord index) → drafted_value sizes.processes (views i).draft index < value_limit
     → Acted sizes (try_action sizes (views i) (StoreRecordWord index)) m n
     → Moved i (record (views i) { next = Try second (after_stored sizes index) }) views after → HelpingHolds sizes n after states
-store_step sizes m n views after states i second index li inv h plans e fits a moved =
+store_step sizes m n views after states i second index li inv h drafts e fits a moved =
     let v = views i in
-    let value = planned_value sizes.processes v.plan index in
+    let value = drafted_value sizes.processes v.draft index in
     let s = stores_word sizes v.next_record index (loaded_tag v.loaded + 1) value m n fits a in
-    let replies = λ (o : ℕ) (lo : o < sizes.processes). stored_reply sizes m views states i second index o li inv h plans e lo in
+    let replies = λ (o : ℕ) (lo : o < sizes.processes). stored_reply sizes m views states i second index o li inv h drafts e lo in
     let others = misses_announcements sizes _ m n a (λ o d. cc) in
     let stored = store sizes m n views states v.next_record index (loaded_tag v.loaded) value h s others replies in
     let next = after_stored sizes index in
@@ -92,9 +92,9 @@ store_step sizes m n views after states i second index li inv h plans e fits a m
 
 -- a state is installed: there is one more
 states_grow : (m n : Words) (states : States) (v : TransferView) → state_tag n ≡ state_tag m + 1
-    → StatesGrow m n states (states_with_planned m v states) (planned_state (states (state_tag m)) v)
+    → StatesGrow m n states (states_with_drafted m v states) (drafted_state (states (state_tag m)) v)
 states_grow m n states v number =
-    let next = planned_state (states (state_tag m)) v in
+    let next = drafted_state (states (state_tag m)) v in
     record {
       number = number;
       here = with_state_here (state_tag m + 1) next states;
@@ -103,24 +103,24 @@ states_grow m n states v number =
 
 -- and it applies what its view heard, which loaded the present one
 installed_applies : (sizes : Sizes) (m : Words) (views : Views) (states : States) (i : ℕ) (second : Bool) → i < sizes.processes
-    → RecordsHold sizes m views states → HelpingHolds sizes m views states → RepliesPlanned sizes.processes (views i)
+    → RecordsHold sizes m views states → HelpingHolds sizes m views states → RepliesDrafted sizes.processes (views i)
     → (views i).next ≡ Try second ExchangeState → loaded_tag (views i).loaded ≡ state_tag m
-    → AppliesHeard sizes.processes (states (state_tag m)) (planned_state (states (state_tag m)) (views i)) (views i)
-installed_applies sizes m views states i second li inv h plans e now =
+    → AppliesHeard sizes.processes (states (state_tag m)) (drafted_state (states (state_tag m)) (views i)) (views i)
+installed_applies sizes m views states i second li inv h drafts e now =
     let v = views i in
     let whole = whole_record sizes m states v inv.states_fit (inv.loaded i li) (rw e refl) in
     let parities = λ (o : ℕ) (lo : o < sizes.processes). h.counts.parities o (state_tag m) lo (omega arith) in
-    planned_applies sizes (states (state_tag m)) second v e (rw now at whole) plans parities
+    drafted_applies sizes (states (state_tag m)) second v e (rw now at whole) drafts parities
 
 -- the state is exchanged, or not
 pub exchange_step : (sizes : Sizes) (m n : Words) (views after : Views) (states : States) (i : ℕ) (second t : Bool) → sizes.processes ≤ 32
-    → i < sizes.processes → RecordsHold sizes m views states → HelpingHolds sizes m views states → RepliesPlanned sizes.processes (views i)
+    → i < sizes.processes → RecordsHold sizes m views states → HelpingHolds sizes m views states → RepliesDrafted sizes.processes (views i)
     → (views i).next ≡ Try second ExchangeState → (m State == (views i).loaded.state) ≡ t
     → Acted sizes (Exchange State (views i).loaded.state (next_state (views i))) m n
     → Moved i (if t then installed (views i) else try_ended second (views i)) views after
-    → HelpingHolds sizes n after (if t then states_with_planned m (views i) states else states)
+    → HelpingHolds sizes n after (if t then states_with_drafted m (views i) states else states)
 unfolding state_tag
-exchange_step sizes m n views after states i second true few li inv h plans e test a moved =
+exchange_step sizes m n views after states i second true few li inv h drafts e test a moved =
     let v = views i in
     let now : loaded_tag v.loaded ≡ state_tag m = sym (ap tag_of (eqb-true (m State) v.loaded.state test)) in
     let row = row_fits sizes m i v few li (inv.own i li) in
@@ -128,10 +128,10 @@ exchange_step sizes m n views after states i second true few li inv h plans e te
     let there : StateInstalled sizes m n (state_tag m + 1) v.next_record = rw now at made in
     let others = misses_announcements sizes (Exchange State v.loaded.state (next_state v)) m n a (λ o d. cc) in
     let grows = states_grow m n states v there.state in
-    let applies = installed_applies sizes m views states i second li inv h plans e now in
+    let applies = installed_applies sizes m views states i second li inv h drafts e now in
     view_installs sizes m n views after states _ _ i second li h (past sizes m views states inv) inv.tags_below e now there others grows
     applies moved
-exchange_step sizes m n views after states i second false few li inv h plans e test a moved =
+exchange_step sizes m n views after states i second false few li inv h drafts e test a moved =
     let v = views i in
     let later = exchange_failed sizes m states v (inv.loaded i li) (rw e refl) (eqb-false (m State) v.loaded.state test) in
     let others = misses_announcements sizes (Exchange State v.loaded.state (next_state v)) m n a (λ o d. cc) in

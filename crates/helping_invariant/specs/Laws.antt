@@ -17,7 +17,7 @@ use Rattle.transfer_machine.specs.declared.stage.TryStep.TheVariants.{ExchangeSt
 use Rattle.transfer_invariant.specs.Memory.{Words, Views, States, Acted, Moved, state_tag}
 use Rattle.transfer_invariant.specs.OpeningState.{opening_state}
 use Rattle.transfer_invariant.specs.Installing.{states_after}
-use Rattle.transfer_invariant.specs.Plans.{RepliesPlanned}
+use Rattle.transfer_invariant.specs.Drafts.{RepliesDrafted}
 use Rattle.transfer_invariant.specs.Progress.{has_announced}
 use Rattle.transfer_invariant.specs.Invariant.{Invariant}
 use Rattle.transfer_invariant.specs.Laws.{WritesFit}
@@ -32,14 +32,14 @@ OpeningMeetsHelping =
     → ((i : ℕ) → i < sizes.processes → views i ≡ opening_transfer i)
     → HelpingHolds sizes words views (λ m. opening_state sizes)
 
--- the step of a process keeps them, where what it writes fits, its plan has its replies, and the wish that it announces fits
+-- the step of a process keeps them, where what it writes fits, its draft has its replies, and the wish that it announces fits
 abbrev pub StepsKeepHelping : Type 0
 StepsKeepHelping =
     (sizes : Sizes) (words new : Words) (views after : Views) (states : States) (i : ℕ) → IsShape sizes → i < sizes.processes
     → Invariant sizes words views states
     → HelpingHolds sizes words views states
     → WritesFit sizes words (views i)
-    → RepliesPlanned sizes.processes (views i)
+    → RepliesDrafted sizes.processes (views i)
     → ((views i).next ≡ Announce → FitsWish (views i).wish)
     → Acted sizes (action_of sizes (views i)) words new
     → Moved i (met_of sizes (views i) (words (name_of (action_of sizes (views i))))) views after

@@ -8,7 +8,7 @@ pub fn opening()
     ensures { OpeningMeetsHelping }
 {}
 
-/// Every step of every process keeps the parts of helping, where what it writes fits, its plan replies to
+/// Every step of every process keeps the parts of helping, where what it writes fits, its draft replies to
 /// what it heard, and the wish that it announces fits.
 pub fn steps()
     ensures { StepsKeepHelping }

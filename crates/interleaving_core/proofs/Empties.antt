@@ -32,7 +32,7 @@ use Rattle.chain_invariant.proofs.Moves.{next_chains}
 use Rattle.history_invariant.proofs.Holding.{held_shared}
 use Rattle.call_invariant.specs.Uses.{PoolKeeps}
 use Rattle.call_invariant.proofs.Uses.{empty_stack_leaves_few, idle_pool_rests}
-use Rattle.plan_invariant.proofs.NextState.{either_reply}
+use Rattle.draft_invariant.proofs.NextState.{either_reply}
 use Rattle.chain_invariant.proofs.Gives.{some_long}
 use Rattle.interleaving_core.specs.Invariant.{Ghosts, Holds, held_in}
 use Rattle.interleaving_core.proofs.Joins.{keeps}

@@ -21,7 +21,7 @@ use Rattle.transfer_machine.specs.declared.stage.NextStep.{NextStep}
 use Rattle.transfer_machine.specs.declared.stage.NextStep.TheVariants.{Try}
 use Rattle.transfer_machine.specs.declared.stage.TryStep.TheVariants.{ExchangeState}
 use Rattle.transfer_invariant.specs.Memory.{Words, Acted, state_tag}
-use Rattle.transfer_invariant.specs.Installing.{planned_state, states_after}
+use Rattle.transfer_invariant.specs.Installing.{drafted_state, states_after}
 use Rattle.transfer_invariant.specs.Progress.{has_announced}
 use Rattle.stack_invariant.proofs.Changes.{present_installed}
 use Rattle.stack_invariant.proofs.Follows.{installed_next}
@@ -45,8 +45,8 @@ take_read number (Give head) e = grind arith
 
 -- an announcement that isn't pending leaves the count of its process
 off_applied : (s : StackState) (v : TransferView) (o : ℕ) → is_pending (slice_index v.loaded.announcements o) (s.reply o) ≡ false
-    → (planned_state s v).applied o ≡ s.applied o
-unfolding planned_state
+    → (drafted_state s v).applied o ≡ s.applied o
+unfolding drafted_state
 off_applied s v o off = rw off refl
 
 -- a view that was announced before, with the same wish and age
@@ -80,9 +80,9 @@ third_of_three false b c e = grind arith
 knows_by : (s : StackState) (v : TransferView) (o : ℕ) (old new : TransferView) (g : Ledger) (p : Bool)
     → is_pending (slice_index v.loaded.announcements o) (s.reply o) ≡ p
     → (p ≡ true → slice_index v.loaded.announcements o ≡ announced_word (record { number = old.age; wish = old.wish }))
-    → (p ≡ false → (planned_state s v).reply o ≡ s.reply o)
+    → (p ≡ false → (drafted_state s v).reply o ≡ s.reply o)
     → Since old new → KnowsOfNothing s o old g
-    → KnowsOfNothing (planned_state s v) o new (if finds_nothing s v o then record g { found_nothing = true } else g)
+    → KnowsOfNothing (drafted_state s v) o new (if finds_nothing s v o then record g { found_nothing = true } else g)
 knows_by s v o old new g true pending word reply since h = λ announced applied take nothing.
     let take_too : is_take (announced_wish (slice_index v.loaded.announcements o)) ≡ true = rw (word refl)
     (take_read old.age old.wish (rw (sym since.wish) take)) in
@@ -126,12 +126,12 @@ module _ (sizes : Sizes) (words new : Words) (views after : ProcessViews) (histo
       let v = (views i).transfer in
       let word = slice_index v.loaded.announcements o in
       let gives = installed_next sizes words (transfers views) ghosts.states i second shape li h.stack e hit in
-      let said = says_nothing (reply_of ((planned_state s v).reply o)) (third_of_three _ _ _ f) in
+      let said = says_nothing (reply_of ((drafted_state s v).reply o)) (third_of_three _ _ _ f) in
       few_at sizes words views history ghosts (λ k. slice_index v.loaded.announcements k) o shape lo h
       (installs_next sizes words views history ghosts i second shape li h e hit).present
-      (first_of_three (is_pending word (s.reply o)) (is_take (announced_wish word)) (is_nothing (reply_of ((planned_state s v).reply o))) f)
+      (first_of_three (is_pending word (s.reply o)) (is_take (announced_wish word)) (is_nothing (reply_of ((drafted_state s v).reply o))) f)
       (second_of_three (is_pending word (s.reply o)) (is_take (announced_wish word))
-      (is_nothing (reply_of ((planned_state s v).reply o))) f)
+      (is_nothing (reply_of ((drafted_state s v).reply o))) f)
       (ap reply_of (sym (gives.next.reply o lo)) ∙ said)
 
   knew : (o : ℕ) → o < sizes.processes → KnowsOfNothing s o (views o).transfer (with_ledger i g ghosts.ledgers o)

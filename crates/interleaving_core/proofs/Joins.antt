@@ -17,7 +17,7 @@ use Rattle.transfer_machine.specs.declared.stage.NextStep.TheVariants.{Try}
 use Rattle.transfer_machine.specs.declared.stage.TryStep.TheVariants.{ExchangeState}
 use Rattle.transfer_invariant.specs.Memory.{Words, Views, state_tag}
 use Rattle.transfer_invariant.proofs.Keeps.{row_fits}
-use Rattle.plan_invariant.specs.Heads.{WishIsBlock}
+use Rattle.draft_invariant.specs.Heads.{WishIsBlock}
 use Rattle.stack_invariant.specs.Stack.{Supplied}
 use Rattle.stack_invariant.proofs.Follows.{installed_next, replies_answer, each_process}
 use Rattle.pool_invariant.specs.Kept.{Answers, GivenToPool}
@@ -83,7 +83,7 @@ installs_next sizes words views history ghosts i second shape li h e hit =
         word = λ p. (gives.pending o lo p).word;
         next = λ p. (gives.pending o lo p).next;
       };
-      planned = record { height = gives.next.height; content = gives.next.content; reply = gives.next.reply; applied = gives.next.applied };
+      drafted = record { height = gives.next.height; content = gives.next.content; reply = gives.next.reply; applied = gives.next.applied };
     }
 
 -- a batch that is wished to be given is a block

@@ -16,8 +16,8 @@ use Rattle.transfer_invariant.specs.Memory.{Views, States, Acted, state_tag}
 use Rattle.transfer_invariant.specs.Installing.{states_after}
 use Rattle.transfer_invariant.proofs.Keeps.{row_fits}
 use Rattle.helping_invariant.proofs.Pending.{pends_not, pends_so}
-use Rattle.plan_invariant.specs.NextState.{SameState}
-use Rattle.plan_invariant.proofs.NextState.{next_applied}
+use Rattle.draft_invariant.specs.NextState.{SameState}
+use Rattle.draft_invariant.proofs.NextState.{next_applied}
 use Rattle.stack_invariant.specs.Stack.{StackHolds}
 use Rattle.stack_invariant.specs.Gives.{present}
 use Rattle.stack_invariant.specs.Laws.{HitsNot}

@@ -23,7 +23,7 @@ use Rattle.transfer_machine.specs.declared.stage.TryStep.{TryStep}
 use Rattle.transfer_machine.specs.declared.stage.TryStep.TheVariants.{LoadState, LoadRecordWord, LoadCoveredSlot, ExchangeSlot}
 use Rattle.transfer_machine.specs.declared.stage.TryStep.TheVariants.{LoadAnnouncement, LoadPoppedSlot, StoreRecordWord, ExchangeState}
 use Rattle.transfer_invariant.specs.Memory.{Words, Acted}
-use Rattle.transfer_invariant.specs.Installing.{planned_state}
+use Rattle.transfer_invariant.specs.Installing.{drafted_state}
 use Rattle.transfer_invariant.specs.Progress.{has_announced}
 use Rattle.batch_invariant.proofs.Moving.{SameAnnouncement}
 use Rattle.batch_invariant.proofs.Going.{met_same_announcement}
@@ -79,7 +79,7 @@ says_nothing Gave e = grind arith
 abbrev pub finds_nothing : StackState → TransferView → ℕ → Bool
 finds_nothing s v o =
     is_pending (slice_index v.loaded.announcements o) (s.reply o)
-    && (is_take (announced_wish (slice_index v.loaded.announcements o)) && is_nothing (reply_of ((planned_state s v).reply o)))
+    && (is_take (announced_wish (slice_index v.loaded.announcements o)) && is_nothing (reply_of ((drafted_state s v).reply o)))
 
 -- the ledgers once it is known who found nothing
 abbrev pub known_of : (ℕ → Bool) → Ledgers → Ledgers

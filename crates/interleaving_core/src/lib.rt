@@ -24,5 +24,5 @@ pub use pool_machine::{
 pub use run::CoreRun;
 pub use step::core_step;
 pub use transfer_machine::{
-    Kind, Loaded, NextStep, Stage, TransferView, TryPlan, TryStep, opening_words,
+    Kind, Loaded, NextStep, Stage, TransferView, TryDraft, TryStep, opening_words,
 };

@@ -16,13 +16,13 @@ use Rattle.transfer_machine.specs.declared.stage.NextStep.TheVariants.{Try}
 use Rattle.transfer_machine.specs.declared.stage.TryStep.TheVariants.{ExchangeSlot, ExchangeState}
 use Rattle.transfer_invariant.specs.Memory.{Words, Views, States, Acted, Moved, state_tag, slot_tag, slot_value}
 use Rattle.transfer_invariant.specs.Progress.{has_record}
-use Rattle.transfer_invariant.specs.Installing.{planned_state, states_with_planned}
+use Rattle.transfer_invariant.specs.Installing.{drafted_state, states_with_drafted}
 use Rattle.transfer_invariant.specs.Invariant.{RecordsHold}
 use Rattle.transfer_invariant.proofs.Acts.{exchanges_slot, exchanges_state, keeps_state}
 use Rattle.transfer_invariant.proofs.Keeps.{row_fits}
 use Rattle.transfer_invariant.proofs.Writes.{with_state_here, with_state_below}
 use Rattle.slot_invariant.specs.Slots.{at_slot_exchange, passed_slots, slot_to_pass, word_to_pass, SlotsHold, SlotsKnown, SlotsInvariant}
-use Rattle.slot_invariant.specs.Laws.{PlanBelow}
+use Rattle.slot_invariant.specs.Laws.{DraftBelow}
 use Rattle.slot_invariant.proofs.Changes.{SlotExchanged}
 use Rattle.slot_invariant.proofs.Acts.{misses_slots, slot_exchanged, slot_not_exchanged}
 use Rattle.slot_invariant.proofs.Covers.{Covers}
@@ -102,24 +102,24 @@ slot_exchange sizes m n views after states i second offset false li inv h e test
     slots_stay sizes m n views after states i x li inv h stays change.state
     (λ k. slot_known n v x second offset k has here lt refl refl k.room refl (λ same. stays.tags slot low ∙ now (same ∙ change.state) ∙ sym change.state)) moved
 
--- the content of the planned state
-planned_base : (s : StackState) (v : TransferView) → (planned_state s v).base ≡ v.plan.base
-unfolding planned_state
-planned_base s v = refl
+-- the content of the drafted state
+drafted_base : (s : StackState) (v : TransferView) → (drafted_state s v).base ≡ v.draft.base
+unfolding drafted_state
+drafted_base s v = refl
 
-planned_content : (s : StackState) (v : TransferView) (place : ℕ) → place < v.plan.base → (planned_state s v).content place ≡ s.content place
-unfolding planned_state
-planned_content s v place lt = let below : nat_lt place v.plan.base ≡ true = grind (arith, nat_tests) in rw below refl
+drafted_content : (s : StackState) (v : TransferView) (place : ℕ) → place < v.draft.base → (drafted_state s v).content place ≡ s.content place
+unfolding drafted_state
+drafted_content s v place lt = let below : nat_lt place v.draft.base ≡ true = grind (arith, nat_tests) in rw below refl
 
 -- the exchange of the state, made or not
-pub state_exchange : (sizes : Sizes) (m n : Words) (views after : Views) (states : States) (i : ℕ) (second : Bool) (t : Bool) → sizes.processes ≤ 32 → i < sizes.processes → RecordsHold sizes m views states → SlotsInvariant sizes m views states → (views i).next ≡ Try second ExchangeState → PlanBelow (views i)
+pub state_exchange : (sizes : Sizes) (m n : Words) (views after : Views) (states : States) (i : ℕ) (second : Bool) (t : Bool) → sizes.processes ≤ 32 → i < sizes.processes → RecordsHold sizes m views states → SlotsInvariant sizes m views states → (views i).next ≡ Try second ExchangeState → DraftBelow (views i)
     → (m State == (views i).loaded.state) ≡ t → Acted sizes (Exchange State (views i).loaded.state (next_state (views i))) m n
-    → Moved i (if t then installed (views i) else try_ended second (views i)) views after → SlotsInvariant sizes n after (if t then states_with_planned m (views i) states else states)
+    → Moved i (if t then installed (views i) else try_ended second (views i)) views after → SlotsInvariant sizes n after (if t then states_with_drafted m (views i) states else states)
 unfolding state_tag
 state_exchange sizes m n views after states i second true few li inv h e lies test a moved =
     let v = views i in
-    let new = planned_state (states (state_tag m)) v in
-    let later : States = states_with_planned m v states in
+    let new = drafted_state (states (state_tag m)) v in
+    let later : States = states_with_drafted m v states in
     let known = h.known i li in
     let c = view_covers sizes m views states i inv li in
     let has : has_record v.next ≡ true = rw e refl in
@@ -132,11 +132,11 @@ state_exchange sizes m n views after states i second true few li inv h e lies te
     let stays = misses_slots sizes (Exchange State v.loaded.state (next_state v)) m n a refl in
     let here : later (state_tag m + 1) ≡ new = with_state_here (state_tag m + 1) new states in
     let same : (t : ℕ) → t ≤ state_tag m → later t ≡ states t = with_state_below (state_tag m) new states in
-    let new_base : (later (state_tag m + 1)).base ≡ v.plan.base = ap (λ (s : StackState). s.base) here ∙ planned_base (states (state_tag m)) v in
+    let new_base : (later (state_tag m + 1)).base ≡ v.draft.base = ap (λ (s : StackState). s.base) here ∙ drafted_base (states (state_tag m)) v in
     slots_move sizes n views after later i (installed v)
     (install_hold sizes m n states later inv.states_fit h.hold stays raised same
     (rw (new_base, height) (lies second e))
-    (λ s lt. rw here (planned_content (states (state_tag m)) v s (rw new_base at lt)))
+    (λ s lt. rw here (drafted_content (states (state_tag m)) v s (rw new_base at lt)))
     (λ s ge lt. known.passed has now s (rw base at ge) (rw all (rw height at lt))))
     (nothing_known n (installed v) known.room refl)
     (λ o lo. install_known sizes m n states (views o) (view_covers sizes m views states o inv lo) (h.known o lo) raised) moved

@@ -5,7 +5,7 @@ use Rattle.word_layout.specs.Sizes.{Sizes}
 use Rattle.word_layout.specs.Packing.{tag_of}
 use Rattle.word_layout.specs.declared.name.WordName.TheVariants.{State, Announcement, RecordWord, Slot}
 use Rattle.transfer_machine.specs.Loads.{loaded_tag, loaded_record, loaded_base}
-use Rattle.transfer_machine.specs.Tries.{planned_value, pops_slot}
+use Rattle.transfer_machine.specs.Tries.{drafted_value, pops_slot}
 use Rattle.transfer_machine.specs.Machine.{action_at, met_at, try_action, met_in_try, own_announcement, stored_word}
 use Rattle.transfer_machine.specs.Words.{name_of}
 use Rattle.transfer_machine.specs.declared.action.Action.TheVariants.{Load, Store}
@@ -19,7 +19,7 @@ use Rattle.transfer_invariant.specs.Invariant.{RecordsHold}
 use Rattle.transfer_invariant.specs.Laws.{WritesFit}
 use Rattle.transfer_invariant.proofs.Acts.{leaves_records, announces, stores_word}
 use Rattle.slot_invariant.specs.Slots.{SlotsInvariant}
-use Rattle.slot_invariant.specs.Laws.{PlanBelow}
+use Rattle.slot_invariant.specs.Laws.{DraftBelow}
 use Rattle.slot_invariant.proofs.Acts.{leaves_slots, misses_slots}
 use Rattle.slot_invariant.proofs.Own.{nothing_known}
 use Rattle.slot_invariant.proofs.Steps.{slots_stay, view_covers, record_word_known, announcement_known, popped_known, stored_known, covered_known}
@@ -28,7 +28,7 @@ use Rattle.slot_invariant.proofs.Exchanges.{slot_exchange, state_exchange}
 -- the step at each stage of a try
 try_slots_kept : (sizes : Sizes) (m n : Words) (views after : Views) (states : States) (i : ℕ) (second : Bool) (s : TryStep)
     → sizes.processes ≤ 32 → i < sizes.processes → RecordsHold sizes m views states → SlotsInvariant sizes m views states
-    → WritesFit sizes m (views i) → PlanBelow (views i) → (views i).next ≡ Try second s → Acted sizes (try_action sizes (views i) s) m n
+    → WritesFit sizes m (views i) → DraftBelow (views i) → (views i).next ≡ Try second s → Acted sizes (try_action sizes (views i) s) m n
     → Moved i (met_in_try sizes (views i) (m (name_of (try_action sizes (views i) s))) second s) views after
     → SlotsInvariant sizes n after (states_after_try_step m (views i) states s)
 try_slots_kept sizes m n views after states i second LoadState few li inv h w lies e a moved =
@@ -55,18 +55,18 @@ try_slots_kept sizes m n views after states i second (ExchangeSlot offset) few l
 try_slots_kept sizes m n views after states i second (LoadAnnouncement process) few li inv h w lies e a moved =
     let name = Announcement process in
     let x = met_in_try sizes (views i) (m name) second (LoadAnnouncement process) in
-    let pops = pops_slot sizes.processes (views i).loaded process (m name) (views i).plan in
+    let pops = pops_slot sizes.processes (views i).loaded process (m name) (views i).draft in
     slots_stay sizes m n views after states i x li inv h (leaves_slots sizes (Load name) m n a refl)
     (leaves_records sizes (Load name) m n a refl).state (λ k. announcement_known sizes n (views i) second process (m name) pops k e) moved
 try_slots_kept sizes m n views after states i second (LoadPoppedSlot process) few li inv h w lies e a moved =
-    let name = Slot ((views i).plan.base - 1) in
+    let name = Slot ((views i).draft.base - 1) in
     let x = met_in_try sizes (views i) (m name) second (LoadPoppedSlot process) in
     slots_stay sizes m n views after states i x li inv h (leaves_slots sizes (Load name) m n a refl)
     (leaves_records sizes (Load name) m n a refl).state (λ k. popped_known sizes n (views i) second process (m name) k e) moved
 try_slots_kept sizes m n views after states i second (StoreRecordWord index) few li inv h w lies e a moved =
     let v = views i in
     let action = Store (RecordWord v.next_record index) (stored_word sizes v index) in
-    let value = planned_value sizes.processes v.plan index in
+    let value = drafted_value sizes.processes v.draft index in
     slots_stay sizes m n views after states i (met_in_try sizes v 0 second (StoreRecordWord index)) li inv h
     (misses_slots sizes action m n a refl)
     (stores_word sizes v.next_record index (loaded_tag v.loaded + 1) value m n (w.store second index e) a).state
@@ -77,7 +77,7 @@ try_slots_kept sizes m n views after states i second ExchangeState few li inv h 
 -- the step at each stage
 pub slots_kept : (sizes : Sizes) (m n : Words) (views after : Views) (states : States) (i : ℕ) (s : NextStep) → sizes.processes ≤ 32
     → i < sizes.processes → RecordsHold sizes m views states → SlotsInvariant sizes m views states → WritesFit sizes m (views i)
-    → PlanBelow (views i) → (views i).next ≡ s → Acted sizes (action_at sizes (views i) s) m n
+    → DraftBelow (views i) → (views i).next ≡ s → Acted sizes (action_at sizes (views i) s) m n
     → Moved i (met_at sizes (views i) (m (name_of (action_at sizes (views i) s))) s) views after
     → SlotsInvariant sizes n after (states_after_at m (views i) states s)
 slots_kept sizes m n views after states i Rest few li inv h w lies e a moved =

@@ -19,6 +19,6 @@ holds_below_loaded_base sizes words states v s c h has now low = h.below s (rw (
 
 -- so does the slot of a taken batch
 pub popped_slots : (sizes : Sizes) (words : Words) (views : Views) (states : States) (i process : ℕ) (second : Bool) → i < sizes.processes → RecordsHold sizes words views states → SlotsInvariant sizes words views states → (views i).next ≡ Try second (LoadPoppedSlot process) → loaded_tag (views i).loaded ≡ state_tag words
-    → 1 ≤ (views i).plan.base → (views i).plan.base - 1 < loaded_base (views i).loaded → slot_value words ((views i).plan.base - 1) ≡ (states (state_tag words)).content ((views i).plan.base - 1)
+    → 1 ≤ (views i).draft.base → (views i).draft.base - 1 < loaded_base (views i).loaded → slot_value words ((views i).draft.base - 1) ≡ (states (state_tag words)).content ((views i).draft.base - 1)
 popped_slots sizes words views states i process second li inv slots e now some low =
-    holds_below_loaded_base sizes words states (views i) ((views i).plan.base - 1) (view_covers sizes words views states i inv li) slots.hold (rw e refl) now low
+    holds_below_loaded_base sizes words states (views i) ((views i).draft.base - 1) (view_covers sizes words views states i inv li) slots.hold (rw e refl) now low

@@ -8,7 +8,7 @@ use Rattle.word_layout.specs.Names.{record_words}
 use Rattle.word_layout.specs.Packing.{tag_of}
 use Rattle.word_layout.specs.declared.name.WordName.TheVariants.{Slot}
 use Rattle.transfer_machine.specs.Loads.{loaded_tag, loaded_base, overlay_length}
-use Rattle.transfer_machine.specs.Tries.{begun_plan, after_announcement}
+use Rattle.transfer_machine.specs.Tries.{begun_draft, after_announcement}
 use Rattle.transfer_machine.specs.Machine.{try_ended, after_slot, after_record, after_heard, after_stored, record_word_loaded, popped_loaded}
 use Rattle.transfer_machine.specs.declared.transfer.TransferView.{TransferView}
 use Rattle.transfer_machine.specs.declared.stage.NextStep.TheVariants.{Try}
@@ -59,7 +59,7 @@ record_word_known sizes n v second index word t h =
     let loaded = record v.loaded { record_words = set v.loaded.record_words index word } in
     either_known n t (try_ended second v) _ (ended_known n v second h)
     (either_known n (index + 1 == record_words sizes) _ _
-    (record_known n (record v { loaded = loaded; next = Try second (after_record loaded); plan = begun_plan loaded v.plan }) second h.room refl)
+    (record_known n (record v { loaded = loaded; next = Try second (after_record loaded); draft = begun_draft loaded v.draft }) second h.room refl)
     (nothing_known n (record v { loaded = loaded; next = Try second (LoadRecordWord (index + 1)) }) h.room refl))
 
 -- an announcement is loaded
@@ -77,15 +77,15 @@ pub announcement_known : (sizes : Sizes) (n : Words) (v : TransferView) (second 
     else record v {
       loaded = loaded;
       next = Try second (after_heard sizes process);
-      plan = after_announcement sizes.processes v.loaded process word 0 v.plan;
+      draft = after_announcement sizes.processes v.loaded process word 0 v.draft;
     })
 announcement_known sizes n v second process word t h e =
     let loaded = record v.loaded { announcements = set v.loaded.announcements process word } in
-    let plan = after_announcement sizes.processes v.loaded process word 0 v.plan in
+    let draft = after_announcement sizes.processes v.loaded process word 0 v.draft in
     either_known n t _ _
     (past_known n v (record v { loaded = loaded; next = Try second (LoadPoppedSlot process) }) h
     (record { was = rw e refl; state = refl; record_words = refl; slots = refl; all = rw e refl; past = refl; none = omega arith }))
-    (past_known n v (record v { loaded = loaded; next = Try second (after_heard sizes process); plan = plan }) h (record {
+    (past_known n v (record v { loaded = loaded; next = Try second (after_heard sizes process); draft = draft }) h (record {
       was = rw e refl;
       state = refl;
       record_words = refl;

@@ -25,9 +25,9 @@ OpeningMeetsSlots = (sizes : Sizes) (words : Words) (views : Views) → IsShape 
     → ((i : ℕ) → i < sizes.processes → views i ≡ opening_transfer i)
     → SlotsInvariant sizes words views (λ m. opening_state sizes)
 
--- a plan that is to be installed lies on the loaded content
-abbrev pub PlanBelow : TransferView → Type 0
-PlanBelow v = (second : Bool) → v.next ≡ Try second ExchangeState → v.plan.base ≤ loaded_base v.loaded + overlay_length v.loaded
+-- a draft that is to be installed lies on the loaded content
+abbrev pub DraftBelow : TransferView → Type 0
+DraftBelow v = (second : Bool) → v.next ≡ Try second ExchangeState → v.draft.base ≤ loaded_base v.loaded + overlay_length v.loaded
 
 -- the step of a process from words and views that meet the invariant and the part on slots leads to such words and views
 abbrev pub StepsKeepSlots : Type 0
@@ -35,7 +35,7 @@ StepsKeepSlots = (sizes : Sizes) (words new : Words) (views after : Views) (stat
     → Invariant sizes words views states
     → SlotsInvariant sizes words views states
     → WritesFit sizes words (views i)
-    → PlanBelow (views i)
+    → DraftBelow (views i)
     → Acted sizes (action_of sizes (views i)) words new
     → Moved i (met_of sizes (views i) (words (name_of (action_of sizes (views i))))) views after
     → SlotsInvariant sizes new after (states_after words (views i) states)
@@ -48,15 +48,15 @@ BeginningsKeepSlots = (sizes : Sizes) (words : Words) (views after : Views) (sta
     → Moved i (begun wish (views i)) views after
     → SlotsInvariant sizes words after states
 
--- while the loaded state is the present one, the slot below the working base holds that state's content, where it lies below the loaded base
+-- while the loaded state is the present one, the slot below the working base holds its content, where it lies below the loaded base
 abbrev pub PoppedSlotsHoldContent : Type 0
 PoppedSlotsHoldContent = (sizes : Sizes) (words : Words) (views : Views) (states : States) (i process : ℕ) (second : Bool) → i < sizes.processes
     → Invariant sizes words views states
     → SlotsInvariant sizes words views states
     → (views i).next ≡ Try second (LoadPoppedSlot process)
     → loaded_tag (views i).loaded ≡ state_tag words
-    → 1 ≤ (views i).plan.base → (views i).plan.base - 1 < loaded_base (views i).loaded
-    → slot_value words ((views i).plan.base - 1) ≡ (states (state_tag words)).content ((views i).plan.base - 1)
+    → 1 ≤ (views i).draft.base → (views i).draft.base - 1 < loaded_base (views i).loaded
+    → slot_value words ((views i).draft.base - 1) ≡ (states (state_tag words)).content ((views i).draft.base - 1)
 
 -- a view loads and exchanges only slots that the loaded overlay covers
 abbrev pub CoveredSlotsAreFew : Type 0

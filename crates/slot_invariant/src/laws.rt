@@ -8,7 +8,7 @@ pub fn opening()
 {}
 
 /// Every step of every process, from words and views that meet the invariant and the part on slots, leads to
-/// such words and views, where the plan of a state that it installs lies on the loaded content.
+/// such words and views, where the draft of a state that it installs lies on the loaded content.
 pub fn steps()
     ensures { StepsKeepSlots }
 {}

@@ -14,7 +14,7 @@ use Rattle.transfer_machine.specs.declared.stage.TryStep.{TryStep}
 use Rattle.transfer_machine.specs.declared.stage.TryStep.TheVariants.{LoadState, LoadRecordWord, LoadCoveredSlot, ExchangeSlot}
 use Rattle.transfer_machine.specs.declared.stage.TryStep.TheVariants.{LoadAnnouncement, LoadPoppedSlot, StoreRecordWord, ExchangeState}
 use Rattle.transfer_invariant.specs.Memory.{Words, States, Acted, state_tag}
-use Rattle.transfer_invariant.specs.Installing.{planned_state, states_with_planned, states_after_try_step, states_after_at, states_after}
+use Rattle.transfer_invariant.specs.Installing.{drafted_state, states_with_drafted, states_after_try_step, states_after_at, states_after}
 use Rattle.transfer_invariant.proofs.Acts.{exchanges_state}
 use Rattle.transfer_invariant.proofs.Keeps.{row_fits}
 use Rattle.transfer_invariant.proofs.Writes.{with_state_here}
@@ -75,9 +75,9 @@ pub present_stays : (sizes : Sizes) (v : TransferView) (m n : Words) (states : S
 unfolding state_tag
 present_stays sizes v m n states a not = rw (states_stay v m states v.next not, state_stays sizes v m n v.next a not) refl
 
--- an exchange of the state that hits installs the planned one
+-- an exchange of the state that hits installs the drafted one
 hit_states : (v : TransferView) (m : Words) (states : States) (second : Bool) → v.next ≡ Try second ExchangeState
-    → m State ≡ v.loaded.state → states_after m v states ≡ states_with_planned m v states
+    → m State ≡ v.loaded.state → states_after m v states ≡ states_with_drafted m v states
 hit_states v m states second e same = rw e (rw (hits v.loaded.state (m State) same) refl)
 
 hit_tag : (sizes : Sizes) (v : TransferView) (m n : Words) (second : Bool) → v.next_record < value_limit
@@ -90,9 +90,9 @@ hit_tag sizes v m n second row a e same =
 
 pub present_installed : (sizes : Sizes) (v : TransferView) (m n : Words) (states : States) (second : Bool) → v.next_record < value_limit
     → Acted sizes (action_of sizes v) m n → v.next ≡ Try second ExchangeState → m State ≡ v.loaded.state
-    → present n (states_after m v states) ≡ planned_state (present m states) v
+    → present n (states_after m v states) ≡ drafted_state (present m states) v
 present_installed sizes v m n states second row a e same = rw (hit_states v m states second e same, hit_tag sizes v m n second row a e same)
-    (with_state_here (state_tag m + 1) (planned_state (present m states) v) states)
+    (with_state_here (state_tag m + 1) (drafted_state (present m states) v) states)
 
 -- what a step makes of the content
 pub steps_move_content : StepsMoveContent
@@ -105,7 +105,7 @@ steps_move_content sizes words new views after states i shape li h s acted moved
     record {
       stays = λ not. same_content sizes.processes words new (present words states) old_shown
           (rw (present_stays sizes v words new states acted not) at new_shown);
-      becomes = λ second e same. shows_same sizes.processes new (planned_state (present words states) v) _
+      becomes = λ second e same. shows_same sizes.processes new (drafted_state (present words states) v) _
           (rw (present_installed sizes v words new states second row acted e same) at new_shown)
           (installed_next sizes words views states i second shape li h e same).next;
     }

@@ -10,7 +10,7 @@ use Rattle.transfer_invariant.specs.Memory.{Words, States, state_tag, current_re
 use Rattle.transfer_invariant.specs.Records.{CurrentRecord, StateFits}
 use Rattle.transfer_invariant.proofs.Loaded.{value_base, value_reply}
 use Rattle.slot_invariant.specs.Slots.{SlotsHold}
-use Rattle.plan_invariant.specs.NextState.{SameState}
+use Rattle.draft_invariant.specs.NextState.{SameState}
 use Rattle.stack_invariant.specs.Shown.{shown_base, shown_height, shown_head, Shows, SameContent}
 use Rattle.stack_invariant.specs.Gives.{present}
 use Rattle.stack_invariant.specs.Laws.{WordsShowState}

@@ -10,25 +10,25 @@ use Rattle.transfer_invariant.proofs.Installs.{few_tags}
 use Rattle.slot_invariant.proofs.Covers.{Covers}
 use Rattle.slot_invariant.proofs.Steps.{view_covers}
 use Rattle.helping_invariant.proofs.Consequences.{applied_count, applied_after_two_tries, installs_present, answered}
-use Rattle.plan_invariant.specs.Laws.{CoversWithin}
-use Rattle.plan_invariant.proofs.Gives as gives
+use Rattle.draft_invariant.specs.Laws.{CoversWithin}
+use Rattle.draft_invariant.proofs.Gives as gives
 use Rattle.stack_invariant.specs.Laws.{StackStepsCanBeMade, InstalledIsNext, RepliesAreAnswers, EachProcessHolds, TriesApply}
-use Rattle.stack_invariant.proofs.Premises.{plan_premises, covers_within}
+use Rattle.stack_invariant.proofs.Premises.{draft_premises, covers_within}
 
 -- every view can make its next step
 pub can_be_made : StackStepsCanBeMade
 can_be_made sizes words views states i shape li h s ages =
-    let premises = plan_premises sizes words views states i li h s in
+    let premises = draft_premises sizes words views states i li h s in
     let covers = covers_within words (views i) (h.slots.known i li) in
     let few = few_tags sizes words views shape.few_processes h.transfers.tags ages in
-    gives.steps_can_be_made sizes words views states i shape li h.transfers h.plans premises covers few
+    gives.steps_can_be_made sizes words views states i shape li h.transfers h.drafts premises covers few
 
 -- a state that is installed, and a reply that is loaded
 pub installed_next : InstalledIsNext
 installed_next sizes words views states i second shape li h e same = record {
-  next = gives.planned_is_next sizes words views states i second shape li h.transfers h.plans e same;
+  next = gives.drafted_is_next sizes words views states i second shape li h.transfers h.drafts e same;
   pending = λ o lo pends. installs_present sizes words views states i o second li lo h.helping e same pends;
-  heads = λ k. gives.planned_heads_are_blocks sizes words views states i k li h.plans;
+  heads = λ k. gives.drafted_heads_are_blocks sizes words views states i k li h.drafts;
 }
 
 pub replies_answer : RepliesAreAnswers

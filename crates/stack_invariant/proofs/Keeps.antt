@@ -25,9 +25,9 @@ use Rattle.slot_invariant.proofs.Own.{nothing_known}
 use Rattle.slot_invariant.proofs.Steps.{slots_move}
 use Rattle.helping_invariant.proofs.Keeps.{steps_keep_helping, beginnings_keep_helping}
 use Rattle.helping_invariant.proofs.OpenedHelping.{opening_meets_helping}
-use Rattle.plan_invariant.proofs.Keeps.{opening_holds, steps_keep, beginnings_keep}
+use Rattle.draft_invariant.proofs.Keeps.{opening_holds, steps_keep, beginnings_keep}
 use Rattle.stack_invariant.specs.Laws.{OpeningMeetsStack, BeginningsKeepStack, StepsKeepStack}
-use Rattle.stack_invariant.proofs.Premises.{plan_premises, stack_writes, plan_below, fits_wish}
+use Rattle.stack_invariant.proofs.Premises.{draft_premises, stack_writes, draft_below, fits_wish}
 
 -- the opening
 opened_transfers : (sizes : Sizes) (words : Words) (views : Views) → IsShape sizes
@@ -35,7 +35,7 @@ opened_transfers : (sizes : Sizes) (words : Words) (views : Views) → IsShape s
     → ((i : ℕ) → i < sizes.processes → views i ≡ opening_transfer i) → Invariant sizes words views (λ m. opening_state sizes)
 opened_transfers sizes words views shape opened seats = record {
   records = opened_invariant sizes words shape opened views seats;
-  plans = λ i li. rw (seats i li) tt;
+  drafts = λ i li. rw (seats i li) tt;
   tags = opened_tags_hold sizes words views (opened_tag sizes words shape opened) (λ i li. ap (λ v. v.next) (seats i li));
 }
 
@@ -44,7 +44,7 @@ opening_meets sizes words views shape opened seats = record {
   transfers = opened_transfers sizes words views shape opened seats;
   slots = opened_slots sizes words shape opened views seats;
   helping = opening_meets_helping sizes words views shape opened seats;
-  plans = opening_holds sizes words views (λ m. opening_state sizes) shape opened seats;
+  drafts = opening_holds sizes words views (λ m. opening_state sizes) shape opened seats;
 }
 
 -- beginnings
@@ -55,7 +55,7 @@ begun_transfers sizes words views after states i wish li inv moved =
     let none : StoresNone sizes x.next = record { index = omega arith; stored = refl } in
     record {
       records = leaves sizes words views after states i x li inv.records refl refl none refl refl refl refl moved;
-      plans = overlays_move sizes views after i x inv.plans moved tt;
+      drafts = overlays_move sizes views after i x inv.drafts moved tt;
       tags = idle_tags sizes words words views after i x li inv.tags moved refl refl refl;
     }
 
@@ -70,7 +70,7 @@ beginnings_keep_stack sizes words views after states i wish li h rest moved = re
   transfers = begun_transfers sizes words views after states i wish li h.transfers moved;
   slots = begun_slots sizes words views after states i wish li h.slots moved;
   helping = beginnings_keep_helping sizes words views after states i wish li h.helping rest moved;
-  plans = beginnings_keep sizes words views after states i wish li h.plans moved;
+  drafts = beginnings_keep sizes words views after states i wish li h.drafts moved;
 }
 
 -- steps
@@ -83,8 +83,8 @@ stepped_transfers sizes words new views after states i shape li inv fits acted m
     let few = shape.few_processes in
     let next = (views i).next in
     record {
-      records = step_kept sizes words new views after states i next few li inv.records (inv.plans i li) fits refl acted moved;
-      plans = overlays_kept sizes views after i (words (name_of (action_of sizes (views i)))) li inv.plans moved;
+      records = step_kept sizes words new views after states i next few li inv.records (inv.drafts i li) fits refl acted moved;
+      drafts = overlays_kept sizes views after i (words (name_of (action_of sizes (views i)))) li inv.drafts moved;
       tags = tags_kept sizes words new views after states i next few li inv.records inv.tags fits refl acted moved;
     }
 
@@ -92,14 +92,14 @@ pub steps_keep_stack : StepsKeepStack
 steps_keep_stack sizes words new views after states i shape li h s acted moved =
     let t = h.transfers in
     let fits = stack_writes sizes words views states i shape li h s in
-    let below = plan_below sizes words views states i li h in
-    let replies = (h.plans.each i li).replies in
+    let below = draft_below sizes words views states i li h in
+    let replies = (h.drafts.each i li).replies in
     let wish = fits_wish sizes words states (views i) shape s in
-    let premises = plan_premises sizes words views states i li h s in
+    let premises = draft_premises sizes words views states i li h s in
     record {
       transfers = stepped_transfers sizes words new views after states i shape li t fits acted moved;
       slots = slots_kept sizes words new views after states i (views i).next shape.few_processes li t.records h.slots fits below refl
           acted moved;
       helping = steps_keep_helping sizes words new views after states i shape li t h.helping fits replies wish acted moved;
-      plans = steps_keep sizes words new views after states i shape li t h.plans premises acted moved;
+      drafts = steps_keep sizes words new views after states i shape li t h.drafts premises acted moved;
     }

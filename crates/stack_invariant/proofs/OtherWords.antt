@@ -17,8 +17,8 @@ use Rattle.slot_invariant.proofs.Stable.{stay_hold, stay_known}
 use Rattle.slot_invariant.proofs.Steps.{view_covers}
 use Rattle.helping_invariant.proofs.Changes.{AnnouncementsStay}
 use Rattle.helping_invariant.proofs.Moves as moves
-use Rattle.plan_invariant.specs.Holding.{PlansHold}
-use Rattle.plan_invariant.proofs.Acts.{pops_stay}
+use Rattle.draft_invariant.specs.Holding.{DraftsHold}
+use Rattle.draft_invariant.proofs.Acts.{pops_stay}
 use Rattle.stack_invariant.specs.Stack.{is_stack_word}
 use Rattle.stack_invariant.specs.Laws.{OtherWordsKeepStack}
 
@@ -57,7 +57,7 @@ transfers_same : (sizes : Sizes) (old new : Words) (views : Views) (states : Sta
     → Invariant sizes old views states → Invariant sizes new views states
 transfers_same sizes old new views states r inv = record {
   records = stay sizes old new views states inv.records r;
-  plans = inv.plans;
+  drafts = inv.drafts;
   tags = tags_same sizes old new views r.state inv.tags;
 }
 
@@ -69,10 +69,10 @@ slots_same sizes old new views states r s inv h = record {
   known = λ i li. stay_known sizes old new states (views i) (view_covers sizes old views states i inv.records li) (h.known i li) s r.state;
 }
 
-plans_same : (sizes : Sizes) (old new : Words) (views : Views) (states : States) → state_tag new ≡ state_tag old
-    → AnnouncementsStay sizes old new → PlansHold sizes old views states
-    → PlansHold sizes new views states
-plans_same sizes old new views states e a h = record {
+drafts_same : (sizes : Sizes) (old new : Words) (views : Views) (states : States) → state_tag new ≡ state_tag old
+    → AnnouncementsStay sizes old new → DraftsHold sizes old views states
+    → DraftsHold sizes new views states
+drafts_same sizes old new views states e a h = record {
   announcements = λ o lo. rw (a.each o lo) (h.announcements o lo);
   each = h.each;
   loaded = h.loaded;
@@ -87,5 +87,5 @@ other_words_keep sizes words new views states h same =
       transfers = transfers_same sizes words new views states r h.transfers;
       slots = slots_same sizes words new views states r (slots_stay sizes words new same) h.transfers h.slots;
       helping = moves.stay sizes words new views states h.helping r a;
-      plans = plans_same sizes words new views states r.state a h.plans;
+      drafts = drafts_same sizes words new views states r.state a h.drafts;
     }

@@ -7,17 +7,17 @@ use Rattle.transfer_machine.specs.declared.stage.NextStep.TheVariants.{Announce}
 use Rattle.transfer_invariant.specs.Memory.{Words, Views, States}
 use Rattle.transfer_invariant.specs.Laws.{WritesFit}
 use Rattle.slot_invariant.specs.Slots.{SlotsKnown}
-use Rattle.slot_invariant.specs.Laws.{PlanBelow}
-use Rattle.plan_invariant.specs.Holding.{PlanPremises}
-use Rattle.plan_invariant.specs.Laws.{CoversWithin}
-use Rattle.plan_invariant.proofs.Gives.{planned_base_is_low, writes_fit}
-use Rattle.plan_invariant.proofs.Wishes.{wish_fits}
+use Rattle.slot_invariant.specs.Laws.{DraftBelow}
+use Rattle.draft_invariant.specs.Holding.{DraftPremises}
+use Rattle.draft_invariant.specs.Laws.{CoversWithin}
+use Rattle.draft_invariant.proofs.Gives.{drafted_base_is_low, writes_fit}
+use Rattle.draft_invariant.proofs.Wishes.{wish_fits}
 use Rattle.stack_invariant.specs.Stack.{StackHolds, Supplied}
 
--- the slots and the numbers of the views give what plans need
-pub plan_premises : (sizes : Sizes) (words : Words) (views : Views) (states : States) (i : ℕ) → i < sizes.processes
-    → StackHolds sizes words views states → Supplied sizes words states (views i) → PlanPremises sizes words states (views i)
-plan_premises sizes words views states i li h s = record {
+-- the slots and the numbers of the views give what drafts need
+pub draft_premises : (sizes : Sizes) (words : Words) (views : Views) (states : States) (i : ℕ) → i < sizes.processes
+    → StackHolds sizes words views states → Supplied sizes words states (views i) → DraftPremises sizes words states (views i)
+draft_premises sizes words views states i li h s = record {
   number = rw (h.helping.announced i li).number li;
   fits_wish = s.wish;
   age = s.age;
@@ -25,14 +25,14 @@ plan_premises sizes words views states i li h s = record {
   below = h.slots.hold.below;
 }
 
--- plans give what is written, and where it lies
+-- drafts give what is written, and where it lies
 pub stack_writes : (sizes : Sizes) (words : Words) (views : Views) (states : States) (i : ℕ) → IsShape sizes → i < sizes.processes
     → StackHolds sizes words views states → Supplied sizes words states (views i) → WritesFit sizes words (views i)
-stack_writes sizes words views states i shape li h s = writes_fit sizes words views states i shape li h.transfers h.plans s.room
+stack_writes sizes words views states i shape li h s = writes_fit sizes words views states i shape li h.transfers h.drafts s.room
 
-pub plan_below : (sizes : Sizes) (words : Words) (views : Views) (states : States) (i : ℕ) → i < sizes.processes
-    → StackHolds sizes words views states → PlanBelow (views i)
-plan_below sizes words views states i li h second e = planned_base_is_low sizes words views states i second li h.plans e
+pub draft_below : (sizes : Sizes) (words : Words) (views : Views) (states : States) (i : ℕ) → i < sizes.processes
+    → StackHolds sizes words views states → DraftBelow (views i)
+draft_below sizes words views states i li h second e = drafted_base_is_low sizes words views states i second li h.drafts e
 
 -- the wish of a pool fits
 pub fits_wish : (sizes : Sizes) (words : Words) (states : States) (v : TransferView) → IsShape sizes → Supplied sizes words states v

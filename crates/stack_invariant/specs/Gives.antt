@@ -9,11 +9,11 @@ use Rattle.transfer_machine.specs.declared.transfer.TransferView.{TransferView}
 use Rattle.transfer_machine.specs.declared.stage.NextStep.TheVariants.{Try}
 use Rattle.transfer_machine.specs.declared.stage.TryStep.TheVariants.{LoadCoveredSlot, ExchangeSlot}
 use Rattle.transfer_invariant.specs.Memory.{Words, Views, States, state_tag}
-use Rattle.transfer_invariant.specs.Installing.{planned_state}
+use Rattle.transfer_invariant.specs.Installing.{drafted_state}
 use Rattle.transfer_invariant.specs.Progress.{has_record}
 use Rattle.helping_invariant.specs.Laws.{PendsNow, AppliedCount, reply_word}
-use Rattle.plan_invariant.specs.Laws.{CoversWithin}
-use Rattle.plan_invariant.specs.NextState.{SameState}
+use Rattle.draft_invariant.specs.Laws.{CoversWithin}
+use Rattle.draft_invariant.specs.NextState.{SameState}
 
 -- the present state
 abbrev pub present : Words → States → StackState
@@ -26,13 +26,13 @@ next_by sizes v s = next_of sizes.processes (λ o. slice_index v.loaded.announce
 -- whoever installs a state installs the next one
 pub record Installs (sizes : Sizes) (words : Words) (views : Views) (states : States) (i : ℕ) : Type 0 where
   -- it applies the loaded announcements
-  pub next : SameState sizes.processes (planned_state (present words states) (views i)) (next_by sizes (views i) (present words states))
+  pub next : SameState sizes.processes (drafted_state (present words states) (views i)) (next_by sizes (views i) (present words states))
   -- of which the pending ones are present
   pub pending : (o : ℕ) → o < sizes.processes
       → is_pending (slice_index (views i).loaded.announcements o) ((present words states).reply o) ≡ true
       → PendsNow words states o (views i) (views o)
   -- and its heads are blocks
-  pub heads : (k : ℕ) → slice_index (views i).plan.heads k < blocks sizes
+  pub heads : (k : ℕ) → slice_index (views i).draft.heads k < blocks sizes
 
 -- the reply that a view is about to load is that of the present state, which has applied its transfer
 pub record ReplyIsPresent (sizes : Sizes) (words : Words) (states : States) (i : ℕ) (v : TransferView) : Type 0 where

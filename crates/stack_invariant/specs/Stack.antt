@@ -11,24 +11,24 @@ use Rattle.transfer_invariant.specs.Memory.{Words, Views, States}
 use Rattle.transfer_invariant.specs.Invariant.{Invariant}
 use Rattle.slot_invariant.specs.Slots.{SlotsInvariant}
 use Rattle.helping_invariant.specs.Holds.{HelpingHolds}
-use Rattle.plan_invariant.specs.Heads.{WishIsBlock}
-use Rattle.plan_invariant.specs.Holding.{PlansHold}
+use Rattle.draft_invariant.specs.Heads.{WishIsBlock}
+use Rattle.draft_invariant.specs.Holding.{DraftsHold}
 
 -- the words and all views meet every part, with these states
 pub record StackHolds (sizes : Sizes) (words : Words) (views : Views) (states : States) : Type 0 where
   pub transfers : Invariant sizes words views states
   pub slots : SlotsInvariant sizes words views states
   pub helping : HelpingHolds sizes words views states
-  pub plans : PlansHold sizes words views states
+  pub drafts : DraftsHold sizes words views states
 
 -- what the process's own pool and the count of batches give for the next step of a view
 pub record Supplied (sizes : Sizes) (words : Words) (states : States) (v : TransferView) : Type 0 where
   -- a transfer that is announced has an age and a wish in range
   pub age : v.next ≡ Announce → v.age < most_age
   pub wish : v.next ≡ Announce → WishIsBlock sizes v.wish
-  -- all places of a plan that is installed are slots
+  -- all places of a draft that is installed are slots
   pub room : (second : Bool) → v.next ≡ Try second ExchangeState → words State ≡ v.loaded.state
-      → v.plan.base + v.plan.overlay ≤ sizes.batches
+      → v.draft.base + v.draft.overlay ≤ sizes.batches
 
 -- whether the invariant speaks of the word of that name
 abbrev pub is_stack_word : WordName → Bool

@@ -7,7 +7,7 @@ use Rattle.word_layout.specs.Packing.{tag_of}
 use Rattle.word_layout.specs.Names.{record_words}
 use Rattle.word_layout.specs.declared.name.WordName.TheVariants.{State, Announcement, RecordWord, Slot}
 use Rattle.transfer_machine.specs.Loads.{loaded_tag, loaded_record, loaded_base}
-use Rattle.transfer_machine.specs.Tries.{planned_value, pops_slot}
+use Rattle.transfer_machine.specs.Tries.{drafted_value, pops_slot}
 use Rattle.transfer_machine.specs.Machine.{action_at, try_action, met_at, met_in_try, own_announcement, next_state, try_ended, installed, after_slot, after_record, after_heard, after_stored, record_word_loaded, announcement_loaded, popped_loaded, state_loaded, slot_loaded}
 use Rattle.transfer_machine.specs.Words.{name_of}
 use Rattle.transfer_machine.specs.declared.loaded.Loaded.{Loaded}
@@ -163,11 +163,11 @@ try_tags_kept sizes m n views after states i second (LoadAnnouncement process) f
     let word = m (Announcement process) in
     let stays = leaves_records sizes (Load (Announcement process)) m n a refl in
     trying_tags sizes m n views after i (announcement_loaded sizes second process word v) li h moved stays.state
-    (either_trying (pops_slot sizes.processes v.loaded process word v.plan) v _ _
+    (either_trying (pops_slot sizes.processes v.loaded process word v.draft) v _ _
     (trying v _ (rw e refl) refl refl refl refl refl)
     (trying v _ (rw e refl) (heard_follows sizes process) refl refl refl refl))
 try_tags_kept sizes m n views after states i second (LoadPoppedSlot process) few li inv h w e a moved =
-    let name = Slot ((views i).plan.base - 1) in
+    let name = Slot ((views i).draft.base - 1) in
     let x = popped_loaded sizes second process (m name) (views i) in
     let stays = leaves_records sizes (Load name) m n a refl in
     trying_tags sizes m n views after i x li h moved stays.state
@@ -175,7 +175,7 @@ try_tags_kept sizes m n views after states i second (LoadPoppedSlot process) few
 try_tags_kept sizes m n views after states i second (StoreRecordWord index) few li inv h w e a moved =
     let v = views i in
     let x = met_in_try sizes v 0 second (StoreRecordWord index) in
-    let value = planned_value sizes.processes v.plan index in
+    let value = drafted_value sizes.processes v.draft index in
     let stored = stores_word sizes v.next_record index (loaded_tag v.loaded + 1) value m n (w.store second index e) a in
     trying_tags sizes m n views after i x li h moved stored.state
     (trying v x (rw e refl) (stored_follows sizes index) refl refl refl refl)

@@ -6,7 +6,7 @@ use Rattle.word_layout.specs.Sizes.{Sizes}
 use Rattle.word_layout.specs.Names.{records, record_words}
 use Rattle.word_layout.specs.Packing.{tag_of, value_of}
 use Rattle.transfer_machine.specs.Loads.{loaded_tag, loaded_record, record_value}
-use Rattle.transfer_machine.specs.Tries.{planned_value}
+use Rattle.transfer_machine.specs.Tries.{drafted_value}
 use Rattle.transfer_machine.specs.Machine.{other_record, after_stored, installed}
 use Rattle.transfer_machine.specs.declared.transfer.TransferView.{TransferView}
 use Rattle.transfer_machine.specs.declared.stage.NextStep.{NextStep}
@@ -131,22 +131,22 @@ one_more_tag sizes m n row index tag value lr low s h k lt = elim (cases_eq k in
   | inr ne ↦ s.index_tags row k lr (omega arith) ne ∙ h k (omega arith)
 ]
 
-pub one_more_value : (sizes : Sizes) (m n : Words) (row index tag : ℕ) (planned : ℕ → ℕ) → row < records sizes → index < record_words sizes
-    → WordStored sizes m n row index tag (planned index) → ((k : ℕ) → k < index → word_value m row k ≡ planned k) → (k : ℕ) → k < index + 1
-    → word_value n row k ≡ planned k
-one_more_value sizes m n row index tag planned lr low s h k lt = elim (cases_eq k index) [
+pub one_more_value : (sizes : Sizes) (m n : Words) (row index tag : ℕ) (drafted : ℕ → ℕ) → row < records sizes → index < record_words sizes
+    → WordStored sizes m n row index tag (drafted index) → ((k : ℕ) → k < index → word_value m row k ≡ drafted k) → (k : ℕ) → k < index + 1
+    → word_value n row k ≡ drafted k
+one_more_value sizes m n row index tag drafted lr low s h k lt = elim (cases_eq k index) [
   | inl at ↦ rw at s.value_here
   | inr ne ↦ s.index_values row k lr (omega arith) ne ∙ h k (omega arith)
 ]
 
 pub store_own_view : (sizes : Sizes) (m n : Words) (i : ℕ) (second : Bool) (index : ℕ) (v : TransferView) → i < sizes.processes
     → OwnRecord sizes m i v → v.next ≡ Try second (StoreRecordWord index) → index < record_words sizes
-    → WordStored sizes m n v.next_record index (loaded_tag v.loaded + 1) (planned_value sizes.processes v.plan index)
+    → WordStored sizes m n v.next_record index (loaded_tag v.loaded + 1) (drafted_value sizes.processes v.draft index)
     → OwnRecord sizes n i (record v { next = Try second (after_stored sizes index) })
 store_own_view sizes m n i second index v li h e low s =
     let row = next_low sizes.processes i v.next_record li h.next in
     let tag = loaded_tag v.loaded + 1 in
-    let planned = planned_value sizes.processes v.plan in
+    let drafted = drafted_value sizes.processes v.draft in
     let count = stores_count sizes index in
     record {
       index = stores_next sizes index low;
@@ -155,9 +155,9 @@ store_own_view sizes m n i second index v li h e low s =
       installed = rw s.state h.installed;
       tried = λ t. h.tried (rw e refl);
       stored_tags = λ k lt.
-          one_more_tag sizes m n v.next_record index tag (planned index) row low s (λ j lj. h.stored_tags j (rw e lj)) k (rw count at lt);
+          one_more_tag sizes m n v.next_record index tag (drafted index) row low s (λ j lj. h.stored_tags j (rw e lj)) k (rw count at lt);
       stored_values = λ k lt.
-          one_more_value sizes m n v.next_record index tag planned row low s (λ j lj. h.stored_values j (rw e lj)) k (rw count at lt);
+          one_more_value sizes m n v.next_record index tag drafted row low s (λ j lj. h.stored_values j (rw e lj)) k (rw count at lt);
     }
 
 -- the state is installed: the process goes over to its other record

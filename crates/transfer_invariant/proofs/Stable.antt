@@ -4,7 +4,7 @@ use Rattle.std.proofs.lemmas.Bool.{cases_eq}
 use Rattle.word_layout.specs.Sizes.{Sizes}
 use Rattle.word_layout.specs.Names.{record_words}
 use Rattle.transfer_machine.specs.Loads.{loaded_tag}
-use Rattle.transfer_machine.specs.Tries.{planned_value}
+use Rattle.transfer_machine.specs.Tries.{drafted_value}
 use Rattle.transfer_machine.specs.declared.transfer.TransferView.{TransferView}
 use Rattle.transfer_machine.specs.declared.stage.NextStep.{NextStep}
 use Rattle.transfer_machine.specs.declared.stage.NextStep.TheVariants.{Try}
@@ -102,14 +102,14 @@ pub install_current : (sizes : Sizes) (m n : Words) (states later : States) (i :
     → OwnRecord sizes m i v → v.next ≡ Try second ExchangeState → loaded_tag v.loaded ≡ state_tag m
     → StateInstalled sizes m n (loaded_tag v.loaded + 1) v.next_record
     → ((k : ℕ) → k < record_words sizes
-    → state_value sizes.processes (later (loaded_tag v.loaded + 1)) k ≡ planned_value sizes.processes v.plan k)
+    → state_value sizes.processes (later (loaded_tag v.loaded + 1)) k ≡ drafted_value sizes.processes v.draft k)
     → CurrentRecord sizes n later
-install_current sizes m n states later i second v li own e now s planned =
+install_current sizes m n states later i second v li own e now s drafted =
     let low = next_low sizes.processes i v.next_record li own.next in
     record {
       row = rw s.current low;
       tags = λ k lt. rw (s.current, s.state) (s.tags v.next_record k low lt ∙ own.stored_tags k (rw e lt));
-      values = λ k lt. rw (s.current, s.state) (s.values v.next_record k low lt ∙ own.stored_values k (rw e lt) ∙ sym (planned k lt));
+      values = λ k lt. rw (s.current, s.state) (s.values v.next_record k low lt ∙ own.stored_values k (rw e lt) ∙ sym (drafted k lt));
     }
 
 pub install_tags : (sizes : Sizes) (m n : Words) (row : ℕ) → TagsBelow sizes m → StateInstalled sizes m n (state_tag m + 1) row

@@ -6,7 +6,7 @@ use Rattle.word_layout.specs.Sizes.{Sizes}
 use Rattle.word_layout.specs.Names.{record_words}
 use Rattle.word_layout.specs.Packing.{tag_of, value_of}
 use Rattle.transfer_machine.specs.Loads.{loaded_tag, loaded_record}
-use Rattle.transfer_machine.specs.Tries.{begun_plan, after_announcement}
+use Rattle.transfer_machine.specs.Tries.{begun_draft, after_announcement}
 use Rattle.transfer_machine.specs.Machine.{try_ended, after_slot, after_record, after_heard, record_word_loaded, popped_loaded}
 use Rattle.transfer_machine.specs.declared.loaded.Loaded.{Loaded}
 use Rattle.transfer_machine.specs.declared.transfer.TransferView.{TransferView}
@@ -62,7 +62,7 @@ word_met : (sizes : Sizes) (m : Words) (views after : Views) (states : States) (
     → Moved i (if t then record (views i) {
       loaded = with_record_word (views i).loaded index word;
       next = Try second (after_record (with_record_word (views i).loaded index word));
-      plan = begun_plan (with_record_word (views i).loaded index word) (views i).plan;
+      draft = begun_draft (with_record_word (views i).loaded index word) (views i).draft;
     } else record (views i) {
       loaded = with_record_word (views i).loaded index word;
       next = Try second (LoadRecordWord (index + 1));
@@ -71,7 +71,7 @@ word_met : (sizes : Sizes) (m : Words) (views after : Views) (states : States) (
 word_met sizes m views after states i second index word few li inv e et ev le true test moved =
     let v = views i in
     let loaded = with_record_word v.loaded index word in
-    let x = record v { loaded = loaded; next = Try second (after_record loaded); plan = begun_plan loaded v.plan } in
+    let x = record v { loaded = loaded; next = Try second (after_record loaded); draft = begun_draft loaded v.draft } in
     let count = record_loads (record_words sizes) loaded in
     let last = last_word (record_words sizes) index test in
     word_goes_on sizes m views after states i second index word few li inv e et ev le x (within v x (rw e refl) refl refl refl)
@@ -145,7 +145,7 @@ pub announcement_step : (sizes : Sizes) (m : Words) (views after : Views) (state
     } else record (views i) {
       loaded = record (views i).loaded { announcements = set (views i).loaded.announcements process word };
       next = Try second (after_heard sizes process);
-      plan = after_announcement sizes.processes (views i).loaded process word 0 (views i).plan;
+      draft = after_announcement sizes.processes (views i).loaded process word 0 (views i).draft;
     }) views after
     → RecordsHold sizes m after states
 announcement_step sizes m views after states i second process word li inv e true moved =
@@ -157,8 +157,8 @@ announcement_step sizes m views after states i second process word li inv e true
 announcement_step sizes m views after states i second process word li inv e false moved =
     let v = views i in
     let loaded = record v.loaded { announcements = set v.loaded.announcements process word } in
-    let plan = after_announcement sizes.processes v.loaded process word 0 v.plan in
-    let x = record v { loaded = loaded; next = Try second (after_heard sizes process); plan = plan } in
+    let draft = after_announcement sizes.processes v.loaded process word 0 v.draft in
+    let x = record v { loaded = loaded; next = Try second (after_heard sizes process); draft = draft } in
     moves_on_same sizes m views after states i x li inv (within v x (rw e refl) refl refl refl) (heard_none sizes second process) refl
     (rw e (heard_loads (record_words sizes) sizes process)) moved
 

@@ -12,14 +12,14 @@ use Rattle.transfer_machine.specs.declared.stage.TryStep.TheVariants.{StoreRecor
 use Rattle.transfer_invariant.specs.Memory.{Words, Views, States, Moved, state_tag, state_value}
 use Rattle.transfer_invariant.specs.Progress.{has_loaded, loaded_words}
 use Rattle.transfer_invariant.specs.Records.{StateFits, StatesFit, LoadedState, OwnerWentOn}
-use Rattle.transfer_invariant.specs.Installing.{planned_state, with_state, states_with_planned}
+use Rattle.transfer_invariant.specs.Installing.{drafted_state, with_state, states_with_drafted}
 use Rattle.transfer_invariant.specs.Invariant.{RecordsHold}
 use Rattle.transfer_invariant.proofs.Stable.{stay_states}
 use Rattle.transfer_invariant.proofs.Own.{KeepsLoaded, keeps_loaded, keeps_from, keeps_to}
-use Rattle.transfer_machine.specs.Tries.{planned_value}
+use Rattle.transfer_machine.specs.Tries.{drafted_value}
 use Rattle.transfer_machine.specs.Machine.{after_stored, installed}
 use Rattle.transfer_machine.specs.States.{StackState}
-use Rattle.transfer_invariant.specs.Laws.{PlanFits}
+use Rattle.transfer_invariant.specs.Laws.{DraftFits}
 use Rattle.transfer_invariant.proofs.Changes.{WordStored, StateInstalled}
 use Rattle.transfer_invariant.proofs.Stable.{store_current, store_tags, store_own, store_loaded, install_current, install_tags, install_own, install_loaded}
 use Rattle.transfer_invariant.proofs.Own.{stores_loaded, store_own_view, install_own_view, install_to}
@@ -29,13 +29,13 @@ use Rattle.transfer_invariant.proofs.Steps.{assemble, within}
 pub store_step : (sizes : Sizes) (m n : Words) (views after : Views) (states : States) (i : ℕ) (second : Bool) (index : ℕ)
     → i < sizes.processes → RecordsHold sizes m views states → (views i).next ≡ Try second (StoreRecordWord index)
     → WordStored sizes m n (views i).next_record index (loaded_tag (views i).loaded + 1)
-    (planned_value sizes.processes (views i).plan index)
+    (drafted_value sizes.processes (views i).draft index)
     → Moved i (record (views i) { next = Try second (after_stored sizes index) }) views after → RecordsHold sizes n after states
 store_step sizes m n views after states i second index li inv e s moved =
     let v = views i in
     let x = record v { next = Try second (after_stored sizes index) } in
     let tag = loaded_tag v.loaded + 1 in
-    let value = planned_value sizes.processes v.plan index in
+    let value = drafted_value sizes.processes v.draft index in
     let own = inv.own i li in
     let loaded = inv.loaded i li in
     let low : index < record_words sizes = rw e at own.index in
@@ -60,27 +60,27 @@ store_step sizes m n views after states i second index li inv e s moved =
       rest = λ a o la lo na no. inv.owners a o la lo;
     })
 
--- its words are the planned ones
-planned_words : (processes : ℕ) (s : StackState) (v : TransferView) (k : ℕ)
-    → state_value processes (planned_state s v) k ≡ planned_value processes v.plan k
-unfolding planned_state state_value
-planned_words processes s v k =
-    let over : v.plan.base + v.plan.overlay - v.plan.base ≡ v.plan.overlay = omega arith in
-    let place : v.plan.base + (k - 2) - v.plan.base ≡ k - 2 = omega arith in
-    let above : nat_lt (v.plan.base + (k - 2)) v.plan.base ≡ false = grind (arith, nat_tests) in
+-- its words are the drafted ones
+drafted_words : (processes : ℕ) (s : StackState) (v : TransferView) (k : ℕ)
+    → state_value processes (drafted_state s v) k ≡ drafted_value processes v.draft k
+unfolding drafted_state state_value
+drafted_words processes s v k =
+    let over : v.draft.base + v.draft.overlay - v.draft.base ≡ v.draft.overlay = omega arith in
+    let place : v.draft.base + (k - 2) - v.draft.base ≡ k - 2 = omega arith in
+    let above : nat_lt (v.draft.base + (k - 2)) v.draft.base ≡ false = grind (arith, nat_tests) in
     rw (over, above, place) refl
 
--- and it fits where the plan does
-planned_fits : (sizes : Sizes) (s : StackState) (v : TransferView) → v.plan.overlay ≤ sizes.processes → PlanFits sizes v.plan
-    → StateFits sizes (planned_state s v)
-unfolding planned_state
-planned_fits sizes s v few fits = record {
+-- and it fits where the draft does
+drafted_fits : (sizes : Sizes) (s : StackState) (v : TransferView) → v.draft.overlay ≤ sizes.processes → DraftFits sizes v.draft
+    → StateFits sizes (drafted_state s v)
+unfolding drafted_state
+drafted_fits sizes s v few fits = record {
   base = omega arith;
   overlay = omega arith;
   within = fits.within;
   heads = λ place ge lt.
-      let above : nat_lt place v.plan.base ≡ false = grind (arith, nat_tests) in
-      rw above (fits.heads (place - v.plan.base) (omega arith));
+      let above : nat_lt place v.draft.base ≡ false = grind (arith, nat_tests) in
+      rw above (fits.heads (place - v.draft.base) (omega arith));
 }
 
 -- the states with one more
@@ -104,23 +104,23 @@ states_fit_more sizes m n states later new h et hit same fits t le = elim (cases
 -- a state is installed, by a view that loaded the present one
 pub install_step : (sizes : Sizes) (m n : Words) (views after : Views) (states : States) (i : ℕ) (second : Bool) → i < sizes.processes
     → RecordsHold sizes m views states → (views i).next ≡ Try second ExchangeState → loaded_tag (views i).loaded ≡ state_tag m
-    → (views i).plan.overlay ≤ sizes.processes → PlanFits sizes (views i).plan
+    → (views i).draft.overlay ≤ sizes.processes → DraftFits sizes (views i).draft
     → StateInstalled sizes m n (loaded_tag (views i).loaded + 1) (views i).next_record → Moved i (installed (views i)) views after
-    → RecordsHold sizes n after (states_with_planned m (views i) states)
+    → RecordsHold sizes n after (states_with_drafted m (views i) states)
 install_step sizes m n views after states i second li inv e now few fits s moved =
     let v = views i in
     let x = installed v in
-    let new = planned_state (states (state_tag m)) v in
-    let later : States = states_with_planned m v states in
+    let new = drafted_state (states (state_tag m)) v in
+    let later : States = states_with_drafted m v states in
     let own = inv.own i li in
     let here : later (state_tag m + 1) ≡ new = with_state_here (state_tag m + 1) new states in
     let same : (t : ℕ) → t ≤ state_tag m → later t ≡ states t = with_state_below (state_tag m) new states in
     let there : StateInstalled sizes m n (state_tag m + 1) v.next_record = rw now at s in
     assemble sizes n views after later i x moved (record {
       current = install_current sizes m n states later i second v li own e now s
-          (λ k lt. rw (now, here) (planned_words sizes.processes (states (state_tag m)) v k));
+          (λ k lt. rw (now, here) (drafted_words sizes.processes (states (state_tag m)) v k));
       states_fit = states_fit_more sizes m n states later new inv.states_fit there.state here same
-          (planned_fits sizes (states (state_tag m)) v few fits);
+          (drafted_fits sizes (states (state_tag m)) v few fits);
       tags_below = install_tags sizes m n v.next_record inv.tags_below there;
       own = install_own_view sizes m n i v own s;
       loaded = nothing_kept sizes n later x (inv.loaded i li).room refl refl;

@@ -4,7 +4,7 @@ use Rattle.word_layout.specs.Sizes.{Sizes}
 use Rattle.transfer_invariant.specs.Memory.{Words, Views, States}
 use Rattle.transfer_invariant.specs.Records.{CurrentRecord, StatesFit, TagsBelow, OwnRecord, LoadedState, OwnerWentOn}
 use Rattle.transfer_invariant.specs.Tags.{TagsHold}
-use Rattle.transfer_invariant.specs.Plans.{OverlayFits}
+use Rattle.transfer_invariant.specs.Drafts.{OverlayFits}
 
 -- the parts current record, own record and loaded state hold of the words and of all views, with these states
 pub record RecordsHold (sizes : Sizes) (words : Words) (views : Views) (states : States) : Type 0 where
@@ -18,5 +18,5 @@ pub record RecordsHold (sizes : Sizes) (words : Words) (views : Views) (states :
 -- the words and all views meet all parts, with these states
 pub record Invariant (sizes : Sizes) (words : Words) (views : Views) (states : States) : Type 0 where
   pub records : RecordsHold sizes words views states
-  pub plans : (i : ℕ) → i < sizes.processes → OverlayFits sizes.processes (views i)
+  pub drafts : (i : ℕ) → i < sizes.processes → OverlayFits sizes.processes (views i)
   pub tags : TagsHold sizes words views

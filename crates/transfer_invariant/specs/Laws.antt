@@ -7,14 +7,14 @@ use Rattle.word_layout.specs.declared.announced.Wish.{Wish}
 use Rattle.word_layout.specs.declared.name.WordName.{WordName}
 use Rattle.word_layout.specs.declared.name.WordName.TheVariants.{State}
 use Rattle.transfer_machine.specs.Machine.{action_of, met_of, begun}
-use Rattle.transfer_machine.specs.Tries.{planned_value}
+use Rattle.transfer_machine.specs.Tries.{drafted_value}
 use Rattle.transfer_machine.specs.Words.{name_of, acted}
 use Rattle.transfer_machine.specs.Opening.{opening_word, opening_transfer}
 use Rattle.transfer_machine.specs.Loads.{loaded_tag}
 use Rattle.transfer_machine.specs.NextStates.{IsLoaded}
 use Rattle.transfer_machine.specs.declared.action.Action.{Action}
 use Rattle.transfer_machine.specs.declared.transfer.TransferView.{TransferView}
-use Rattle.transfer_machine.specs.declared.try_plan.TryPlan.{TryPlan}
+use Rattle.transfer_machine.specs.declared.try_draft.TryDraft.{TryDraft}
 use Rattle.transfer_machine.specs.declared.stage.NextStep.TheVariants.{Rest, Try}
 use Rattle.transfer_machine.specs.declared.stage.TryStep.TheVariants.{StoreRecordWord, ExchangeState}
 use Rattle.transfer_invariant.specs.Memory.{Words, Views, States, Acted, Moved, state_tag}
@@ -31,16 +31,16 @@ OpeningMeetsInvariant =
     → ((i : ℕ) → i < sizes.processes → views i ≡ opening_transfer i)
     → Invariant sizes words views (λ m. opening_state sizes)
 
--- a plan has room: all places are slots, the heads are blocks
-pub record PlanFits (sizes : Sizes) (plan : TryPlan) : Type 0 where
-  pub within : plan.base + plan.overlay ≤ sizes.batches
-  pub heads : (k : ℕ) → k < plan.overlay → slice_index plan.heads k < blocks sizes
+-- a draft has room: all places are slots, the heads are blocks
+pub record DraftFits (sizes : Sizes) (draft : TryDraft) : Type 0 where
+  pub within : draft.base + draft.overlay ≤ sizes.batches
+  pub heads : (k : ℕ) → k < draft.overlay → slice_index draft.heads k < blocks sizes
 
 -- what a view writes fits: a record word its value, and a state that is installed its place
 pub record WritesFit (sizes : Sizes) (words : Words) (v : TransferView) : Type 0 where
   pub store : (second : Bool) (index : ℕ) → v.next ≡ Try second (StoreRecordWord index)
-      → planned_value sizes.processes v.plan index < value_limit
-  pub install : (second : Bool) → v.next ≡ Try second ExchangeState → words State ≡ v.loaded.state → PlanFits sizes v.plan
+      → drafted_value sizes.processes v.draft index < value_limit
+  pub install : (second : Bool) → v.next ≡ Try second ExchangeState → words State ≡ v.loaded.state → DraftFits sizes v.draft
 
 -- the step of a process leads from words and views that meet the invariant to such ones; where it installs a state there is one more
 abbrev pub StepsKeepInvariant : Type 0

@@ -3,7 +3,7 @@ pub mod Installing
 pub mod Progress
 pub mod Records
 pub mod Tags
-pub mod Plans
+pub mod Drafts
 pub mod OpeningState
 pub mod Invariant
 pub mod Laws

@@ -124,24 +124,24 @@ heard_announcements processes (Try second step) = heard_in_try processes step
 heard_announcements processes LoadFinalState = 0
 heard_announcements processes LoadReply = 0
 
--- how many of them the plan of a try has met
-abbrev pub planned_in_try : ℕ → TryStep → ℕ
-planned_in_try processes LoadState = 0
-planned_in_try processes (LoadRecordWord index) = 0
-planned_in_try processes (LoadCoveredSlot offset) = 0
-planned_in_try processes (ExchangeSlot offset) = 0
-planned_in_try processes (LoadAnnouncement process) = process
-planned_in_try processes (LoadPoppedSlot process) = process
-planned_in_try processes (StoreRecordWord index) = processes
-planned_in_try processes ExchangeState = processes
+-- how many of them the draft of a try has met
+abbrev pub drafted_in_try : ℕ → TryStep → ℕ
+drafted_in_try processes LoadState = 0
+drafted_in_try processes (LoadRecordWord index) = 0
+drafted_in_try processes (LoadCoveredSlot offset) = 0
+drafted_in_try processes (ExchangeSlot offset) = 0
+drafted_in_try processes (LoadAnnouncement process) = process
+drafted_in_try processes (LoadPoppedSlot process) = process
+drafted_in_try processes (StoreRecordWord index) = processes
+drafted_in_try processes ExchangeState = processes
 
--- how many of them the plan has met
-abbrev pub planned_announcements : ℕ → NextStep → ℕ
-planned_announcements processes Rest = 0
-planned_announcements processes Announce = 0
-planned_announcements processes (Try second step) = planned_in_try processes step
-planned_announcements processes LoadFinalState = 0
-planned_announcements processes LoadReply = 0
+-- how many of them the draft has met
+abbrev pub drafted_announcements : ℕ → NextStep → ℕ
+drafted_announcements processes Rest = 0
+drafted_announcements processes Announce = 0
+drafted_announcements processes (Try second step) = drafted_in_try processes step
+drafted_announcements processes LoadFinalState = 0
+drafted_announcements processes LoadReply = 0
 
 -- a try at this step has loaded the whole record
 abbrev pub has_record_in_try : TryStep → Bool

@@ -3,7 +3,7 @@ use Rattle.std.specs.Prelude.{◌≡◌, ◌≢◌, ℕ, ◌+◌, ◌/◌, ◌<�
 use Rattle.word_layout.specs.Sizes.{Sizes, blocks}
 use Rattle.word_layout.specs.Names.{records, record_words}
 use Rattle.transfer_machine.specs.Loads.{loaded_tag, loaded_record, record_value}
-use Rattle.transfer_machine.specs.Tries.{planned_value}
+use Rattle.transfer_machine.specs.Tries.{drafted_value}
 use Rattle.transfer_machine.specs.States.{StackState}
 use Rattle.transfer_machine.specs.declared.transfer.TransferView.{TransferView}
 use Rattle.transfer_invariant.specs.Memory.{Words, States, state_tag, current_record, word_tag, word_value, state_value}
@@ -32,7 +32,7 @@ abbrev pub TagsBelow : Sizes → Words → Type 0
 TagsBelow sizes words =
     (row index : ℕ) → row < records sizes → index < record_words sizes → word_tag words row index ≤ state_tag words + 1
 
--- Own record, of one process: its next record is one of its two and isn't current; what it stored there is what its try planned
+-- Own record, of one process: its next record is one of its two and isn't current; what it stored there is what its try drafted
 pub record OwnRecord (sizes : Sizes) (words : Words) (process : ℕ) (v : TransferView) : Type 0 where
   -- the record word that its next step is about
   pub index : record_index v.next < record_words sizes
@@ -42,11 +42,11 @@ pub record OwnRecord (sizes : Sizes) (words : Words) (process : ℕ) (v : Transf
   -- its last installed state is at most the present one, and the one that its try loaded
   pub installed : v.installed ≤ state_tag words
   pub tried : in_try v.next ≡ true → v.installed ≤ loaded_tag v.loaded
-  -- what it stored in the try has the next tag and the planned values
+  -- what it stored in the try has the next tag and the drafted values
   pub stored_tags : (index : ℕ) → index < stored_words (record_words sizes) v.next
       → word_tag words v.next_record index ≡ loaded_tag v.loaded + 1
   pub stored_values : (index : ℕ) → index < stored_words (record_words sizes) v.next
-      → word_value words v.next_record index ≡ planned_value sizes.processes v.plan index
+      → word_value words v.next_record index ≡ drafted_value sizes.processes v.draft index
 
 -- Loaded state: it is at most the present one, and a word of its record has its number and its values, or a higher number
 pub record LoadedState (sizes : Sizes) (words : Words) (states : States) (v : TransferView) : Type 0 where

@@ -8,7 +8,7 @@ pub fn opening()
 {}
 
 /// Every step of every process, from words and views that meet the invariant, leads to such words and views,
-/// where the value of a record word that it stores fits and the plan of a state that it installs has room.
+/// where the value of a record word that it stores fits and the draft of a state that it installs has room.
 pub fn steps()
     ensures { StepsKeepInvariant }
 {}

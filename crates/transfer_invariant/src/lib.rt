@@ -4,7 +4,7 @@
 //! The invariant is a record of parts in `specs/Invariant.antt`, each with what it says in words. The module
 //! [`laws`] has that the opening meets it and that every step of every process keeps it. Three crates over this
 //! one have the other parts: slots (`slot_invariant`), announcements, two tries and settled replies
-//! (`helping_invariant`), and the plan of a try (`plan_invariant`); `stack_invariant` gathers all of them.
+//! (`helping_invariant`), and the draft of a try (`draft_invariant`); `stack_invariant` gathers all of them.
 #![tactic(auto)]
 
 pub mod laws;

@@ -1,3 +1,3 @@
 pub mod Filled
-pub mod Plans
+pub mod Drafts
 pub mod NextStates

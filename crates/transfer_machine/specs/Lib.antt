@@ -5,6 +5,6 @@ pub mod Machine
 pub mod Words
 pub mod Opening
 pub mod Filling
-pub mod Planned
+pub mod Drafted
 pub mod NextStates
 pub mod States

@@ -6,7 +6,7 @@ use Rattle.word_layout.specs.Packing.{value_limit, tag_limit, most_age, tag_of, 
 use Rattle.word_layout.specs.declared.name.WordName.TheVariants.{State, Announcement, RecordWord, Slot}
 use Rattle.word_layout.specs.declared.announced.Wish.{Wish}
 use Rattle.transfer_machine.specs.Loads.{loaded_tag, loaded_record, loaded_base, overlay_length, overlay_head}
-use Rattle.transfer_machine.specs.Tries.{begun_plan, pops_slot, after_announcement, planned_value, CanApply}
+use Rattle.transfer_machine.specs.Tries.{begun_draft, pops_slot, after_announcement, drafted_value, CanApply}
 use Rattle.transfer_machine.specs.declared.action.Action.{Action}
 use Rattle.transfer_machine.specs.declared.action.Action.TheVariants.{Load, Store, Exchange}
 use Rattle.transfer_machine.specs.declared.loaded.Loaded.{Loaded}
@@ -23,7 +23,7 @@ own_announcement v = announced_word (record { number = v.age + 1; wish = v.wish 
 
 -- the word that it stores at a place of its next record: its tag is one above the loaded one
 abbrev pub stored_word : Sizes → TransferView → ℕ → ℕ
-stored_word sizes v index = tagged (loaded_tag v.loaded + 1) (planned_value sizes.processes v.plan index)
+stored_word sizes v index = tagged (loaded_tag v.loaded + 1) (drafted_value sizes.processes v.draft index)
 
 -- the state that it wants to install
 abbrev pub next_state : TransferView → ℕ
@@ -41,7 +41,7 @@ try_action sizes v (LoadCoveredSlot offset) = Load (Slot (loaded_base v.loaded +
 try_action sizes v (ExchangeSlot offset) =
     Exchange (Slot (loaded_base v.loaded + offset)) (slice_index v.loaded.slots offset) (covering_word v offset)
 try_action sizes v (LoadAnnouncement process) = Load (Announcement process)
-try_action sizes v (LoadPoppedSlot process) = Load (Slot (v.plan.base - 1))
+try_action sizes v (LoadPoppedSlot process) = Load (Slot (v.draft.base - 1))
 try_action sizes v (StoreRecordWord index) = Store (RecordWord v.next_record index) (stored_word sizes v index)
 try_action sizes v ExchangeState = Exchange State v.loaded.state (next_state v)
 
@@ -85,23 +85,23 @@ after_heard sizes process = if process + 1 == sizes.processes then StoreRecordWo
 abbrev pub after_stored : Sizes → ℕ → TryStep
 after_stored sizes index = if index + 1 == record_words sizes then ExchangeState else StoreRecordWord (index + 1)
 
--- a record word is loaded; the plan begins with the last one
+-- a record word is loaded; the draft begins with the last one
 abbrev pub record_word_loaded : Sizes → Bool → ℕ → Loaded → TransferView → TransferView
 record_word_loaded sizes second index loaded v =
     if index + 1 == record_words sizes
-    then record v { loaded = loaded; next = Try second (after_record loaded); plan = begun_plan loaded v.plan }
+    then record v { loaded = loaded; next = Try second (after_record loaded); draft = begun_draft loaded v.draft }
     else record v { loaded = loaded; next = Try second (LoadRecordWord (index + 1)) }
 
 -- an announcement is loaded: it is applied at once unless its batch is still to be loaded
 abbrev pub announcement_loaded : Sizes → Bool → ℕ → ℕ → TransferView → TransferView
 announcement_loaded sizes second process word v =
     let loaded = record v.loaded { announcements = slice_set v.loaded.announcements process word } in
-    if pops_slot sizes.processes v.loaded process word v.plan
+    if pops_slot sizes.processes v.loaded process word v.draft
     then record v { loaded = loaded; next = Try second (LoadPoppedSlot process) }
     else record v {
       loaded = loaded;
       next = Try second (after_heard sizes process);
-      plan = after_announcement sizes.processes v.loaded process word 0 v.plan;
+      draft = after_announcement sizes.processes v.loaded process word 0 v.draft;
     }
 
 -- the slot of a taken batch is loaded: its announcement is applied
@@ -109,7 +109,7 @@ abbrev pub popped_loaded : Sizes → Bool → ℕ → ℕ → TransferView → T
 popped_loaded sizes second process word v = record v {
   loaded = record v.loaded { popped = slice_set v.loaded.popped process word };
   next = Try second (after_heard sizes process);
-  plan = after_announcement sizes.processes v.loaded process (slice_index v.loaded.announcements process) (value_of word) v.plan;
+  draft = after_announcement sizes.processes v.loaded process (slice_index v.loaded.announcements process) (value_of word) v.draft;
 }
 
 -- the exchange of the state put the next record there
@@ -161,14 +161,14 @@ met_of sizes v word = met_at sizes v word v.next
 abbrev pub begun : Wish → TransferView → TransferView
 begun wish v = record v { next = Announce; wish = wish }
 
--- the planned word can be stored there: its place is in range, and it fits a word
+-- the drafted word can be stored there: its place is in range, and it fits a word
 abbrev pub CanStore : Sizes → TransferView → ℕ → Type 0
 CanStore sizes v index =
     (v.next_record < records sizes)
     × (index < record_words sizes)
-    × (v.plan.overlay ≤ 32)
+    × (v.draft.overlay ≤ 32)
     × (loaded_tag v.loaded + 1 < tag_limit)
-    × (planned_value sizes.processes v.plan index < value_limit)
+    × (drafted_value sizes.processes v.draft index < value_limit)
 
 -- the numbers that a step of a try names are in their ranges, and what it writes fits a word
 abbrev pub CanActInTry : Sizes → TransferView → TryStep → Type 0
@@ -177,7 +177,7 @@ CanActInTry sizes v (LoadRecordWord index) = (loaded_record v.loaded < records s
 CanActInTry sizes v (LoadCoveredSlot offset) = (offset < 32) × (loaded_base v.loaded + offset < sizes.batches)
 CanActInTry sizes v (ExchangeSlot offset) = (offset < 32) × (loaded_base v.loaded + offset < sizes.batches)
 CanActInTry sizes v (LoadAnnouncement process) = process < sizes.processes
-CanActInTry sizes v (LoadPoppedSlot process) = (process < sizes.processes) × (1 ≤ v.plan.base) × (v.plan.base ≤ sizes.batches)
+CanActInTry sizes v (LoadPoppedSlot process) = (process < sizes.processes) × (1 ≤ v.draft.base) × (v.draft.base ≤ sizes.batches)
 CanActInTry sizes v (StoreRecordWord index) = CanStore sizes v index
 CanActInTry sizes v ExchangeState = (v.next_record < records sizes) × (loaded_tag v.loaded + 1 < tag_limit)
 
@@ -199,9 +199,9 @@ CanMeetInTry sizes v word LoadState = Unit {0}
 CanMeetInTry sizes v word (LoadRecordWord index) = Unit {0}
 CanMeetInTry sizes v word (LoadCoveredSlot offset) = Unit {0}
 CanMeetInTry sizes v word (ExchangeSlot offset) = Unit {0}
-CanMeetInTry sizes v word (LoadAnnouncement process) = CanApply sizes.processes v.loaded process word 0 v.plan
+CanMeetInTry sizes v word (LoadAnnouncement process) = CanApply sizes.processes v.loaded process word 0 v.draft
 CanMeetInTry sizes v word (LoadPoppedSlot process) =
-    CanApply sizes.processes v.loaded process (slice_index v.loaded.announcements process) (value_of word) v.plan
+    CanApply sizes.processes v.loaded process (slice_index v.loaded.announcements process) (value_of word) v.draft
 CanMeetInTry sizes v word (StoreRecordWord index) = Unit {0}
 CanMeetInTry sizes v word ExchangeState = Unit {0}
 

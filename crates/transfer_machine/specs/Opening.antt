@@ -8,7 +8,7 @@ use Rattle.word_layout.specs.declared.name.WordName.TheVariants.{State, Announce
 use Rattle.word_layout.specs.declared.announced.Wish.TheVariants.{Take}
 use Rattle.word_layout.specs.declared.reply.Reply.TheVariants.{Nothing}
 use Rattle.transfer_machine.specs.declared.loaded.Loaded.{Loaded}
-use Rattle.transfer_machine.specs.declared.try_plan.TryPlan.{TryPlan}
+use Rattle.transfer_machine.specs.declared.try_draft.TryDraft.{TryDraft}
 use Rattle.transfer_machine.specs.declared.transfer.TransferView.{TransferView}
 use Rattle.transfer_machine.specs.declared.stage.NextStep.TheVariants.{Rest}
 
@@ -56,9 +56,9 @@ nothing_loaded = record {
   popped = replicate 32 0;
 }
 
--- nothing is planned
-abbrev pub nothing_planned : TryPlan
-nothing_planned = record { base = 0; overlay = 0; heads = replicate 32 0; replies = replicate 32 0 }
+-- nothing is drafted
+abbrev pub nothing_drafted : TryDraft
+nothing_drafted = record { base = 0; overlay = 0; heads = replicate 32 0; replies = replicate 32 0 }
 
 -- what a process knows of transfers at the opening: it has begun none, and writes the first of its two records next
 abbrev pub opening_transfer : ℕ → TransferView
@@ -71,6 +71,6 @@ opening_transfer process = record {
   wish = Take;
   next = Rest;
   loaded = nothing_loaded;
-  plan = nothing_planned;
+  draft = nothing_drafted;
   answer = Nothing;
 }

@@ -1,4 +1,4 @@
--- The plan of a try: the new state that it works out of the loaded words, one announcement after the other.
+-- The draft of a try: the new state that it works out of the loaded words, one announcement after the other.
 use Rattle.std.specs.Prelude.{ℕ, ◌+◌, ◌-◌, ◌%◌, ◌<◌, ◌≤◌, ◌==◌, nat_lt, Bool, true, false, not, ◌&&◌, if◌then◌else◌, slice_index, slice_set}
 use Rattle.word_layout.specs.Packing.{tag_of, value_of, wish_of, reply_value, is_odd_reply, FitsReply}
 use Rattle.word_layout.specs.declared.announced.Wish.{Wish}
@@ -7,7 +7,7 @@ use Rattle.word_layout.specs.declared.reply.Reply.{Reply}
 use Rattle.word_layout.specs.declared.reply.Reply.TheVariants.{Nothing, Took, Gave}
 use Rattle.transfer_machine.specs.Loads.{loaded_base, overlay_length, overlay_head, loaded_reply}
 use Rattle.transfer_machine.specs.declared.loaded.Loaded.{Loaded}
-use Rattle.transfer_machine.specs.declared.try_plan.TryPlan.{TryPlan}
+use Rattle.transfer_machine.specs.declared.try_draft.TryDraft.{TryDraft}
 
 -- whether the number of an announcement is odd
 abbrev pub is_odd_transfer : ℕ → Bool
@@ -26,65 +26,65 @@ abbrev pub is_take : Wish → Bool
 is_take Take = true
 is_take (Give head) = false
 
--- the plan before the first announcement: all content lies below the working base
-abbrev pub begun_plan : Loaded → TryPlan → TryPlan
-begun_plan loaded plan = record plan { base = loaded_base loaded + overlay_length loaded; overlay = 0 }
+-- the draft before the first announcement: all content lies below the working base
+abbrev pub begun_draft : Loaded → TryDraft → TryDraft
+begun_draft loaded draft = record draft { base = loaded_base loaded + overlay_length loaded; overlay = 0 }
 
 -- whether a take gets its batch from a slot: nothing was given in this try, and the place is below the loaded overlay
-abbrev pub takes_from_slot : Loaded → TryPlan → Bool
-takes_from_slot loaded plan = (plan.overlay == 0) && (nat_lt 0 plan.base && nat_lt (plan.base - 1) (loaded_base loaded))
+abbrev pub takes_from_slot : Loaded → TryDraft → Bool
+takes_from_slot loaded draft = (draft.overlay == 0) && (nat_lt 0 draft.base && nat_lt (draft.base - 1) (loaded_base loaded))
 
 -- whether the announcement of a process needs that slot
-abbrev pub pops_slot : ℕ → Loaded → ℕ → ℕ → TryPlan → Bool
-pops_slot processes loaded process word plan =
-    is_pending word (loaded_reply processes loaded process) && (is_take (announced_wish word) && takes_from_slot loaded plan)
+abbrev pub pops_slot : ℕ → Loaded → ℕ → ℕ → TryDraft → Bool
+pops_slot processes loaded process word draft =
+    is_pending word (loaded_reply processes loaded process) && (is_take (announced_wish word) && takes_from_slot loaded draft)
 
 -- the batch at the place below the working base: from the loaded overlay, or the one that was popped
-abbrev pub batch_below : Loaded → ℕ → TryPlan → ℕ
-batch_below loaded popped plan =
-    if nat_lt (plan.base - 1) (loaded_base loaded) then popped else overlay_head loaded (plan.base - 1 - loaded_base loaded)
+abbrev pub batch_below : Loaded → ℕ → TryDraft → ℕ
+batch_below loaded popped draft =
+    if nat_lt (draft.base - 1) (loaded_base loaded) then popped else overlay_head loaded (draft.base - 1 - loaded_base loaded)
 
 -- what a take is answered: the last batch of the working overlay, else the one below the working base
-abbrev pub take_reply : Loaded → ℕ → TryPlan → Reply
-take_reply loaded popped plan =
-    if nat_lt 0 plan.overlay
-    then Took (slice_index plan.heads (plan.overlay - 1))
-    else (if plan.base == 0 then Nothing else Took (batch_below loaded popped plan))
+abbrev pub take_reply : Loaded → ℕ → TryDraft → Reply
+take_reply loaded popped draft =
+    if nat_lt 0 draft.overlay
+    then Took (slice_index draft.heads (draft.overlay - 1))
+    else (if draft.base == 0 then Nothing else Took (batch_below loaded popped draft))
 
 -- what a wish is answered
-abbrev pub wish_reply : Loaded → ℕ → TryPlan → Wish → Reply
-wish_reply loaded popped plan Take = take_reply loaded popped plan
-wish_reply loaded popped plan (Give head) = Gave
+abbrev pub wish_reply : Loaded → ℕ → TryDraft → Wish → Reply
+wish_reply loaded popped draft Take = take_reply loaded popped draft
+wish_reply loaded popped draft (Give head) = Gave
 
 -- a wish is granted: a take lowers the working overlay, else the working base; a give adds its head at the end
-abbrev pub granted : Wish → TryPlan → TryPlan
-granted Take plan = if nat_lt 0 plan.overlay then record plan { overlay = plan.overlay - 1 } else record plan { base = plan.base - 1 }
-granted (Give head) plan = record plan { overlay = plan.overlay + 1; heads = slice_set plan.heads plan.overlay head }
+abbrev pub granted : Wish → TryDraft → TryDraft
+granted Take draft = if nat_lt 0 draft.overlay then record draft { overlay = draft.overlay - 1 } else record draft { base = draft.base - 1 }
+granted (Give head) draft = record draft { overlay = draft.overlay + 1; heads = slice_set draft.heads draft.overlay head }
 
 -- the reply of a process is noted
-abbrev pub replied : ℕ → ℕ → TryPlan → TryPlan
-replied process reply plan = record plan { replies = slice_set plan.replies process reply }
+abbrev pub replied : ℕ → ℕ → TryDraft → TryDraft
+replied process reply draft = record draft { replies = slice_set draft.replies process reply }
 
--- the plan after the announcement of one more process: a pending one is granted, any other keeps its reply
-abbrev pub after_announcement : ℕ → Loaded → ℕ → ℕ → ℕ → TryPlan → TryPlan
-after_announcement processes loaded process word popped plan =
+-- the draft after the announcement of one more process: a pending one is granted, any other keeps its reply
+abbrev pub after_announcement : ℕ → Loaded → ℕ → ℕ → ℕ → TryDraft → TryDraft
+after_announcement processes loaded process word popped draft =
     if is_pending word (loaded_reply processes loaded process)
     then (let wish = announced_wish word in
-    replied process (reply_value (is_odd_transfer word) (wish_reply loaded popped plan wish)) (granted wish plan))
-    else replied process (loaded_reply processes loaded process) plan
+    replied process (reply_value (is_odd_transfer word) (wish_reply loaded popped draft wish)) (granted wish draft))
+    else replied process (loaded_reply processes loaded process) draft
 
--- the value of a word of the record that the plan is for: the base, the overlay's length, the overlay and zeros, the replies
-abbrev pub planned_value : ℕ → TryPlan → ℕ → ℕ
-planned_value processes plan index =
-    if index == 0 then plan.base
-    else (if index == 1 then plan.overlay
-    else (if nat_lt index (processes + 2) then (if nat_lt (index - 2) plan.overlay then slice_index plan.heads (index - 2) else 0)
-    else slice_index plan.replies (index - (processes + 2))))
+-- the value of a word of the record that the draft is for: the base, the overlay's length, the overlay and zeros, the replies
+abbrev pub drafted_value : ℕ → TryDraft → ℕ → ℕ
+drafted_value processes draft index =
+    if index == 0 then draft.base
+    else (if index == 1 then draft.overlay
+    else (if nat_lt index (processes + 2) then (if nat_lt (index - 2) draft.overlay then slice_index draft.heads (index - 2) else 0)
+    else slice_index draft.replies (index - (processes + 2))))
 
 -- there is room for one more head, and what is answered fits a reply
-pub record CanApply (processes : ℕ) (loaded : Loaded) (process word popped : ℕ) (plan : TryPlan) : Type 0 where
+pub record CanApply (processes : ℕ) (loaded : Loaded) (process word popped : ℕ) (draft : TryDraft) : Type 0 where
   pub few : processes ≤ 32
   pub among : process < processes
-  pub room : plan.overlay < 32
-  pub near : plan.base ≤ loaded_base loaded + 64
-  pub answer : FitsReply (wish_reply loaded popped plan (announced_wish word))
+  pub room : draft.overlay < 32
+  pub near : draft.base ≤ loaded_base loaded + 64
+  pub answer : FitsReply (wish_reply loaded popped draft (announced_wish word))

@@ -20,7 +20,7 @@ mod step;
 #[cfg(test)]
 mod tests;
 mod transfer;
-mod try_plan;
+mod try_draft;
 mod try_steps;
 
 pub use action::Action;
@@ -30,4 +30,4 @@ pub use opening::opening_words;
 pub use stage::{NextStep, Stage, TryStep};
 pub use step::{act, can_step, step_transfer};
 pub use transfer::TransferView;
-pub use try_plan::TryPlan;
+pub use try_draft::TryDraft;

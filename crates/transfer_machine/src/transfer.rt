@@ -10,7 +10,7 @@ ghost use Rattle.transfer_machine.specs.Opening.{opening_transfer};
 use crate::action::Action;
 use crate::loaded::Loaded;
 use crate::stage::{NextStep, Stage, TryStep};
-use crate::try_plan::TryPlan;
+use crate::try_draft::TryDraft;
 use word_layout::{Announced, Reply, Shape, Tagged, Wish, WordName};
 
 /// What a process keeps for its transfers.
@@ -32,8 +32,8 @@ pub struct TransferView {
     pub next: NextStep,
     /// What was loaded in the present try, or in the end.
     pub loaded: Loaded,
-    /// The plan of the present try.
-    pub plan: TryPlan,
+    /// The draft of the present try.
+    pub draft: TryDraft,
     /// How the last ended transfer was answered.
     pub answer: Reply,
 }
@@ -53,7 +53,7 @@ impl TransferView {
             wish: Wish::Take,
             next: NextStep::Rest,
             loaded: Loaded::nothing(),
-            plan: TryPlan::nothing(),
+            draft: TryDraft::nothing(),
             answer: Reply::Nothing,
         }
     }

@@ -31,7 +31,7 @@ impl TransferView {
             }
             TryStep::LoadAnnouncement { process } => process < processes,
             TryStep::LoadPoppedSlot { process } => {
-                process < processes && self.plan.base >= 1 && self.plan.base <= shape.batches()
+                process < processes && self.draft.base >= 1 && self.draft.base <= shape.batches()
             }
             TryStep::StoreRecordWord { index } => self.can_store(shape, index),
             TryStep::ExchangeState => self.next_record < rows
@@ -39,16 +39,16 @@ impl TransferView {
         }
     }
 
-    /// Whether the planned word can be stored there.
+    /// Whether the drafted word can be stored there.
     fn can_store(&self, shape: &Shape, index: u32) -> bool
         ensures { IsTrue result ↔ CanStore shape.now self.now index }
     {
         let processes = shape.processes();
         self.next_record < 2 * processes + 1
             && index < shape.record_words()
-            && self.plan.overlay <= 32
+            && self.draft.overlay <= 32
             && self.loaded.tag() + 1 < Tagged::TAG_LIMIT
-            && self.plan.value(processes, index) < Tagged::VALUE_LIMIT
+            && self.draft.value(processes, index) < Tagged::VALUE_LIMIT
     }
 
     /// Whether what a step of a try makes of the view stays in range where it meets this word.
@@ -59,13 +59,13 @@ impl TransferView {
         let processes = shape.processes();
         match step {
             TryStep::LoadAnnouncement { process } => {
-                self.plan
+                self.draft
                     .can_apply(&self.loaded, processes, process, word, 0)
             }
             TryStep::LoadPoppedSlot { process } => {
                 let heard = self.loaded.announcements[process as usize];
                 let popped = Tagged::value(word);
-                self.plan
+                self.draft
                     .can_apply(&self.loaded, processes, process, heard, popped)
             }
             TryStep::LoadState
@@ -103,9 +103,9 @@ impl TransferView {
             },
             TryStep::LoadAnnouncement { process } => load(WordName::Announcement { process }),
             TryStep::LoadPoppedSlot { .. } => load(WordName::Slot {
-                slot: self.plan.base - 1,
+                slot: self.draft.base - 1,
             }),
-            TryStep::StoreRecordWord { index } => self.store_planned(shape, index),
+            TryStep::StoreRecordWord { index } => self.store_drafted(shape, index),
             TryStep::ExchangeState => Action::Exchange {
                 name: WordName::State,
                 old: self.loaded.state,
@@ -114,14 +114,14 @@ impl TransferView {
         }
     }
 
-    /// Stores the planned word at a place of the next record.
+    /// Stores the drafted word at a place of the next record.
     #[inline(always)]
-    fn store_planned(&self, shape: &Shape, index: u32) -> Action
+    fn store_drafted(&self, shape: &Shape, index: u32) -> Action
         requires { CanStore shape.now self.now index }
         ensures action { result ≡ try_action shape.now self.now (TryStep.StoreRecordWord index) }
         ensures within { InRange shape.now (name_of result) }
     {
-        let value = self.plan.value(shape.processes(), index);
+        let value = self.draft.value(shape.processes(), index);
         Action::Store {
             name: WordName::RecordWord {
                 row: self.next_record,
@@ -185,7 +185,7 @@ impl TransferView {
         };
     }
 
-    /// A word of the loaded state's record. The plan begins with the last one.
+    /// A word of the loaded state's record. The draft begins with the last one.
     fn load_record_word(&mut self, second: bool, shape: &Shape, index: u32, word: u64)
         requires { index < record_words shape.now }
         ensures { let words = slice_set self.old.loaded.record_words index word in
@@ -194,7 +194,7 @@ impl TransferView {
         let count = shape.record_words();
         self.loaded.record_words[index as usize] = word;
         let step = if index + 1 == count {
-            self.plan.begin(&self.loaded);
+            self.draft.begin(&self.loaded);
             after_record(&self.loaded)
         } else {
             TryStep::LoadRecordWord { index: index + 1 }
@@ -218,14 +218,14 @@ impl TransferView {
 
     /// An announcement: it is applied at once unless its batch is still to be loaded.
     fn load_announcement(&mut self, second: bool, shape: &Shape, process: u32, word: u64)
-        requires { CanApply shape.now.processes self.old.loaded process word 0 self.old.plan }
+        requires { CanApply shape.now.processes self.old.loaded process word 0 self.old.draft }
         ensures { self.new ≡ announcement_loaded shape.now second process word self.old }
     {
         let processes = shape.processes();
-        let step = if self.plan.pops_slot(&self.loaded, processes, process, word) {
+        let step = if self.draft.pops_slot(&self.loaded, processes, process, word) {
             TryStep::LoadPoppedSlot { process }
         } else {
-            self.plan.apply(&self.loaded, processes, process, word, 0);
+            self.draft.apply(&self.loaded, processes, process, word, 0);
             after_heard(shape, process)
         };
         self.loaded.announcements[process as usize] = word;
@@ -235,11 +235,11 @@ impl TransferView {
     /// The slot of a taken batch: its announcement is applied.
     fn load_popped(&mut self, second: bool, shape: &Shape, process: u32, word: u64)
         requires { let heard = slice_index self.old.loaded.announcements process in
-            CanApply shape.now.processes self.old.loaded process heard (value_of word) self.old.plan }
+            CanApply shape.now.processes self.old.loaded process heard (value_of word) self.old.draft }
         ensures { self.new ≡ popped_loaded shape.now second process word self.old }
     {
         let heard = self.loaded.announcements[process as usize];
-        self.plan.apply(
+        self.draft.apply(
             &self.loaded,
             shape.processes(),
             process,

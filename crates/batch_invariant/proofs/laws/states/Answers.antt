@@ -7,5 +7,5 @@ returns-clause-next c sizes s views announcements heard le fits present = next_c
 pub returns-clause-same : goal.returns-clause-same
 returns-clause-same c sizes s t views same = same_carried sizes s t views same
 
-pub returns-clause-planned : goal.returns-clause-planned
-returns-clause-planned c sizes s views v fits installs = planned_carried sizes s views v fits installs
+pub returns-clause-drafted : goal.returns-clause-drafted
+returns-clause-drafted c sizes s views v fits installs = planned_carried sizes s views v fits installs

@@ -12,6 +12,6 @@ returns c sizes words views after states i wish li inv rest moved =
     let none : StoresNone sizes x.next = record { index = omega arith; stored = refl } in
     record {
       records = leaves sizes words views after states i x li inv.records refl refl none refl refl refl refl moved;
-      plans = overlays_move sizes views after i x inv.plans moved tt;
+      drafts = overlays_move sizes views after i x inv.drafts moved tt;
       tags = idle_tags sizes words words views after i x li inv.tags moved refl refl refl;
     }

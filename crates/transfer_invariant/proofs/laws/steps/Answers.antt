@@ -11,7 +11,7 @@ returns c sizes words new views after states i shape li inv fits acted moved =
     let v = views i in
     let few = shape.few_processes in
     record {
-      records = step_kept sizes words new views after states i v.next few li inv.records (inv.plans i li) fits refl acted moved;
-      plans = overlays_kept sizes views after i (words (name_of (action_of sizes v))) li inv.plans moved;
+      records = step_kept sizes words new views after states i v.next few li inv.records (inv.drafts i li) fits refl acted moved;
+      drafts = overlays_kept sizes views after i (words (name_of (action_of sizes v))) li inv.drafts moved;
       tags = tags_kept sizes words new views after states i v.next few li inv.records inv.tags fits refl acted moved;
     }

@@ -1,5 +1,5 @@
-use Rattle.transfer_machine.proofs.NextStates.{plans_are_next_states}
+use Rattle.transfer_machine.proofs.NextStates.{drafts_are_next_states}
 use Rattle.transfer_machine.proofs.laws.next_states.Goals as goal
 
 pub returns : goal.returns
-returns c = plans_are_next_states
+returns c = drafts_are_next_states

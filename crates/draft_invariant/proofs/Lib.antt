@@ -1,0 +1,13 @@
+pub mod Lists
+pub mod Wishes
+pub mod Announcements
+pub mod Views
+pub mod Drafts
+pub mod Numbers
+pub mod KeptDrafts
+pub mod Slots
+pub mod Steps
+pub mod Acts
+pub mod Keeps
+pub mod NextState
+pub mod Gives

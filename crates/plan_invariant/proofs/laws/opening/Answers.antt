@@ -1,5 +1,0 @@
-use Rattle.plan_invariant.proofs.Keeps.{opening_holds}
-use Rattle.plan_invariant.proofs.laws.opening.Goals as goal
-
-pub returns : goal.returns
-returns c = opening_holds

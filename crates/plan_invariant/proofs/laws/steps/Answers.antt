@@ -1,5 +1,0 @@
-use Rattle.plan_invariant.proofs.Keeps.{steps_keep}
-use Rattle.plan_invariant.proofs.laws.steps.Goals as goal
-
-pub returns : goal.returns
-returns c = steps_keep

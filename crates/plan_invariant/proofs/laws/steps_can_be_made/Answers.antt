@@ -1,5 +1,0 @@
-use Rattle.plan_invariant.proofs.Gives.{steps_can_be_made}
-use Rattle.plan_invariant.proofs.laws.steps_can_be_made.Goals as goal
-
-pub returns : goal.returns
-returns c = steps_can_be_made

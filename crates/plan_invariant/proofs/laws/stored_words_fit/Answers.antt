@@ -1,5 +1,0 @@
-use Rattle.plan_invariant.proofs.Gives.{stored_words_fit}
-use Rattle.plan_invariant.proofs.laws.stored_words_fit.Goals as goal
-
-pub returns : goal.returns
-returns c = stored_words_fit
