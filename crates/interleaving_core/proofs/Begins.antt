@@ -43,6 +43,8 @@ use Rattle.call_invariant.proofs.Alone.{moves_alone}
 use Rattle.call_invariant.proofs.Begun.{changing_call_begins, keeping_call_begins}
 use Rattle.call_invariant.proofs.Standing.{some_quantum}
 use Rattle.call_invariant.proofs.Uses.{due_begins, uses_calls, calls_used, uses_transfers}
+use Rattle.interleaving_core.specs.EmptyTakes.{TakesHadFew}
+use Rattle.interleaving_core.proofs.EmptyTakes.{few_same, few_called, begun_dry}
 use Rattle.interleaving_core.specs.Invariant.{Ghosts, Holds, Meets, BlockIsHeld, KnowsOfNothing, held_in}
 use Rattle.interleaving_core.specs.Moves.{may_go_alone, may_wish}
 use Rattle.interleaving_core.proofs.Joins.{transfers, keeps, scheduled, same_ledgers}
@@ -91,6 +93,10 @@ alone_begins_at sizes words views after history ghosts i wish shape li h free re
       empties =
           each_moved (λ o w. KnowsOfNothing s o w.transfer (ghosts.ledgers o)) sizes.processes i x views after moved
           (begun_knows s i wish v.transfer (ghosts.ledgers i)) h.empties;
+      few =
+          each_moved (λ o w. TakesHadFew (limits_of sizes) history (ghosts.ledgers o) w.pool.plan) sizes.processes i x views after moved
+          (few_same (limits_of sizes) history (ghosts.ledgers i) (ghosts.ledgers i) v.pool.plan x.pool.plan refl refl refl
+          (begun_dry wish v) (h.few i li)) h.few;
       names =
           each_moved (λ o w. NamesHeld sizes (held_in ghosts.ledgers o) w.calls.call) sizes.processes i x views after moved (h.names i li)
           h.names;
@@ -284,6 +290,8 @@ call_begins_at sizes words views after history ghosts i call shape li h young na
       entries = goes.goes_on;
       empties = each_moved_with (λ o w l. KnowsOfNothing s o w.transfer l) sizes.processes i x ledger views after ledgers moved
           (knows_begun s i (call_wish call v) v x (ledgers i) ledger (call_transfer call v) goes.found (h.empties i li)) h.empties;
+      few = each_moved_with (λ o w l. TakesHadFew (limits_of sizes) history l w.pool.plan) sizes.processes i x ledger views after ledgers
+          moved (few_called (limits_of sizes) history call v (ledgers i) (h.few i li)) h.few;
       names = each_moved_with (λ o w l. NamesHeld sizes (grip l.entries) w.calls.call) sizes.processes i x ledger views after ledgers moved
           (named_so sizes (held_in ledgers i) (grip ledger.entries) call x.calls.call (ap grip goes.entries) (call_named call v) named)
           h.names;

@@ -33,7 +33,8 @@ use Rattle.history_invariant.specs.Steps.{with_ledger}
 use Rattle.interleaving_core.specs.Invariant.{Ghosts, Holds, Meets, KnowsOfNothing}
 use Rattle.interleaving_core.proofs.Exchanges.{exchanging}
 use Rattle.interleaving_core.proofs.Joins.{transfers, installs_next}
-use Rattle.interleaving_core.proofs.Empties.{few_at, reply_stays}
+use Rattle.interleaving_core.proofs.Empties.{few_at}
+use Rattle.stack_invariant.proofs.NextReplies.{reply_stays}
 use Rattle.interleaving_core.proofs.TransferSteps.{finds_nothing, known_found, each_ledger, is_nothing, says_nothing}
 use Rattle.interleaving_core.proofs.TransfersHold.{Made, ledgers_made, step_made, step_stays}
 
@@ -65,11 +66,6 @@ finds a b c ea eb ec = rw (ea, eb, ec) refl
 first_of_three : (a b c : Bool) → (a && (b && c)) ≡ true → a ≡ true
 first_of_three true b c e = refl
 first_of_three false b c e = grind arith
-
-second_of_three : (a b c : Bool) → (a && (b && c)) ≡ true → b ≡ true
-second_of_three true true c e = refl
-second_of_three true false c e = grind arith
-second_of_three false b c e = grind arith
 
 third_of_three : (a b c : Bool) → (a && (b && c)) ≡ true → c ≡ true
 third_of_three true true c e = e
@@ -130,8 +126,6 @@ module _ (sizes : Sizes) (words new : Words) (views after : ProcessViews) (histo
       few_at sizes words views history ghosts (λ k. slice_index v.loaded.announcements k) o shape lo h
       (installs_next sizes words views history ghosts i second shape li h e hit).present
       (first_of_three (is_pending word (s.reply o)) (is_take (announced_wish word)) (is_nothing (reply_of ((drafted_state s v).reply o))) f)
-      (second_of_three (is_pending word (s.reply o)) (is_take (announced_wish word))
-      (is_nothing (reply_of ((drafted_state s v).reply o))) f)
       (ap reply_of (sym (gives.next.reply o lo)) ∙ said)
 
   knew : (o : ℕ) → o < sizes.processes → KnowsOfNothing s o (views o).transfer (with_ledger i g ghosts.ledgers o)

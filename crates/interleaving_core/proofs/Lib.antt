@@ -10,6 +10,7 @@ pub mod TransfersHold
 pub mod InstallsHold
 pub mod TransfersMade
 pub mod OwnParts
+pub mod EmptyTakes
 pub mod OwnData
 pub mod OwnLedgers
 pub mod OwnSteps

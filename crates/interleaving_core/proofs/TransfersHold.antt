@@ -30,6 +30,8 @@ use Rattle.history_invariant.specs.Steps.{with_ledger}
 use Rattle.history_invariant.proofs.Holding.{exchange_holds}
 use Rattle.call_invariant.specs.Uses.{UsesPool}
 use Rattle.call_invariant.proofs.Uses.{uses_stay}
+use Rattle.interleaving_core.specs.EmptyTakes.{TakesHadFew}
+use Rattle.interleaving_core.proofs.EmptyTakes.{few_known}
 use Rattle.interleaving_core.specs.Invariant.{Ghosts, Holds, Meets, DataHolds, KnowsOfNothing, held_in}
 use Rattle.interleaving_core.proofs.Joins.{transfers, in_step, installs_next, supplied}
 use Rattle.interleaving_core.proofs.TransferSteps.{data_stays, known_of, known_entries, known_account, emptied, own_knows, each_ledger}
@@ -43,6 +45,7 @@ pub record Made (sizes : Sizes) (words : Words) (history : List Entry) (ghosts :
     pub same : g.entries ≡ (ghosts.ledgers i).entries
     pub found : is_announcing v.transfer.next ≡ false → g.found_nothing ≡ (ghosts.ledgers i).found_nothing
     pub uses : UsesPool sizes i x g
+    pub few : TakesHadFew (limits_of sizes) history g x.pool.plan
 
 -- the ledgers afterwards
 abbrev pub ledgers_made : ℕ → Ledger → (ℕ → Bool) → Ledgers → Ledgers
@@ -103,6 +106,7 @@ step_made sizes words new views after history ghosts i x g found shape li h acte
           made.entries
           (λ o lo. emptied (limits_of sizes) history (found o) (with_ledger i g ghosts.ledgers o) (few o lo));
       empties = knows;
+      few = few_made;
       names = λ o lo. subst (λ (f : ℕ → List ℕ). NamesHeld sizes (f o) (after o).calls.call) (sym same) (names_made o lo (cases_eq o i));
       data_words = λ o lo. subst (λ (f : ℕ → List ℕ). DataHolds sizes new (f o) (ghosts.known o)) (sym same) (data_made o lo);
     }
@@ -111,6 +115,14 @@ step_made sizes words new views after history ghosts i x g found shape li h acte
     pools_made o lo =
         each_ledger (λ k l. UsesPool sizes k (after k) l) i o g ghosts.ledgers (λ e. rw e (rw moved.here made.uses))
         (λ ne. rw (moved.elsewhere o ne) (h.pools o lo))
+
+    few_made : (o : ℕ) → o < sizes.processes
+        → TakesHadFew (limits_of sizes) history (ledgers_made i g found ghosts.ledgers o) (after o).pool.plan
+    few_made o lo =
+        let l = with_ledger i g ghosts.ledgers o in
+        few_known (limits_of sizes) history (found o) l (after o).pool.plan (few o lo) (made.entries.each o lo).places.begun_within
+        (each_ledger (λ k l. TakesHadFew (limits_of sizes) history l (after k).pool.plan) i o g ghosts.ledgers
+        (λ e. rw e (rw moved.here made.few)) (λ ne. rw (moved.elsewhere o ne) (h.few o lo)))
 
     names_made : (o : ℕ) → o < sizes.processes → (o ≡ i) ⊎ (o ≢ i) → NamesHeld sizes (held_in ghosts.ledgers o) (after o).calls.call
     names_made o lo (inl e) = rw e (rw moved.here (rw made.call (h.names i li)))

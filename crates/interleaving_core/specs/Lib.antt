@@ -2,6 +2,7 @@ pub mod Steps
 pub mod Moves
 pub mod Runs
 pub mod Turned
+pub mod EmptyTakes
 pub mod Invariant
 pub mod Content
 pub mod TransferLaws
