@@ -111,18 +111,28 @@ pending_said : (word value age applied : ℕ) → tag_of word ≡ age → is_odd
     → age ≤ applied + 1 → is_pending word value ≡ not (applied == age)
 pending_said word value age applied tag odd most least = rw (tag, odd) (odd_pends age applied most least)
 
-pub transit_said : (sizes : Sizes) (table : List ℕ) (views : ProcessViews) (history : List Entry) (ghosts : Ghosts) (i : ℕ)
+-- whether its announcement pends
+pub pends_said : (sizes : Sizes) (table : List ℕ) (views : ProcessViews) (history : List Entry) (ghosts : Ghosts) (i : ℕ)
     → i < sizes.processes → Holds sizes (word_at sizes table) views history ghosts
-    → in_transit sizes table i (views i).transfer ≡ length (moving (ghosts.states (state_tag (word_at sizes table))) i (views i).transfer)
-transit_said sizes table views history ghosts i li h =
+    → pends_at sizes table i ≡ not ((ghosts.states (state_tag (word_at sizes table))).applied i == (views i).transfer.age)
+pends_said sizes table views history ghosts i li h =
     let words = word_at sizes table in
     let s = ghosts.states (state_tag words) in
     let v = (views i).transfer in
     let told = h.stack.helping.announced i li in
     let value = value_said sizes table s i (words_show sizes words (transfers views) ghosts.states h.stack) li in
     let odd = ap is_odd_reply value ∙ h.stack.helping.counts.parities i (state_tag words) li (omega arith) in
-    moving_many s i v (pends_at sizes table i) (reply_value_at sizes table i)
-    (pending_said (words (Announcement i)) (reply_value_at sizes table i) v.age (s.applied i) told.tag odd told.most told.least) value
+    pending_said (words (Announcement i)) (reply_value_at sizes table i) v.age (s.applied i) told.tag odd told.most told.least
+
+pub transit_said : (sizes : Sizes) (table : List ℕ) (views : ProcessViews) (history : List Entry) (ghosts : Ghosts) (i : ℕ)
+    → i < sizes.processes → Holds sizes (word_at sizes table) views history ghosts
+    → in_transit sizes table i (views i).transfer ≡ length (moving (ghosts.states (state_tag (word_at sizes table))) i (views i).transfer)
+transit_said sizes table views history ghosts i li h =
+    let words = word_at sizes table in
+    let s = ghosts.states (state_tag words) in
+    let value = value_said sizes table s i (words_show sizes words (transfers views) ghosts.states h.stack) li in
+    moving_many s i (views i).transfer (pends_at sizes table i) (reply_value_at sizes table i)
+    (pends_said sizes table views history ghosts i li h) value
 
 pub kept_said : (sizes : Sizes) (table : List ℕ) (views : ProcessViews) (history : List Entry) (ghosts : Ghosts) (i : ℕ)
     → i < sizes.processes → Holds sizes (word_at sizes table) views history ghosts

@@ -30,6 +30,7 @@ pub mod RunShown
 pub mod RunContent
 pub mod RunHeads
 pub mod CallLawsKept
+pub mod StateLaws
 pub mod CallLaws
 pub mod CallLawsShort
 pub mod CallLawsData

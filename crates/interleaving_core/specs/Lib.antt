@@ -9,6 +9,7 @@ pub mod TransferLaws
 pub mod Kept
 pub mod CallLaws
 pub mod InvariantLaws
+pub mod StateLaws
 pub mod MovingLaws
 pub mod LabelLaws
 pub mod DataWords
