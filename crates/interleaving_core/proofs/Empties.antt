@@ -66,7 +66,8 @@ few_at sizes words views history ghosts announcements o shape lo h present pendi
     (λ i li. withholds sizes t i (views i) (keeps sizes words views history ghosts i shape li h)) in
     let shared = held_shared (limits_of sizes) (transfer_bound sizes) sizes.quantum history ghosts.ledgers h.entries in
     empty_stack_leaves_few sizes (limits_of sizes) history views refl (λ i li. keeps sizes words views history ghosts i shape li h)
-    (enough (blocks sizes) _ _ _ (sizes.length * t.height) (length (held history)) counted (rw found.empty (omega arith)) most shared.grips.count)
+    (enough (blocks sizes) _ _ _ (sizes.length * t.height) (length (held history)) counted (rw found.empty (omega arith)) most
+    shared.grips.count)
   where
     low : {a b : ℕ} → a < b → b ≤ most_blocks → a < most_blocks
     low lt le = omega (arith, lt, le)

@@ -1,6 +1,7 @@
 -- few blocks were unheld since the announcement of a take that found nothing: what keeps this, of one process
-use Rattle.std.proofs.Common.{◌≡◌, ◌≢◌, ℕ, ◌+◌, ◌<◌, ◌≤◌, Bool, true, false, Option, None, Some, List, [], ◌++◌, length, take, refl, sym, ap}
-use Rattle.std.proofs.Common.{◌∙◌, length-append, arith}
+use Rattle.std.proofs.Common.{◌≡◌, ◌≢◌, ℕ, ◌+◌, ◌<◌, ◌≤◌, Bool, true, false, Option, None, Some, List, [], ◌++◌, length, take, refl, sym}
+use Rattle.std.proofs.Common.{ap}
+use Rattle.std.proofs.Common.{◌∙◌, length-append, subst, arith}
 use Rattle.std.specs.Prelude.{if◌then◌else◌, not}
 use Rattle.std.proofs.lemmas.Bool.Decides.{nat_tests}
 use Rattle.std.proofs.lemmas.List.{take-append-le}
@@ -207,7 +208,7 @@ few_owned limits history tail i word pool call ledger h =
     few_longer limits history tail _ _ (few_by_call limits history history i word pool call ledger h)
 
 -- the ledger of a process whose transfer makes this step in a call
-pub call_places : (word made : ℕ) (next : NextStep) (ledger : Ledger)
+call_places : (word made : ℕ) (next : NextStep) (ledger : Ledger)
     → PlacesMove next (is_taking ledger.account.plan.pending) ledger (ledger_moved_at word made next ledger)
 call_places word made Rest ledger = record { opens = λ e. cc; found = λ e. refl; begun = λ e. refl; stays = λ e. refl; ended = λ e. cc }
 call_places word made Announce ledger = record { opens = λ e. refl; found = λ e. cc; begun = λ e. cc; stays = λ e. refl; ended = λ e. cc }
@@ -217,6 +218,11 @@ call_places word made LoadFinalState ledger =
     record { opens = λ e. cc; found = λ e. refl; begun = λ e. refl; stays = λ e. refl; ended = λ e. cc }
 call_places word made LoadReply ledger =
     record { opens = λ e. cc; found = λ e. refl; begun = λ e. refl; stays = λ ne. absurd (ne refl); ended = λ e. refl }
+
+pub call_places_by : (taking : Bool) (word made : ℕ) (next : NextStep) (ledger : Ledger) → is_taking ledger.account.plan.pending ≡ taking
+    → PlacesMove next taking ledger (ledger_moved_at word made next ledger)
+call_places_by taking word made next ledger e =
+    subst (λ (t : Bool). PlacesMove next t ledger (ledger_moved_at word made next ledger)) e (call_places word made next ledger)
 
 -- the ledger of one that makes transfers alone: it keeps the places of its takes as well, and enters nothing
 abbrev pub ledger_alone : NextStep → Bool → Ledger → Ledger

@@ -4,7 +4,7 @@ use Rattle.std.specs.Prelude.{◌==◌, if◌then◌else◌, Contains}
 use Rattle.std.proofs.Math.Path.{fun_ext}
 use Rattle.std.proofs.lemmas.Bool.{cases_eq}
 use Rattle.std.proofs.lemmas.Bool.Decides.{nat_tests}
-use Rattle.word_layout.specs.Sizes.{Sizes, IsShape}
+use Rattle.word_layout.specs.Sizes.{Sizes, IsShape, limits_of}
 use Rattle.pool_model.specs.declared.entry.Entry.{Entry}
 use Rattle.pool_model.specs.History.{grip}
 use Rattle.transfer_machine.specs.Words.{name_of}
@@ -173,8 +173,8 @@ module _ (sizes : Sizes) (words new : Words) (views after : ProcessViews) (histo
             sizes.processes i x g mine views after ghosts.ledgers ghosts.known moved own_finds
             (λ o lo ne. d.holds.empties o lo));
         few =
-            each_owned (λ o y ledger knows. TakesHadFew (limits_of sizes) (history ++ entries_of (happened (own_kind v) (own_answer v word)))
-            ledger y.pool.plan) sizes.processes i x g mine views after ghosts.ledgers ghosts.known moved
+            each_owned (λ o y ledger knows. TakesHadFew (limits_of sizes)
+            (history ++ entries_of (happened (own_kind v) (own_answer v word))) ledger y.pool.plan) sizes.processes i x g mine views after ghosts.ledgers ghosts.known moved
             (few_owned (limits_of sizes) history _ i word v.pool v.calls.call (ghosts.ledgers i) (d.holds.few i d.low))
             (λ o lo ne. few_longer (limits_of sizes) history _ (ghosts.ledgers o) (views o).pool.plan (d.holds.few o lo));
         names =

@@ -1,5 +1,6 @@
 -- the laws of states, of takes that found nothing, and of what views loaded
-use Rattle.std.proofs.Common.{◌≡◌, ◌≢◌, ℕ, ◌+◌, ◌-◌, ◌*◌, ◌<◌, ◌≤◌, ◌==◌, Bool, true, false, List, refl, sym, ap, ◌∙◌, subst, inl, inr, arith}
+use Rattle.std.proofs.Common.{◌≡◌, ◌≢◌, ℕ, ◌+◌, ◌-◌, ◌*◌, ◌<◌, ◌≤◌, ◌==◌, Bool, true, false, List, refl, sym, ap, ◌∙◌, subst, inl, inr}
+use Rattle.std.proofs.Common.{arith}
 use Rattle.std.specs.Prelude.{◌↔◌, if◌then◌else◌, not}
 use Rattle.std.proofs.lemmas.Bool.{cases_eq}
 use Rattle.std.proofs.lemmas.Bool.Decides.{nat_tests}
@@ -9,13 +10,12 @@ use Rattle.word_layout.specs.Packing.{reply_of}
 use Rattle.word_layout.specs.declared.reply.Reply.{Reply}
 use Rattle.word_layout.specs.declared.reply.Reply.TheVariants.{Nothing}
 use Rattle.pool_model.specs.declared.entry.Entry.{Entry}
-use Rattle.transfer_schedule.specs.Account.{Account, CallPhase, Between, Moving, Own}
-use Rattle.transfer_schedule.specs.Numbers.{Numbers, is_idle, is_giving, stock, kept, source_of}
+use Rattle.transfer_schedule.specs.Numbers.{Numbers, is_giving, stock, kept, source_of}
 use Rattle.transfer_schedule.specs.declared.pending.Pending.{Pending}
+use Rattle.transfer_schedule.specs.declared.pending.Pending.TheVariants.{Idle, Taking, Giving}
 use Rattle.transfer_schedule.specs.declared.own_step.Source.TheVariants as source
 use Rattle.transfer_schedule.proofs.Products.{times_le}
-use Rattle.transfer_schedule.proofs.Reaching.{Stands, reached_stands}
-use Rattle.transfer_schedule.proofs.Standing.{Standing, Ready, young, young_ready}
+use Rattle.transfer_schedule.proofs.Reaching.{reached_stands, stands_gives}
 use Rattle.transfer_schedule.proofs.Stock.{nothing_stock}
 use Rattle.pool_machine.specs.declared.call.Way.{Way}
 use Rattle.pool_machine.specs.declared.call.Way.TheVariants.{Fresh, Alone, Calls}
@@ -111,28 +111,20 @@ answers_stay sizes words views history shape (ghosts, h) i li none =
     h.stack.answers i li none ∙ sym (reply_said sizes words views history ghosts i li h)
 
 -- a process that gives has more than a batch besides
-busy_giving : (p : Pending) → is_giving p ≡ true → is_idle p ≡ false
-busy_giving p e = grind arith
+giving_is : (p : Pending) → is_giving p ≡ true → p ≡ Giving
+giving_is Idle e = grind arith
+giving_is Taking e = grind arith
+giving_is Giving e = refl
 
-gives_standing : (x : Numbers) (made entries begun ended : ℕ) → Standing x made entries begun ended → is_giving x.pending ≡ true → 0 < stock x
-gives_standing x made entries begun ended s giving =
-    omega (arith, s.give_stock giving, young x made entries begun ended s (busy_giving x.pending giving))
-
-gives_ready : (x : Numbers) (entries begun ended : ℕ) → Ready x entries begun ended → is_giving x.pending ≡ true → 0 < stock x
-gives_ready x entries begun ended r giving =
-    omega (arith, r.give_stock giving, young_ready x entries begun ended r (busy_giving x.pending giving))
-
-gives_at : (phase : CallPhase) (a : Account) → a.phase ≡ phase → Stands a → is_giving a.plan.pending ≡ true → 0 < stock a.plan
-gives_at Between a e s giving = let now = rw e at s.at_phase in gives_standing a.plan 0 a.entries a.begun a.ended now giving
-gives_at (Moving made) a e s giving =
-    let now = rw e at s.at_phase in gives_standing a.plan made a.entries a.begun a.ended now.standing giving
-gives_at Own a e s giving = let now = rw e at s.at_phase in gives_ready a.plan a.entries a.begun a.ended now giving
+more_than_none : (l n : ℕ) → l < n → 0 < n
+more_than_none l n lt = omega (arith, lt)
 
 in_calls_gives : (sizes : Sizes) (i : ℕ) (v : ProcessView) (g : Ledger) → InCalls sizes i v g → Scheduled sizes g.account
     → is_giving v.pool.plan.pending ≡ true → 0 < stock v.pool.plan
 in_calls_gives sizes i v g h s giving =
     let stands = reached_stands sizes.length (transfer_bound sizes) sizes.quantum g.account s.fit s.reached in
-    rw h.plan at (gives_at g.account.phase g.account refl stands (rw h.plan giving))
+    let pending = ap (λ p. p.pending) h.plan ∙ giving_is v.pool.plan.pending giving in
+    subst (λ (p : Numbers). 0 < stock p) h.plan (more_than_none _ _ (stands_gives g.account stands pending))
 
 alone_has : (sizes : Sizes) (i : ℕ) (v : ProcessView) (g : Ledger) → InTransfers sizes i v g → 2 ≤ sizes.length → 0 < stock v.pool.plan
 alone_has sizes i v g h long = let full = h.pool.alone.full.full in omega (arith, full, long)

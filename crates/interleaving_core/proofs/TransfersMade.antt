@@ -29,7 +29,7 @@ use Rattle.call_invariant.proofs.Carried.{transfer_steps_carry, enters_nothing}
 use Rattle.call_invariant.proofs.Standing.{shape_fits}
 use Rattle.call_invariant.proofs.Uses.{transfers_used, uses_transfers, calls_used, uses_calls, uses_stay}
 use Rattle.interleaving_core.specs.Invariant.{Ghosts, Holds, Meets}
-use Rattle.interleaving_core.proofs.EmptyTakes.{ledger_alone, alone_book, alone_places, alone_fits, call_places, few_moved}
+use Rattle.interleaving_core.proofs.EmptyTakes.{ledger_alone, alone_book, alone_places, alone_fits, call_places_by, few_moved}
 use Rattle.interleaving_core.proofs.Joins.{in_step, given, scheduled, keeps}
 use Rattle.interleaving_core.proofs.InstallsHold.{transfer_step_holds}
 
@@ -80,8 +80,9 @@ alone_step_holds sizes words new views after history ghosts i shape li h alone a
     transfer_step_holds sizes words new views after history ghosts i x next shape li h acted moved (record {
       parts = record { transfer = refl; pool = refl };
       call = refl;
-      entries = step_kept (limits_of sizes) (transfer_bound sizes) sizes.quantum history ghosts.ledgers (with_ledger i next ghosts.ledgers) i
-          next li h.entries
+      entries =
+          step_kept (limits_of sizes) (transfer_bound sizes) sizes.quantum history ghosts.ledgers (with_ledger i next ghosts.ledgers) i next
+          li h.entries
           (alone_fits (limits_of sizes) (transfer_bound sizes) sizes.quantum history i v.transfer.next taking g fits used.nothing.account
           used.nothing.none (seen_within history i g fits.sees)) same.seen (replaced_with i next ghosts.ledgers);
       same = same.entries;
@@ -120,6 +121,6 @@ call_step_holds sizes words new views after history ghosts i shape li h calls st
       found = λ e. found_kept (is_announcing v.transfer.next) next.found_nothing g.found_nothing e found;
       uses = uses_calls sizes i x next x.calls.way calls carries.calls;
       few = few_moved (limits_of sizes) history v.transfer.next word v.pool g next
-          (rw used.plan at (call_places word v.calls.steps v.transfer.next g)) (found_at_end sizes words views history ghosts i shape li h)
-          (h.few i li);
+          (call_places_by (is_taking v.pool.plan.pending) word v.calls.steps v.transfer.next g (ap (λ p. is_taking p.pending) used.plan))
+          (found_at_end sizes words views history ghosts i shape li h) (h.few i li);
     })

@@ -1,7 +1,7 @@
 //! What follows of any words and views that meet the invariant, of the states of the stack, of takes that found nothing,
 //! and of what views loaded.
-ghost use Rattle.interleaving_core.specs.StateLaws.{StatesFollowOne, EmptyTakesMetNothing, EmptyTakesHadFew, TriesApply, FailedTriesMoveState};
-ghost use Rattle.interleaving_core.specs.StateLaws.{LoadsAreInRange, AnswersStay, NoneWhereNoneIsKept};
+ghost use Rattle.interleaving_core.specs.StateLaws.{StatesFollowOne, EmptyTakesMetNothing, EmptyTakesHadFew, TriesApply};
+ghost use Rattle.interleaving_core.specs.StateLaws.{FailedTriesMoveState, LoadsAreInRange, AnswersStay, NoneWhereNoneIsKept};
 
 /// The stack had a state for each number up to the present one: that of the opening, then each the one before it with pending
 /// announcements applied, in the order of the processes, and no transfer twice. A state that a transfer installed has applied it.
