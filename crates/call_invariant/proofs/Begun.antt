@@ -117,11 +117,11 @@ enters_call sizes i x call g changes some plan phase h = record {
 }
 
 -- how its account goes on
-begun_draft : (a : Account) (idle rests : Bool) → (account_begun_by idle rests a).plan ≡ after_choice a.plan
-begun_draft a true true = refl
-begun_draft a true false = refl
-begun_draft a false true = refl
-begun_draft a false false = refl
+begun_plan : (a : Account) (idle rests : Bool) → (account_begun_by idle rests a).plan ≡ after_choice a.plan
+begun_plan a true true = refl
+begun_plan a true false = refl
+begun_plan a false true = refl
+begun_plan a false false = refl
 
 begun_account_phase : (a : Account) (idle rests : Bool) → (account_begun_by idle rests a).phase ≡ (if rests then schedule.Own else schedule.Moving 0)
 begun_account_phase a true true = refl
@@ -151,7 +151,7 @@ changing_begun sizes i v g call changes some between young h =
     record {
       goes = begun_goes g idle rests refl refl (between_phase sizes i v g h between);
       calls = enters_call sizes i x call (record g { account = account_begun a }) changes some
-          (begun_draft a idle rests ∙ chosen)
+          (begun_plan a idle rests ∙ chosen)
           (begun_account_phase a idle rests ∙ ap (λ plan. if is_idle plan.pending then schedule.Own else schedule.Moving 0) chosen)
           (enters_if_due sizes v (due v.pool) refl young (record { runs = h.runs; heads = h.heads; announced = h.announced }));
     }

@@ -238,9 +238,9 @@ GivesAreBlocks = (sizes : Sizes) (words : Words) (s : StackState) (views : Proce
     → ((views i).transfer.next ≡ Announce → WishIsBlock sizes (views i).transfer.wish)
     × (has_announced (views i).transfer.next ≡ true → s.applied i ≢ (views i).transfer.age → WishIsBlock sizes (views i).transfer.wish)
 
--- a plan that a view installs has room
-abbrev pub PlansHaveRoom : Type 0
-PlansHaveRoom = (sizes : Sizes) (words : Words) (s : StackState) (views : ProcessViews) (held : BlockLists) (v : TransferView)
+-- a draft that a view installs has room
+abbrev pub DraftsHaveRoom : Type 0
+DraftsHaveRoom = (sizes : Sizes) (words : Words) (s : StackState) (views : ProcessViews) (held : BlockLists) (v : TransferView)
     → IsShape sizes → Chains sizes words s views held
     → InstallsNext sizes s views v → DraftFits sizes v.draft
 

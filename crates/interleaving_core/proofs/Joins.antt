@@ -25,7 +25,7 @@ use Rattle.batch_invariant.specs.Batches.{ProcessViews}
 use Rattle.batch_invariant.specs.Premises.{InStep, InstallsNext}
 use Rattle.batch_invariant.proofs.Steps.{ends_answer}
 use Rattle.chain_invariant.specs.Laws as chains
-use Rattle.chain_invariant.proofs.Gives.{gives_are_blocks, plans_have_room}
+use Rattle.chain_invariant.proofs.Gives.{gives_are_blocks, drafts_have_room}
 use Rattle.history_invariant.specs.Ledger.{Ledgers}
 use Rattle.history_invariant.specs.Steps.{with_ledger}
 use Rattle.history_invariant.proofs.Replacing.{replaced_with}
@@ -101,7 +101,7 @@ supplied sizes words views history ghosts i shape li h =
       age = λ e. (keeps sizes words views history ghosts i shape li h).runs.age.below (rw e refl);
       wish = λ e. wish_is_block sizes (views i).transfer.wish (begun e);
       room =
-          λ second e hit. (plans_have_room sizes words s views (held_in ghosts.ledgers) (views i).transfer shape h.chains
+          λ second e hit. (drafts_have_room sizes words s views (held_in ghosts.ledgers) (views i).transfer shape h.chains
           (installs_next sizes words views history ghosts i second shape li h e hit)).within;
     }
 

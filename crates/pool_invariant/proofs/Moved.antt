@@ -46,7 +46,7 @@ step_stays_in_try sizes v word second (LoadRecordWord index) =
 step_stays_in_try sizes v word second (LoadCoveredSlot offset) = record { moving = refl; announced = refl; wish = refl; age = refl }
 step_stays_in_try sizes v word second (ExchangeSlot offset) = record { moving = refl; announced = refl; wish = refl; age = refl }
 step_stays_in_try sizes v word second (LoadAnnouncement process) =
-    either_stays (pops_slot sizes.processes v.loaded process word v.plan) v _ _
+    either_stays (pops_slot sizes.processes v.loaded process word v.draft) v _ _
     (record { moving = refl; announced = refl; wish = refl; age = refl }) (record { moving = refl; announced = refl; wish = refl; age = refl })
 step_stays_in_try sizes v word second (LoadPoppedSlot process) = record { moving = refl; announced = refl; wish = refl; age = refl }
 step_stays_in_try sizes v word second (StoreRecordWord index) = record { moving = refl; announced = refl; wish = refl; age = refl }
