@@ -26,7 +26,7 @@ own_parts i place history =
     ∙ filter-append (λ e. process_of e == i) (take place history) (drop place history)
 
 -- a longer beginning of the history has all entries of the process too
-own_of_longer : (history : List Entry) (i place : ℕ) (ledger : Ledger)
+pub own_of_longer : (history : List Entry) (i place : ℕ) (ledger : Ledger)
     → SeesBeginning history i ledger
     → length ledger.seen ≤ place
     → own (take place history) i ≡ ledger.entries
