@@ -1,0 +1,6 @@
+pub mod Minds
+pub mod Views
+pub mod Rule
+pub mod Turns
+pub mod Steps
+pub mod Opening
