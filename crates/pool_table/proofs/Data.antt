@@ -5,6 +5,7 @@ use Rattle.std.proofs.lemmas.Bool.{cases_eq}
 use Rattle.std.proofs.lemmas.Bool.Decides.{nat_tests}
 use Rattle.word_layout.specs.Sizes.{Sizes}
 use Rattle.word_layout.specs.Names.{word_at}
+use Rattle.word_layout.specs.declared.name.WordName.{WordName}
 use Rattle.pool_model.specs.declared.entry.Entry.{Entry}
 use Rattle.pool_model.specs.History.{own, grip}
 use Rattle.pool_machine.specs.declared.call.Call.{Call}
@@ -13,7 +14,6 @@ use Rattle.pool_machine.specs.declared.call.CallStage.{CallStage}
 use Rattle.pool_machine.specs.declared.call.CallStage.TheVariants.{Between, Moving, Own}
 use Rattle.pool_machine.specs.declared.view.ProcessView.{ProcessView}
 use Rattle.batch_invariant.specs.Batches.{ProcessViews}
-use Rattle.transfer_invariant.specs.Memory.{Words}
 use Rattle.interleaving_core.specs.DataWords.{forgets, changed_by_call, known_at_stage, changed_after}
 use Rattle.interleaving_core.specs.Invariant.{Known, DataHolds}
 use Rattle.interleaving_core.specs.StepLaws.{StepIsDue, words_after, history_after}
@@ -77,7 +77,7 @@ pub step_changes : (v : ProcessView) (known : List KnownWord)
 step_changes v known = step_changes_by v known (is_alone v.calls.way)
 
 -- what is known the same way holds the same
-known_same : (sizes : Sizes) (words : Words) (held : List ℕ) (a b : Known) → SameKnown a b → DataHolds sizes words held b
+known_same : (sizes : Sizes) (words : WordName → ℕ) (held : List ℕ) (a b : Known) → SameKnown a b → DataHolds sizes words held b
     → DataHolds sizes words held a
 known_same sizes words held a b same h = record {
   holds = λ block index value e. h.holds block index value (sym (same block index) ∙ e);

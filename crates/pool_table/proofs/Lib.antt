@@ -1,3 +1,9 @@
 pub mod Numbered
 pub mod Seen
 pub mod Data
+pub mod Due
+pub mod Entries
+pub mod Turns
+pub mod Stored
+pub mod Steps
+pub mod Places

@@ -40,7 +40,8 @@ pub fn act<L: Ledger>(
         }
         Action::Exchange { name, old, new } => {
             match table.compare_exchange_with(seat, shape.place(name), old, new, about, steps) {
-                Ok(word) | Err(word) => word,
+                Ok(word) => word,
+                Err(word) => word,
             }
         }
     }
