@@ -12,7 +12,7 @@ use Rattle.pool_table.specs.declared.about.About.{About}
 use Rattle.pool_table.specs.Views.{SeatView}
 use Rattle.pool_table.specs.Rule.{Holds}
 use Rattle.pool_table.specs.Turns.{turning, turned}
-use Rattle.pool_table.specs.Steps.{CanStep, Stepped}
+use Rattle.pool_table.specs.Steps.{CanStep, answered, Stepped}
 use Rattle.pool_table.proofs.Steps.{action_keeps, action_tells, store_tells}
 
 pub keeps_at : (sizes : Sizes) (a : About) (number at : ℕ) (v : SeatView) (action : Action) → at ≡ place sizes (name_of action)
@@ -22,13 +22,14 @@ keeps_at sizes a number at v action placed can is =
 
 pub tells_at : (sizes : Sizes) (a : About) (number at : ℕ) (v x : SeatView) (action : Action) (met : ℕ)
     → at ≡ place sizes (name_of action) → CanStep sizes a v → action ≡ next_action sizes (turning a v.mind.view)
-    → Learned Holds (turned a) number at (left_by action) v met x → Stepped a v met x
-tells_at sizes a number at v x action met placed can is learned =
+    → answered action met ≡ met → Learned Holds (turned a) number at (left_by action) v met x → Stepped a v met x
+tells_at sizes a number at v x action met placed can is answers learned =
     action_tells sizes a number v x action met can is
-    (subst (λ n. Learned Holds (turned a) number n (left_by action) v met x) placed learned)
+    (subst (λ n. Learned Holds (turned a) number n (left_by action) v met x) placed learned) answers
 
 pub store_tells_at : (sizes : Sizes) (a : About) (number at : ℕ) (v x : SeatView) (name : WordName) (stored met : ℕ)
     → at ≡ place sizes name → CanStep sizes a v → Store name stored ≡ next_action sizes (turning a v.mind.view)
     → Learned Holds (turned a) number at (left_by (Store name stored)) v met x → Stepped a v stored x
 store_tells_at sizes a number at v x name stored met placed can is learned =
-    store_tells sizes a v x name stored met can.shape is (tells_at sizes a number at v x (Store name stored) met placed can is learned)
+    store_tells sizes a number v x name stored met can is
+    (subst (λ n. Learned Holds (turned a) number n (left_by (Store name stored)) v met x) placed learned)

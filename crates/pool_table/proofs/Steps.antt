@@ -1,5 +1,5 @@
 -- what a step of a seat owes to the rule, and what it tells
-use Rattle.std.proofs.Common.{◌≡◌, ℕ, ◌<◌, Bool, true, false, List, ◌++◌, length, refl, sym, ap, ◌∙◌, subst, arith}
+use Rattle.std.proofs.Common.{◌≡◌, ℕ, ◌+◌, ◌<◌, Bool, true, false, List, ◌++◌, length, refl, sym, ap, ◌∙◌, subst, arith}
 use Rattle.std.specs.Prelude.{slice_index, slice_set, Some}
 use Rattle.std.proofs.lemmas.Bool.{false≢true}
 use mathlib.Core.Option.{some}
@@ -9,6 +9,7 @@ use Rattle.word_rule.proofs.Among.{after_is_among}
 use Rattle.word_layout.specs.Sizes.{Sizes}
 use Rattle.word_layout.specs.Names.{InRange, table_words, word_at, set_word, place}
 use Rattle.word_layout.specs.declared.name.WordName.{WordName}
+use Rattle.word_layout.specs.declared.name.WordName.TheVariants.{Data}
 use Rattle.word_layout.proofs.Placed.{place_below}
 use Rattle.pool_model.specs.declared.entry.Entry.{Entry}
 use Rattle.pool_model.specs.History.{own, grip}
@@ -19,15 +20,15 @@ use Rattle.pool_machine.specs.declared.view.ProcessView.{ProcessView}
 use Rattle.interleaving_core.specs.Invariant.{DataHolds}
 use Rattle.interleaving_core.specs.Runs.{entries_of}
 use Rattle.interleaving_core.specs.StepLaws.{word_met, words_after}
-use Rattle.interleaving_core.specs.Steps.{is_alone, next_action, next_answer}
+use Rattle.interleaving_core.specs.Steps.{is_alone, next_action, next_met, next_answer}
 use Rattle.interleaving_core.proofs.Holds.{StepAllowed, step_allowed}
 use Rattle.interleaving_core.proofs.Tables.{next_in_range, next_number}
 use Rattle.pool_table.specs.declared.about.About.{About}
 use Rattle.pool_table.specs.Minds.{Mind, number_of, known_in, entries_in, SeesOwn}
 use Rattle.pool_table.specs.Views.{SeatView, longest}
 use Rattle.pool_table.specs.Rule.{views_of, Holds}
-use Rattle.pool_table.specs.Turns.{turning, mind_met, mind_stepped, turned, MayTurn}
-use Rattle.pool_table.specs.Steps.{Among, CanStep, CanMeetNext, SeenAfter, Stepped}
+use Rattle.pool_table.specs.Turns.{turning, words_known_after, mind_met, mind_stepped, turned, MayTurn}
+use Rattle.pool_table.specs.Steps.{Among, CanStep, CanMeetNext, SeenAfter, answered, MadeOn, Stepped}
 use Rattle.pool_table.proofs.Due.{begun_minds, begun_here}
 use Rattle.pool_table.proofs.Entries.{AllOwn, next_entries_own, seen_goes_on, entries_go_on}
 use Rattle.pool_table.proofs.Seen.{longest_is_history}
@@ -97,6 +98,36 @@ can_meet_by sizes words v false e allowed = record {
   call = λ calls. rw e (allowed.call_meet calls);
 }
 
+-- all that a step tells but how it was made
+pub record Tells (about : About) (before : SeatView) (word : ℕ) (after : SeatView) : Type 0 where
+  pub stays : after ≡ record before { mind = after.mind }
+  pub number : number_of after.mind ≡ number_of before.mind
+  pub owner : (turning about before.mind.view).transfer.number ≡ number_of before.mind
+  pub view : after.mind.view ≡ next_met before.sizes (turning about before.mind.view) word
+  pub moves : after.mind.moves ≡ before.mind.moves + 1
+  pub known : after.mind.known ≡ words_known_after (turning about before.mind.view) before.mind.known
+  pub seen : SeenAfter (entries_of (next_answer (turning about before.mind.view) word)) before.mind.seen after.mind.seen
+  pub entries : entries_in after.mind ≡ entries_in before.mind ++ entries_of (next_answer (turning about before.mind.view) word)
+  pub reads : (block index value : ℕ) → next_action before.sizes (turning about before.mind.view) ≡ Load (Data block index)
+      → known_in before.mind.known block index ≡ Some value → word ≡ value
+  pub can_meet : CanMeetNext before.sizes (turning about before.mind.view) word
+
+told_and_made : (a : About) (v : SeatView) (word : ℕ) (x : SeatView) → Tells a v word x → MadeOn a v word x → Among x → Stepped a v word x
+told_and_made a v word x t made among = record {
+  stays = t.stays;
+  number = t.number;
+  owner = t.owner;
+  view = t.view;
+  moves = t.moves;
+  known = t.known;
+  seen = t.seen;
+  entries = t.entries;
+  reads = t.reads;
+  can_meet = t.can_meet;
+  made = made;
+  among = among;
+}
+
 -- what a step about something has learned: the mind is that of the machine's step on the word that was met
 module _ (sizes : Sizes) (a : About) (number : ℕ) (v x : SeatView) (action : Action) (met : ℕ) (can : CanStep sizes a v)
     (is : action ≡ next_action sizes (turning a v.mind.view))
@@ -114,8 +145,8 @@ module _ (sizes : Sizes) (a : About) (number : ℕ) (v x : SeatView) (action : A
       ∙ ap (λ word. record v { mind = mind_met v.sizes learned.views w word v.mind }) word_is_met)
 
   -- what it tells
-  pub action_tells : Stepped a v met x
-  action_tells =
+  told : Tells a v met x
+  told =
       let w = turning a v.mind.view in
       let n = number_of v.mind in
       let may = may_turn_so sizes a v can in
@@ -148,30 +179,64 @@ module _ (sizes : Sizes) (a : About) (number : ℕ) (v x : SeatView) (action : A
         reads = λ block index value acts knows. sym word_is_met
             ∙ (ap (met_word v.sizes learned.words) acts ∙ known.value block index value knows);
         can_meet = subst (CanMeetNext v.sizes w) word_is_met (can_meet_by v.sizes learned.words w (is_alone w.calls.way) refl allowed);
-        among = after_is_among Holds (turned a) number (place sizes (name_of action)) (left_by action) v met x learned;
       }
+
+  -- and how it was made
+  made_on : (word : ℕ) → word ≡ answered action met → MadeOn a v word x
+  made_on word answers =
+      let w = turning a v.mind.view in
+      let next : action ≡ next_action v.sizes w = is ∙ ap (λ z. next_action z w) (sym can.shape) in
+      let after : words_after v.sizes learned.words w
+      ≡ slice_set learned.words (place sizes (name_of action)) (left_by action met) =
+      ap (λ z. acted z learned.words (next_action z w)) can.shape ∙ (ap (acted sizes learned.words) (sym is)
+      ∙ (acted_at sizes learned.words action
+      ∙ ap (λ k. slice_set learned.words (place sizes (name_of action)) (left_by action k)) learned.found)) in
+      record {
+        words = learned.words;
+        views = learned.views;
+        number = number;
+        held = learned.held;
+        seated = learned.seated;
+        answers = answers ∙ (ap (λ z. answered z met) next ∙ ap (answered (next_action v.sizes w)) (sym word_is_met));
+        learned = learned.learned;
+        kept = subst (λ list. Holds list (slice_set learned.views number x)) (sym after) learned.kept;
+      }
+
+  among_after : Among x
+  among_after = after_is_among Holds (turned a) number (place sizes (name_of action)) (left_by action) v met x learned
+
+  pub action_tells : answered action met ≡ met → Stepped a v met x
+  action_tells answers = told_and_made a v met x told (made_on met (sym answers)) among_after
 
 -- a store tells the same of the word that it left, whatever it met
 stored_not_loaded : {name other : WordName} {stored : ℕ} → Store name stored ≡ Load other → ⊥
 stored_not_loaded e = cc
 
-pub store_tells : (sizes : Sizes) (a : About) (v x : SeatView) (name : WordName) (stored met : ℕ) → v.sizes ≡ sizes
-    → Store name stored ≡ next_action sizes (turning a v.mind.view) → Stepped a v met x → Stepped a v stored x
-store_tells sizes a v x name stored met shape is s =
+store_told : (sizes : Sizes) (a : About) (v x : SeatView) (name : WordName) (stored met : ℕ) → v.sizes ≡ sizes
+    → Store name stored ≡ next_action sizes (turning a v.mind.view) → Tells a v met x → Tells a v stored x
+store_told sizes a v x name stored met shape is t =
     let w = turning a v.mind.view in
     let stores : next_action v.sizes w ≡ Store name stored = sym (is ∙ ap (λ z. next_action z w) (sym shape)) in
     let any = stores_meet_any v.sizes w name stored met stored stores in
     let entries : entries_of (next_answer w met) ≡ entries_of (next_answer w stored) = ap entries_of any.answer in
     record {
-      stays = s.stays;
-      number = s.number;
-      owner = s.owner;
-      view = s.view ∙ any.met;
-      moves = s.moves;
-      known = s.known;
-      seen = subst (λ list. SeenAfter list v.mind.seen x.mind.seen) entries s.seen;
-      entries = s.entries ∙ ap (λ list. entries_in v.mind ++ list) entries;
+      stays = t.stays;
+      number = t.number;
+      owner = t.owner;
+      view = t.view ∙ any.met;
+      moves = t.moves;
+      known = t.known;
+      seen = subst (λ list. SeenAfter list v.mind.seen x.mind.seen) entries t.seen;
+      entries = t.entries ∙ ap (λ list. entries_in v.mind ++ list) entries;
       reads = λ block index value acts knows. absurd (stored_not_loaded (sym stores ∙ acts));
       can_meet = any.can;
-      among = s.among;
     }
+
+pub store_tells : (sizes : Sizes) (a : About) (number : ℕ) (v x : SeatView) (name : WordName) (stored met : ℕ) → CanStep sizes a v
+    → Store name stored ≡ next_action sizes (turning a v.mind.view)
+    → Learned Holds (turned a) number (place sizes name) (left_by (Store name stored)) v met x → Stepped a v stored x
+store_tells sizes a number v x name stored met can is learned =
+    told_and_made a v stored x (store_told sizes a v x name stored met can.shape is
+    (told sizes a number v x (Store name stored) met can is learned))
+    (made_on sizes a number v x (Store name stored) met can is learned stored refl)
+    (among_after sizes a number v x (Store name stored) met can is learned)
