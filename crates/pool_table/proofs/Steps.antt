@@ -15,7 +15,7 @@ use Rattle.pool_model.specs.declared.entry.Entry.{Entry}
 use Rattle.pool_model.specs.History.{own, grip}
 use Rattle.transfer_machine.specs.Words.{acted, met_word, name_of, left_by}
 use Rattle.transfer_machine.specs.declared.action.Action.{Action}
-use Rattle.transfer_machine.specs.declared.action.Action.TheVariants.{Load, Store}
+use Rattle.transfer_machine.specs.declared.action.Action.TheVariants.{Load, Store, Exchange}
 use Rattle.pool_machine.specs.declared.view.ProcessView.{ProcessView}
 use Rattle.interleaving_core.specs.Invariant.{DataHolds}
 use Rattle.interleaving_core.specs.Runs.{entries_of}
@@ -32,7 +32,7 @@ use Rattle.pool_table.specs.Steps.{Among, CanStep, CanMeetNext, SeenAfter, answe
 use Rattle.pool_table.proofs.Due.{begun_minds, begun_here}
 use Rattle.pool_table.proofs.Entries.{AllOwn, next_entries_own, seen_goes_on, entries_go_on}
 use Rattle.pool_table.proofs.Seen.{longest_is_history}
-use Rattle.pool_table.proofs.Stored.{stores_meet_any}
+use Rattle.pool_table.proofs.Stored.{SameMet, stores_meet_any}
 use Rattle.pool_table.proofs.Turns.{IsSeat, mind_after_is, seat_of, seat_step_due, turning_number, step_keeps_rule}
 
 -- the step of a seat is allowed
@@ -98,35 +98,12 @@ can_meet_by sizes words v false e allowed = record {
   call = λ calls. rw e (allowed.call_meet calls);
 }
 
--- all that a step tells but how it was made
-pub record Tells (about : About) (before : SeatView) (word : ℕ) (after : SeatView) : Type 0 where
-  pub stays : after ≡ record before { mind = after.mind }
-  pub number : number_of after.mind ≡ number_of before.mind
-  pub owner : (turning about before.mind.view).transfer.number ≡ number_of before.mind
-  pub view : after.mind.view ≡ next_met before.sizes (turning about before.mind.view) word
-  pub moves : after.mind.moves ≡ before.mind.moves + 1
-  pub known : after.mind.known ≡ words_known_after (turning about before.mind.view) before.mind.known
-  pub seen : SeenAfter (entries_of (next_answer (turning about before.mind.view) word)) before.mind.seen after.mind.seen
-  pub entries : entries_in after.mind ≡ entries_in before.mind ++ entries_of (next_answer (turning about before.mind.view) word)
-  pub reads : (block index value : ℕ) → next_action before.sizes (turning about before.mind.view) ≡ Load (Data block index)
-      → known_in before.mind.known block index ≡ Some value → word ≡ value
-  pub can_meet : CanMeetNext before.sizes (turning about before.mind.view) word
-
-told_and_made : (a : About) (v : SeatView) (word : ℕ) (x : SeatView) → Tells a v word x → MadeOn a v word x → Among x → Stepped a v word x
-told_and_made a v word x t made among = record {
-  stays = t.stays;
-  number = t.number;
-  owner = t.owner;
-  view = t.view;
-  moves = t.moves;
-  known = t.known;
-  seen = t.seen;
-  entries = t.entries;
-  reads = t.reads;
-  can_meet = t.can_meet;
-  made = made;
-  among = among;
-}
+-- what it answers is as good as the word that it met
+answer_meets : (sizes : Sizes) (v : ProcessView) (action : Action) (met : ℕ) → next_action sizes v ≡ action → CanMeetNext sizes v met
+    → SameMet sizes v met (answered action met)
+answer_meets sizes v (Load name) met is can = record { met = refl; answer = refl; can = can }
+answer_meets sizes v (Store name word) met is can = stores_meet_any sizes v name word met word is
+answer_meets sizes v (Exchange name old new) met is can = record { met = refl; answer = refl; can = can }
 
 -- what a step about something has learned: the mind is that of the machine's step on the word that was met
 module _ (sizes : Sizes) (a : About) (number : ℕ) (v x : SeatView) (action : Action) (met : ℕ) (can : CanStep sizes a v)
@@ -144,18 +121,48 @@ module _ (sizes : Sizes) (a : About) (number : ℕ) (v x : SeatView) (action : A
       learned.learned ∙ (ap (λ mind. record v { mind = mind }) (mind_after_is a v.sizes learned.words learned.views v.mind)
       ∙ ap (λ word. record v { mind = mind_met v.sizes learned.views w word v.mind }) word_is_met)
 
-  -- what it tells
-  told : Tells a v met x
-  told =
+  next_is : next_action v.sizes (turning a v.mind.view) ≡ action
+  next_is = ap (λ z. next_action z (turning a v.mind.view)) can.shape ∙ sym is
+
+  answers_so : answered action met ≡ answered (next_action v.sizes (turning a v.mind.view))
+      (word_met v.sizes learned.words (turning a v.mind.view))
+  answers_so = ap (λ next. answered next met) (sym next_is) ∙ ap (answered (next_action v.sizes (turning a v.mind.view))) (sym word_is_met)
+
+  -- how it was made
+  made_on : MadeOn a v (answered action met) x
+  made_on =
+      let w = turning a v.mind.view in
+      let spot = place sizes (name_of action) in
+      let after : words_after v.sizes learned.words w ≡ slice_set learned.words spot (left_by action met) =
+      ap (acted v.sizes learned.words) next_is ∙ (ap (λ z. acted z learned.words action) can.shape
+      ∙ (acted_at sizes learned.words action ∙ ap (λ word. slice_set learned.words spot (left_by action word)) learned.found)) in
+      record {
+        words = learned.words;
+        views = learned.views;
+        number = number;
+        held = learned.held;
+        seated = learned.seated;
+        answers = answers_so;
+        learned = learned.learned;
+        kept = subst (λ list. Holds list (slice_set learned.views number x)) (sym after) learned.kept;
+      }
+
+  -- and all that it tells
+  pub action_tells : Stepped a v (answered action met) x
+  action_tells =
       let w = turning a v.mind.view in
       let n = number_of v.mind in
+      let word = answered action met in
       let may = may_turn_so sizes a v can in
       let held = learned.held in
       let s = seat_of learned.words learned.views number v held learned.seated can.of_process in
       let long = longest_is_history v.sizes learned.words held.minds learned.views held.history s.numbered s.holds in
       let owner = turning_number learned.words learned.views number v a held learned.seated can.of_process may in
       let allowed = seat_step_allowed learned.words learned.views number v a held learned.seated can.of_process may in
+      let can_meet = subst (CanMeetNext v.sizes w) word_is_met (can_meet_by v.sizes learned.words w (is_alone w.calls.way) refl allowed) in
+      let same = answer_meets v.sizes w action met next_is can_meet in
       let entries = entries_of (next_answer w met) in
+      let answered_entries : entries ≡ entries_of (next_answer w word) = ap entries_of same.answer in
       let mine : AllOwn n entries = subst (λ k. AllOwn k entries) owner (next_entries_own w met) in
       let sees : SeesOwn held.history n v.mind.seen = subst (λ (mind : Mind). SeesOwn held.history n mind.seen) s.here (s.holds.sees n s.low) in
       let known : DataHolds v.sizes (word_at v.sizes learned.words) (grip (own held.history n)) (known_in v.mind.known) =
@@ -163,80 +170,23 @@ module _ (sizes : Sizes) (a : About) (number : ℕ) (v x : SeatView) (action : A
       (s.holds.data_words n s.low) in
       let after = mind_met v.sizes learned.views w met v.mind in
       let so : x.mind ≡ after = ap (λ (z : SeatView). z.mind) mind_is_met in
-      let same : number_of after ≡ n = next_number v.sizes w met (is_alone w.calls.way) refl ∙ owner in
-      let new : number_of x.mind ≡ n = ap number_of so ∙ same in
+      let numbered : number_of x.mind ≡ n = ap number_of so ∙ (next_number v.sizes w met (is_alone w.calls.way) refl ∙ owner) in
       record {
         stays = mind_is_met ∙ ap (λ mind. record v { mind = mind }) (sym so);
-        number = new;
+        number = numbered;
         owner = owner;
-        view = ap (λ (z : Mind). z.view) so;
+        view = ap (λ (z : Mind). z.view) so ∙ same.met;
         moves = ap (λ (z : Mind). z.moves) so;
         known = ap (λ (z : Mind). z.known) so;
-        seen = subst (SeenAfter entries v.mind.seen) (sym (ap (λ (z : Mind). z.seen) so))
-            (seen_goes_on held.history entries n learned.views v.mind.seen long sees);
-        entries = ap (own x.mind.seen) new ∙ (ap (λ (z : Mind). own z.seen n) so
-            ∙ entries_go_on held.history entries n learned.views v.mind.seen long mine sees);
-        reads = λ block index value acts knows. sym word_is_met
-            ∙ (ap (met_word v.sizes learned.words) acts ∙ known.value block index value knows);
-        can_meet = subst (CanMeetNext v.sizes w) word_is_met (can_meet_by v.sizes learned.words w (is_alone w.calls.way) refl allowed);
+        seen = subst (λ list. SeenAfter list v.mind.seen x.mind.seen) answered_entries
+            (subst (SeenAfter entries v.mind.seen) (sym (ap (λ (z : Mind). z.seen) so))
+            (seen_goes_on held.history entries n learned.views v.mind.seen long sees));
+        entries = ap (own x.mind.seen) numbered ∙ (ap (λ (z : Mind). own z.seen n) so
+            ∙ (entries_go_on held.history entries n learned.views v.mind.seen long mine sees
+            ∙ ap (λ list. own v.mind.seen n ++ list) answered_entries));
+        reads = λ block index value acts knows. answers_so ∙ (ap (λ next. answered next (word_met v.sizes learned.words w)) acts
+            ∙ (ap (met_word v.sizes learned.words) acts ∙ known.value block index value knows));
+        can_meet = same.can;
+        made = made_on;
+        among = after_is_among Holds (turned a) number (place sizes (name_of action)) (left_by action) v met x learned;
       }
-
-  -- and how it was made
-  made_on : (word : ℕ) → word ≡ answered action met → MadeOn a v word x
-  made_on word answers =
-      let w = turning a v.mind.view in
-      let next : action ≡ next_action v.sizes w = is ∙ ap (λ z. next_action z w) (sym can.shape) in
-      let after : words_after v.sizes learned.words w
-      ≡ slice_set learned.words (place sizes (name_of action)) (left_by action met) =
-      ap (λ z. acted z learned.words (next_action z w)) can.shape ∙ (ap (acted sizes learned.words) (sym is)
-      ∙ (acted_at sizes learned.words action
-      ∙ ap (λ k. slice_set learned.words (place sizes (name_of action)) (left_by action k)) learned.found)) in
-      record {
-        words = learned.words;
-        views = learned.views;
-        number = number;
-        held = learned.held;
-        seated = learned.seated;
-        answers = answers ∙ (ap (λ z. answered z met) next ∙ ap (answered (next_action v.sizes w)) (sym word_is_met));
-        learned = learned.learned;
-        kept = subst (λ list. Holds list (slice_set learned.views number x)) (sym after) learned.kept;
-      }
-
-  among_after : Among x
-  among_after = after_is_among Holds (turned a) number (place sizes (name_of action)) (left_by action) v met x learned
-
-  pub action_tells : answered action met ≡ met → Stepped a v met x
-  action_tells answers = told_and_made a v met x told (made_on met (sym answers)) among_after
-
--- a store tells the same of the word that it left, whatever it met
-stored_not_loaded : {name other : WordName} {stored : ℕ} → Store name stored ≡ Load other → ⊥
-stored_not_loaded e = cc
-
-store_told : (sizes : Sizes) (a : About) (v x : SeatView) (name : WordName) (stored met : ℕ) → v.sizes ≡ sizes
-    → Store name stored ≡ next_action sizes (turning a v.mind.view) → Tells a v met x → Tells a v stored x
-store_told sizes a v x name stored met shape is t =
-    let w = turning a v.mind.view in
-    let stores : next_action v.sizes w ≡ Store name stored = sym (is ∙ ap (λ z. next_action z w) (sym shape)) in
-    let any = stores_meet_any v.sizes w name stored met stored stores in
-    let entries : entries_of (next_answer w met) ≡ entries_of (next_answer w stored) = ap entries_of any.answer in
-    record {
-      stays = t.stays;
-      number = t.number;
-      owner = t.owner;
-      view = t.view ∙ any.met;
-      moves = t.moves;
-      known = t.known;
-      seen = subst (λ list. SeenAfter list v.mind.seen x.mind.seen) entries t.seen;
-      entries = t.entries ∙ ap (λ list. entries_in v.mind ++ list) entries;
-      reads = λ block index value acts knows. absurd (stored_not_loaded (sym stores ∙ acts));
-      can_meet = any.can;
-    }
-
-pub store_tells : (sizes : Sizes) (a : About) (number : ℕ) (v x : SeatView) (name : WordName) (stored met : ℕ) → CanStep sizes a v
-    → Store name stored ≡ next_action sizes (turning a v.mind.view)
-    → Learned Holds (turned a) number (place sizes name) (left_by (Store name stored)) v met x → Stepped a v stored x
-store_tells sizes a number v x name stored met can is learned =
-    told_and_made a v stored x (store_told sizes a v x name stored met can.shape is
-    (told sizes a number v x (Store name stored) met can is learned))
-    (made_on sizes a number v x (Store name stored) met can is learned stored refl)
-    (among_after sizes a number v x (Store name stored) met can is learned)

@@ -1,7 +1,7 @@
-use Rattle.std.proofs.Common.{refl, sym, ◌∙◌}
+use Rattle.std.proofs.Common.{sym, ◌∙◌}
 use Rattle.transfer_machine.specs.declared.action.Action.TheVariants.{Load, Store, Exchange}
 use Rattle.pool_table.proofs.Steps.{action_in_range}
-use Rattle.pool_table.proofs.Places.{keeps_at, tells_at, store_tells_at}
+use Rattle.pool_table.proofs.Places.{keeps_at, tells_at}
 use Rattle.pool_table.proofs.acting.act.Goals as goal
 
 pub place-requires : goal.place-requires
@@ -33,19 +33,19 @@ compare_exchange_with-requires-clause-rule g c =
 pub returns-in-Load-clause-step : goal.returns-in-Load-clause-step
 returns-in-Load-clause-step g c =
     tells_at _ _ _ _ _ _ (Load c.in-Load.name) _ c.place.ensures.place c.requires.can (sym c.in-Load.is ∙ c.requires.action)
-    refl c.load_with.ensures.step
+    c.load_with.ensures.step
 
 pub returns-in-Store-clause-step : goal.returns-in-Store-clause-step
 returns-in-Store-clause-step g c =
-    store_tells_at _ _ _ _ _ _ c.in-Store.name c.in-Store.word _ c.place-in-Store.ensures.place c.requires.can
+    tells_at _ _ _ _ _ _ (Store c.in-Store.name c.in-Store.word) _ c.place-in-Store.ensures.place c.requires.can
     (sym c.in-Store.is ∙ c.requires.action) c.store_with.ensures.step.1
 
 pub returns-in-Ok-clause-step : goal.returns-in-Ok-clause-step
 returns-in-Ok-clause-step g c =
     tells_at _ _ _ _ _ _ (Exchange c.in-Exchange.name c.in-Exchange.old c.in-Exchange.new) _ c.place-in-Exchange.ensures.place
-    c.requires.can (sym c.in-Exchange.is ∙ c.requires.action) refl c.in-Ok.ensures.step
+    c.requires.can (sym c.in-Exchange.is ∙ c.requires.action) c.in-Ok.ensures.step
 
 pub returns-in-Err-clause-step : goal.returns-in-Err-clause-step
 returns-in-Err-clause-step g c =
     tells_at _ _ _ _ _ _ (Exchange c.in-Exchange.name c.in-Exchange.old c.in-Exchange.new) _ c.place-in-Exchange.ensures.place
-    c.requires.can (sym c.in-Exchange.is ∙ c.requires.action) refl c.in-Err.ensures.step
+    c.requires.can (sym c.in-Exchange.is ∙ c.requires.action) c.in-Err.ensures.step
