@@ -1,17 +1,13 @@
 -- what a step of a seat owes to the rule, and what it tells
-use Rattle.std.proofs.Common.{◌≡◌, ℕ, ◌+◌, ◌<◌, Bool, true, false, List, ◌++◌, length, refl, sym, ap, ◌∙◌, subst, arith}
-use Rattle.std.specs.Prelude.{slice_index, slice_set, Some}
+use Rattle.std.proofs.Common.{◌≡◌, ℕ, Bool, true, false, List, ◌++◌, refl, sym, ap, ◌∙◌, subst}
+use Rattle.std.specs.Prelude.{slice_index, slice_set}
 use Rattle.std.proofs.lemmas.Bool.{false≢true}
 use mathlib.Core.Option.{some}
 use lib.ListN.{get_elem?}
 use Rattle.word_rule.specs.Moves.{Keeps, Learned}
 use Rattle.word_rule.proofs.Among.{after_is_among}
 use Rattle.word_layout.specs.Sizes.{Sizes}
-use Rattle.word_layout.specs.Names.{InRange, table_words, word_at, set_word, place}
-use Rattle.word_layout.specs.declared.name.WordName.{WordName}
-use Rattle.word_layout.specs.declared.name.WordName.TheVariants.{Data}
-use Rattle.word_layout.proofs.Placed.{place_below}
-use Rattle.pool_model.specs.declared.entry.Entry.{Entry}
+use Rattle.word_layout.specs.Names.{InRange, word_at, set_word, place}
 use Rattle.pool_model.specs.History.{own, grip}
 use Rattle.transfer_machine.specs.Words.{acted, met_word, name_of, left_by}
 use Rattle.transfer_machine.specs.declared.action.Action.{Action}
@@ -20,20 +16,20 @@ use Rattle.pool_machine.specs.declared.view.ProcessView.{ProcessView}
 use Rattle.interleaving_core.specs.Invariant.{DataHolds}
 use Rattle.interleaving_core.specs.Runs.{entries_of}
 use Rattle.interleaving_core.specs.StepLaws.{word_met, words_after}
-use Rattle.interleaving_core.specs.Steps.{is_alone, next_action, next_met, next_answer}
+use Rattle.interleaving_core.specs.Steps.{is_alone, next_action, next_answer}
 use Rattle.interleaving_core.proofs.Holds.{StepAllowed, step_allowed}
 use Rattle.interleaving_core.proofs.Tables.{next_in_range, next_number}
 use Rattle.pool_table.specs.declared.about.About.{About}
-use Rattle.pool_table.specs.Minds.{Mind, number_of, known_in, entries_in, SeesOwn}
-use Rattle.pool_table.specs.Views.{SeatView, longest}
+use Rattle.pool_table.specs.Minds.{Mind, number_of, known_in, SeesOwn}
+use Rattle.pool_table.specs.Views.{SeatView}
 use Rattle.pool_table.specs.Rule.{views_of, Holds}
-use Rattle.pool_table.specs.Turns.{turning, words_known_after, mind_met, mind_stepped, turned, MayTurn}
-use Rattle.pool_table.specs.Steps.{Among, CanStep, CanMeetNext, SeenAfter, answered, MadeOn, Stepped}
+use Rattle.pool_table.specs.Turns.{turning, mind_met, turned, MayTurn}
+use Rattle.pool_table.specs.Steps.{CanStep, CanMeetNext, SeenAfter, answered, MadeOn, Stepped}
 use Rattle.pool_table.proofs.Due.{begun_minds, begun_here}
 use Rattle.pool_table.proofs.Entries.{AllOwn, next_entries_own, seen_goes_on, entries_go_on}
 use Rattle.pool_table.proofs.Seen.{longest_is_history}
 use Rattle.pool_table.proofs.Stored.{SameMet, stores_meet_any}
-use Rattle.pool_table.proofs.Turns.{IsSeat, mind_after_is, seat_of, seat_step_due, turning_number, step_keeps_rule}
+use Rattle.pool_table.proofs.Turns.{mind_after_is, seat_of, seat_step_due, turning_number, step_keeps_rule}
 
 -- the step of a seat is allowed
 seat_step_allowed : (words : List ℕ) (views : List SeatView) (place : ℕ) (v : SeatView) (a : About) → Holds words views
@@ -51,15 +47,20 @@ seat_step_allowed words views place v a h at e may =
 may_turn_so : (sizes : Sizes) (a : About) (v : SeatView) → CanStep sizes a v → MayTurn v.sizes a v.mind
 may_turn_so sizes a v can = subst (λ z. MayTurn z a v.mind) (sym can.shape) can.may
 
+-- so the next step of a process can be made, on words that its seat may be among
+pub next_step_allowed : (sizes : Sizes) (a : About) (v : SeatView) → (can : CanStep sizes a v)
+    → StepAllowed v.sizes (word_at v.sizes can.among.words) (turning a v.mind.view)
+next_step_allowed sizes a v can =
+    let among = can.among in
+    seat_step_allowed among.words among.views among.number v a among.held among.seated can.of_process (may_turn_so sizes a v can)
+
 -- the word that a step is on is one of the table
 pub action_in_range : (sizes : Sizes) (a : About) (v : SeatView) (action : Action) → CanStep sizes a v
     → action ≡ next_action sizes (turning a v.mind.view) → InRange sizes (name_of action)
 action_in_range sizes a v action can is =
     let w = turning a v.mind.view in
-    let among = can.among in
-    let allowed = seat_step_allowed among.words among.views among.number v a among.held among.seated can.of_process
-    (may_turn_so sizes a v can) in
-    let range = next_in_range v.sizes (word_at v.sizes among.words) w (is_alone w.calls.way) refl allowed in
+    let allowed = next_step_allowed sizes a v can in
+    let range = next_in_range v.sizes (word_at v.sizes can.among.words) w (is_alone w.calls.way) refl allowed in
     subst (λ z. InRange sizes (name_of z)) (sym is) (subst (λ z. InRange z (name_of (next_action z w))) can.shape range)
 
 -- the words after an action, and the one that it meets, by its place
@@ -164,7 +165,8 @@ module _ (sizes : Sizes) (a : About) (number : ℕ) (v x : SeatView) (action : A
       let entries = entries_of (next_answer w met) in
       let answered_entries : entries ≡ entries_of (next_answer w word) = ap entries_of same.answer in
       let mine : AllOwn n entries = subst (λ k. AllOwn k entries) owner (next_entries_own w met) in
-      let sees : SeesOwn held.history n v.mind.seen = subst (λ (mind : Mind). SeesOwn held.history n mind.seen) s.here (s.holds.sees n s.low) in
+      let sees : SeesOwn held.history n v.mind.seen =
+      subst (λ (mind : Mind). SeesOwn held.history n mind.seen) s.here (s.holds.sees n s.low) in
       let known : DataHolds v.sizes (word_at v.sizes learned.words) (grip (own held.history n)) (known_in v.mind.known) =
       subst (λ (mind : Mind). DataHolds v.sizes (word_at v.sizes learned.words) (grip (own held.history n)) (known_in mind.known)) s.here
       (s.holds.data_words n s.low) in

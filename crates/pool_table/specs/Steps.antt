@@ -55,7 +55,7 @@ answered (Load name) met = met
 answered (Store name word) met = word
 answered (Exchange name old new) met = met
 
--- a step about this as it was made: it met a word of words that met the rule with the old view, and they meet it afterwards with the new one
+-- a step about this as it was made: on words that met the rule with the old view, and meet it afterwards with the new one
 pub record MadeOn (about : About) (before : SeatView) (word : ℕ) (after : SeatView) : Type 0 where
   pub words : List ℕ
   pub views : List SeatView
