@@ -10,6 +10,9 @@ use Rattle.atomic_table.proofs.Lists.{set_here, set_else, set_again}
 use Rattle.word_rule.specs.Moves.{Keeps, Splits, Joins, Learned, unchanged}
 use Rattle.word_rule.proofs.Among.{left_is_among, right_is_among, after_is_among}
 use Rattle.word_layout.specs.Sizes.{Sizes}
+use Rattle.word_layout.specs.Names.{table_words, place}
+use Rattle.word_layout.specs.declared.name.WordName.TheVariants.{State}
+use Rattle.word_layout.proofs.Placed.{place_below}
 use Rattle.pool_model.specs.declared.entry.Entry.{Entry}
 use Rattle.pool_model.specs.History.{own}
 use Rattle.history_invariant.proofs.Seeing.{own_of_longer}
@@ -22,6 +25,11 @@ use Rattle.pool_table.specs.Joins.{CanSplit, CanJoin, Joined}
 use Rattle.pool_table.proofs.Numbered.{moved, moved_here, moved_elsewhere, own_mind_is_seated, step_keeps_numbered}
 use Rattle.pool_table.proofs.Seating.{split_keeps_numbered, join_keeps_numbered}
 use Rattle.pool_table.proofs.Seen.{Begins, whole_is, longer_begins, longer_left}
+
+-- a table has a word
+pub some_word : (sizes : Sizes) (words : ℕ) → words ≡ table_words sizes → 0 < words
+unfolding place
+some_word sizes words e = omega (arith, e, place_below sizes State tt)
 
 -- the cases of a process's seat
 pub left_of_process : (v : SeatView) → v.of_process ≡ true → left v ≡ one_more_made v

@@ -1,5 +1,6 @@
 // Seats are made and joined.
 ghost use Rattle.std.specs.Prelude.{◌≡◌, ◌+◌, ◌<◌, ◌^◌};
+ghost use Rattle.word_layout.specs.Names.{table_words};
 ghost use Rattle.word_table.specs.Seats.{SameSeat};
 ghost use Rattle.pool_table.specs.Views.{one_more_made, seat_of_process};
 ghost use Rattle.pool_table.specs.Steps.{Among};
@@ -8,6 +9,9 @@ ghost use Rattle.pool_table.specs.Settled.{Settles};
 
 use crate::rule::{PoolSeat, PoolTable};
 use step_counter::{Ledger, Steps};
+
+#[cfg(test)]
+mod tests;
 
 /// Makes the seat of the next process, which is at its opening. The seat of process 0 makes it, and counts one more.
 ///
@@ -18,7 +22,7 @@ pub fn next_seat<L: Ledger>(
     steps: &mut Steps<L>,
 ) -> PoolSeat
     requires seat { first.old.table ≡ table.now }
-    requires word { 0 < table.now.words }
+    requires words { table.now.words ≡ table_words first.old.view.sizes }
     requires steps { steps.old + 1 < 2 ^ 64 }
     requires can { CanSplit first.old.view }
     ensures seat { SameSeat first.old first.new }
@@ -44,7 +48,7 @@ pub fn join_seats<L: Ledger>(
 )
     requires kept { kept.old.table ≡ table.now }
     requires other { other.table ≡ table.now }
-    requires word { 0 < table.now.words }
+    requires words { table.now.words ≡ table_words kept.old.view.sizes }
     requires steps { steps.old + 2 < 2 ^ 64 }
     requires can { CanJoin kept.old.view other.view }
     ensures seat { SameSeat kept.old kept.new }

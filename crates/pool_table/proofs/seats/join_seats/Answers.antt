@@ -1,8 +1,11 @@
 use Rattle.std.proofs.Common.{ap, ◌∙◌}
 use Rattle.pool_table.specs.Views.{SeatView}
-use Rattle.pool_table.proofs.Joins.{joins, look_keeps, joined}
+use Rattle.pool_table.proofs.Joins.{some_word, joins, look_keeps, joined}
 use Rattle.pool_table.proofs.Settled.{settles}
 use Rattle.pool_table.proofs.seats.join_seats.Goals as goal
+
+pub join-requires-clause-word : goal.join-requires-clause-word
+join-requires-clause-word g c = some_word _ _ c.requires.words
 
 pub join-requires-clause-join : goal.join-requires-clause-join
 join-requires-clause-join g c = joins _ _ _ _ c.requires.can

@@ -1,7 +1,10 @@
 use Rattle.std.proofs.Common.{◌∙◌, sym, subst}
 use Rattle.pool_table.specs.Steps.{Among}
-use Rattle.pool_table.proofs.Joins.{splits, left_of_process, right_of_process, left_among, right_among}
+use Rattle.pool_table.proofs.Joins.{some_word, splits, left_of_process, right_of_process, left_among, right_among}
 use Rattle.pool_table.proofs.seats.next_seat.Goals as goal
+
+pub split-requires-clause-word : goal.split-requires-clause-word
+split-requires-clause-word g c = some_word _ _ c.requires.words
 
 pub split-requires-clause-rule : goal.split-requires-clause-rule
 split-requires-clause-rule g c = splits _ _ c.requires.can
