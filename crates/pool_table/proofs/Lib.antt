@@ -8,3 +8,7 @@ pub mod Stored
 pub mod Steps
 pub mod Places
 pub mod Ready
+pub mod Seating
+pub mod Joins
+pub mod Settled
+pub mod Opened
