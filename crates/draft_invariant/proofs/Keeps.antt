@@ -83,7 +83,7 @@ beginnings_keep sizes m views after states i wish li drafts moved =
     }
 
 -- the opening
-zero_at : (room k : ℕ) → get_or (replicate {A = ℕ} room 0) k 0 ≡ 0
+pub zero_at : (room k : ℕ) → get_or (replicate {A = ℕ} room 0) k 0 ≡ 0
 zero_at room k = elim (cases_lt k room) [ inl lt ↦ get_or-replicate room k 0 0 lt | inr ge ↦ get_or_past (replicate {A = ℕ} room 0) k 0 (omega (arith, length-replicate {A = ℕ} room 0)) ]
 
 opening_heads : (sizes : Sizes) (i : ℕ) → 0 < blocks sizes → HeadsAreBlocks sizes (opening_transfer i)

@@ -30,9 +30,9 @@ grow_announced processes m n states later next o second v w lo h p e now same g 
 pub grow_tries : (processes : ℕ) (m n : Words) (states later : States) (next : StackState) (o : ℕ) (second : Bool) (v w : TransferView)
     → o < processes → AnnouncementHolds m states o w → TwoTries m states o w → HearsPresent processes m states o v w
     → v.next ≡ Try second ExchangeState → loaded_tag v.loaded ≡ state_tag m
-    → (has_loaded w.next ≡ true → loaded_tag w.loaded ≤ state_tag m) → StatesGrow m n states later next
+    → (has_loaded w.next ≡ true → loaded_tag w.loaded ≤ state_tag m) → w.installed ≤ state_tag m → StatesGrow m n states later next
     → AppliesHeard processes (states (state_tag m)) next v → TwoTries n later o w
-grow_tries processes m n states later next o second v w lo h t p e now past g a = grind arith
+grow_tries processes m n states later next o second v w lo h t p e now past made g a = grind arith
 
 pub grow_settled : (sizes : Sizes) (m n : Words) (states later : States) (next : StackState) (o row : ℕ) (second : Bool)
     (v w : TransferView) → o < sizes.processes → TagsBelow sizes m → AppliedRises sizes m states → AnnouncementHolds m states o w

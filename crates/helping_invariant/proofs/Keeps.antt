@@ -1,5 +1,5 @@
 -- every step of every process keeps the parts of helping, and so do beginnings
-use Rattle.std.proofs.Common.{◌≡◌, ℕ, ◌+◌, ◌-◌, ◌<◌, ◌≤◌, ◌==◌, Bool, false, refl, arith}
+use Rattle.std.proofs.Common.{◌≡◌, ℕ, ◌+◌, ◌-◌, ◌<◌, ◌≤◌, ◌==◌, Bool, true, false, refl, arith}
 use Rattle.std.specs.Prelude.{nat_lt}
 use Rattle.word_layout.specs.Sizes.{Sizes}
 use Rattle.word_layout.specs.Packing.{tag_of, FitsWish}
@@ -16,6 +16,7 @@ use Rattle.transfer_machine.specs.declared.stage.TryStep.TheVariants.{LoadState,
 use Rattle.transfer_machine.specs.declared.stage.TryStep.TheVariants.{LoadAnnouncement, LoadPoppedSlot, StoreRecordWord, ExchangeState}
 use Rattle.transfer_invariant.specs.Memory.{Words, Views, States, Acted, Moved, word_tag}
 use Rattle.transfer_invariant.specs.Drafts.{RepliesDrafted}
+use Rattle.transfer_invariant.specs.Progress.{in_try}
 use Rattle.transfer_invariant.specs.Installing.{states_after_try_step, states_after_at}
 use Rattle.transfer_invariant.specs.Invariant.{RecordsHold, Invariant}
 use Rattle.transfer_invariant.specs.Laws.{WritesFit}
@@ -36,19 +37,21 @@ use Rattle.helping_invariant.proofs.WriteSteps.{store_step, exchange_step}
 -- the step at each stage of a try
 try_step_helps : (sizes : Sizes) (m n : Words) (views after : Views) (states : States) (i : ℕ) (second : Bool) (step : TryStep)
     → sizes.processes ≤ 32 → i < sizes.processes → RecordsHold sizes m views states → HelpingHolds sizes m views states
-    → WritesFit sizes m (views i) → RepliesDrafted sizes.processes (views i) → (views i).next ≡ Try second step
+    → WritesFit sizes m (views i) → RepliesDrafted sizes.processes (views i)
+    → (in_try (views i).next ≡ true → (views i).installed ≤ (views i).first_loaded) → (views i).next ≡ Try second step
     → Acted sizes (try_action sizes (views i) step) m n
     → Moved i (met_in_try sizes (views i) (m (name_of (try_action sizes (views i) step))) second step) views after
     → HelpingHolds sizes n after (states_after_try_step m (views i) states step)
 unfolding word_tag
-try_step_helps sizes m n views after states i second LoadState few li inv h w drafts e a moved =
+try_step_helps sizes m n views after states i second LoadState few li inv h w drafts none e a moved =
     loads sizes State m n after states a
     (view_loads_state sizes m views after states i second li h (past sizes m views states inv) e moved)
-try_step_helps sizes m n views after states i second (LoadRecordWord index) few li inv h w drafts e a moved =
+try_step_helps sizes m n views after states i second (LoadRecordWord index) few li inv h w drafts none e a moved =
     let name = RecordWord (loaded_record (views i).loaded) index in
     let later = nat_lt (loaded_tag (views i).loaded) (tag_of (m name)) in
-    loads sizes name m n after states a (word_step sizes m views after states i second index (m name) li inv h e refl later refl moved)
-try_step_helps sizes m n views after states i second (LoadCoveredSlot offset) few li inv h w drafts e a moved =
+    loads sizes name m n after states a (word_step sizes m views after states i second index (m name) li inv h none e refl later refl
+    moved)
+try_step_helps sizes m n views after states i second (LoadCoveredSlot offset) few li inv h w drafts none e a moved =
     let v = views i in
     let name = Slot (loaded_base v.loaded + offset) in
     let x = met_in_try sizes v (m name) second (LoadCoveredSlot offset) in
@@ -58,7 +61,7 @@ try_step_helps sizes m n views after states i second (LoadCoveredSlot offset) fe
     let deaf = slot_deaf sizes.processes older v.loaded offset in
     loads sizes name m n after states a
     (view_same sizes m views after states i x li h (past sizes m views states inv) moved stays (rw deaf (omega arith)) refl)
-try_step_helps sizes m n views after states i second (ExchangeSlot offset) few li inv h w drafts e a moved =
+try_step_helps sizes m n views after states i second (ExchangeSlot offset) few li inv h w drafts none e a moved =
     let v = views i in
     let x = met_in_try sizes v 0 second (ExchangeSlot offset) in
     let follows = slot_follows false v.loaded offset in
@@ -67,14 +70,14 @@ try_step_helps sizes m n views after states i second (ExchangeSlot offset) few l
     stay sizes m n after states
     (view_same sizes m views after states i x li h (past sizes m views states inv) moved stays (rw deaf (omega arith)) refl)
     (exchanges_slot sizes _ _ _ m n a) (misses_announcements sizes (try_action sizes v (ExchangeSlot offset)) m n a (λ o d. cc))
-try_step_helps sizes m n views after states i second (LoadAnnouncement process) few li inv h w drafts e a moved =
+try_step_helps sizes m n views after states i second (LoadAnnouncement process) few li inv h w drafts none e a moved =
     let v = views i in
     let word = m (Announcement process) in
     let pops = pops_slot sizes.processes v.loaded process word v.draft in
     let draft = after_announcement sizes.processes v.loaded process word 0 v.draft in
     loads sizes (Announcement process) m n after states a
     (announcement_step sizes m views after states i second process draft few li h (past sizes m views states inv) e pops moved)
-try_step_helps sizes m n views after states i second (LoadPoppedSlot process) few li inv h w drafts e a moved =
+try_step_helps sizes m n views after states i second (LoadPoppedSlot process) few li inv h w drafts none e a moved =
     let v = views i in
     let name = Slot (v.draft.base - 1) in
     let x = met_in_try sizes v (m name) second (LoadPoppedSlot process) in
@@ -82,10 +85,10 @@ try_step_helps sizes m n views after states i second (LoadPoppedSlot process) fe
     let stays = going second (LoadPoppedSlot process) (after_heard sizes process) v x e refl refl follows refl refl refl refl refl refl in
     loads sizes name m n after states a
     (view_same sizes m views after states i x li h (past sizes m views states inv) moved stays (rw e (heard_more sizes process)) refl)
-try_step_helps sizes m n views after states i second (StoreRecordWord index) few li inv h w drafts e a moved =
+try_step_helps sizes m n views after states i second (StoreRecordWord index) few li inv h w drafts none e a moved =
     store_step sizes m n views after states i second index li inv h drafts e (w.store second index e) a moved
-try_step_helps sizes m n views after states i second ExchangeState few li inv h w drafts e a moved =
-    exchange_step sizes m n views after states i second (m State == (views i).loaded.state) few li inv h drafts e refl a moved
+try_step_helps sizes m n views after states i second ExchangeState few li inv h w drafts none e a moved =
+    exchange_step sizes m n views after states i second (m State == (views i).loaded.state) few li inv h drafts none e refl a moved
 
 -- the step at each stage
 step_helps : (sizes : Sizes) (m n : Words) (views after : Views) (states : States) (i : ℕ) (s : NextStep) → sizes.processes ≤ 32
@@ -106,7 +109,7 @@ step_helps sizes m n views after states i Announce few li inv h w drafts wish e 
     view_announces sizes m n views after states i li h (past sizes m views states inv.records)
     (stay_tags sizes m n inv.records.tags_below s) e (wish e) s stored moved
 step_helps sizes m n views after states i (Try second step) few li inv h w drafts wish e a moved =
-    try_step_helps sizes m n views after states i second step few li inv.records h w drafts e a moved
+    try_step_helps sizes m n views after states i second step few li inv.records h w drafts (inv.tags.order i li).try_none e a moved
 step_helps sizes m n views after states i LoadFinalState few li inv h w drafts wish e a moved =
     loads sizes State m n after states a
     (view_loads_final sizes m views after states i li h (past sizes m views states inv.records) e moved)

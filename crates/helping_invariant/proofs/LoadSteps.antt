@@ -20,7 +20,7 @@ use Rattle.transfer_machine.specs.declared.stage.NextStep.TheVariants.{Try}
 use Rattle.transfer_machine.specs.declared.stage.TryStep.{TryStep}
 use Rattle.transfer_machine.specs.declared.stage.TryStep.TheVariants.{LoadRecordWord, ExchangeSlot, LoadAnnouncement, LoadPoppedSlot}
 use Rattle.transfer_invariant.specs.Memory.{Words, Views, States, Acted, Moved, state_tag, current_record, word_tag}
-use Rattle.transfer_invariant.specs.Progress.{has_loaded_state, has_loaded, heard_in_try}
+use Rattle.transfer_invariant.specs.Progress.{in_try, has_loaded_state, has_loaded, heard_in_try}
 use Rattle.transfer_invariant.specs.Records.{CurrentRecord, LoadedState}
 use Rattle.transfer_invariant.specs.Invariant.{RecordsHold}
 use Rattle.transfer_invariant.proofs.Acts.{leaves_records}
@@ -129,19 +129,21 @@ word_goes_on sizes m views after states i second index loaded li h past e es ea 
 
 pub word_step : (sizes : Sizes) (m : Words) (views after : Views) (states : States) (i : ℕ) (second : Bool) (index word : ℕ)
     → i < sizes.processes → RecordsHold sizes m views states → HelpingHolds sizes m views states
+    → (in_try (views i).next ≡ true → (views i).installed ≤ (views i).first_loaded)
     → (views i).next ≡ Try second (LoadRecordWord index) → tag_of word ≡ word_tag m (loaded_record (views i).loaded) index
     → (t : Bool) → nat_lt (loaded_tag (views i).loaded) (tag_of word) ≡ t
     → Moved i (if t then try_ended second (views i) else record_word_loaded sizes second index (record (views i).loaded {
       record_words = set (views i).loaded.record_words index word;
     }) (views i)) views after
     → HelpingHolds sizes m after states
-word_step sizes m views after states i second index word li inv h e et true test moved =
+word_step sizes m views after states i second index word li inv h none e et true test moved =
     let v = views i in
     let low : index < record_words sizes = rw e at (inv.own i li).index in
     let above = ltb-true (loaded_tag v.loaded) (tag_of word) test in
     let later = moved_on sizes m states v index inv.current (inv.loaded i li) (rw e refl) low (rw et at above) in
-    view_ends_try sizes m views after states i second (LoadRecordWord index) li h (past sizes m views states inv) e refl later moved
-word_step sizes m views after states i second index word li inv h e et false test moved =
+    view_ends_try sizes m views after states i second (LoadRecordWord index) li h (past sizes m views states inv) e refl (none (rw e refl)) later
+    moved
+word_step sizes m views after states i second index word li inv h none e et false test moved =
     let loaded = record (views i).loaded { record_words = set (views i).loaded.record_words index word } in
     let last = index + 1 == record_words sizes in
     word_goes_on sizes m views after states i second index loaded li h (past sizes m views states inv) e refl refl last moved

@@ -1,5 +1,5 @@
 -- the steps that announce a transfer and that install a state
-use Rattle.std.proofs.Common.{◌≡◌, ℕ, ◌+◌, ◌<◌, Bool, refl}
+use Rattle.std.proofs.Common.{◌≡◌, ℕ, ◌+◌, ◌<◌, ◌≤◌, Bool, refl}
 use Rattle.word_layout.specs.Sizes.{Sizes}
 use Rattle.word_layout.specs.Packing.{FitsWish}
 use Rattle.word_layout.specs.declared.name.WordName.TheVariants.{Announcement}
@@ -51,12 +51,13 @@ view_announces sizes m n views after states i li h past low e fits s a moved =
 
 -- a state is installed, by a view that loaded the present one
 pub view_installs : (sizes : Sizes) (m n : Words) (views after : Views) (states later : States) (next : StackState) (i : ℕ) (second : Bool)
-    → i < sizes.processes → HelpingHolds sizes m views states → LoadedPast sizes m views → TagsBelow sizes m
+    → i < sizes.processes → HelpingHolds sizes m views states → LoadedPast sizes m views
+    → ((o : ℕ) → o < sizes.processes → (views o).installed ≤ state_tag m) → TagsBelow sizes m
     → (views i).next ≡ Try second ExchangeState → loaded_tag (views i).loaded ≡ state_tag m
     → StateInstalled sizes m n (state_tag m + 1) (views i).next_record → AnnouncementsStay sizes m n → StatesGrow m n states later next
     → AppliesHeard sizes.processes (states (state_tag m)) next (views i) → Moved i (installed (views i)) views after
     → HelpingHolds sizes n after later
-view_installs sizes m n views after states later next i second li h past low e now s a g applies moved =
+view_installs sizes m n views after states later next i second li h past made low e now s a g applies moved =
     let v = views i in
     let x = installed v in
     let announced = λ (o : ℕ) (lo : o < sizes.processes). grow_announced sizes.processes m n states later next o second v (views o) lo
@@ -70,11 +71,11 @@ view_installs sizes m n views after states later next i second li h past low e n
       counts = grow_counts sizes m n states later next v h.counts g applies;
       announced = pends_announced n later i v x (announced i li) pends;
       tries = installed_tries sizes.processes m n states later next i second v li (h.announced i li) (h.tries i li) (h.hears i i li li)
-          e g applies;
+          e now g applies;
       settled = pends_settled sizes n later i v x (settled i li) pends;
       others_announced = λ o lo ne. announced o lo;
       others_tries = λ o lo ne. grow_tries sizes.processes m n states later next o second v (views o) lo (h.announced o lo) (h.tries o lo)
-          (h.hears i o li lo) e now (past o lo) g applies;
+          (h.hears i o li lo) e now (past o lo) (made o lo) g applies;
       others_settled = λ o lo ne. settled o lo;
       from = λ o lo ne. hears_none sizes.processes n later o x (views o) refl;
       into = λ b lb ne. heard_on sizes.processes n later i (views b) v x (hears b i lb li) (heard_in_try v x (rw e refl) refl refl);

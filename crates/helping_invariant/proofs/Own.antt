@@ -1,5 +1,5 @@
 -- what the moving view keeps of its own facts
-use Rattle.std.proofs.Common.{◌≡◌, ℕ, ◌+◌, ◌<◌, Bool, true, false, refl, ◌∙◌, ap, arith, length}
+use Rattle.std.proofs.Common.{◌≡◌, ℕ, ◌+◌, ◌<◌, ◌≤◌, Bool, true, false, refl, ◌∙◌, ap, arith, length}
 use Rattle.std.specs.Prelude.{if◌then◌else◌}
 use Rattle.std.proofs.lemmas.Bool.Decides.{nat_tests}
 use Rattle.word_layout.specs.Sizes.{Sizes}
@@ -66,8 +66,9 @@ stays_tries m states i v x h g = grind arith
 
 -- the end of a try that installed nothing: the state has moved on
 pub tries_ended : (m : Words) (states : States) (i : ℕ) (second : Bool) (step : TryStep) (v : TransferView) → TwoTries m states i v
-    → v.next ≡ Try second step → has_loaded_state step ≡ true → loaded_tag v.loaded < state_tag m → TwoTries m states i (try_ended second v)
-tries_ended m states i second step v h e was moved = grind (arith, nat_tests)
+    → v.next ≡ Try second step → has_loaded_state step ≡ true → v.installed ≤ v.first_loaded → loaded_tag v.loaded < state_tag m
+    → TwoTries m states i (try_ended second v)
+tries_ended m states i second step v h e was none moved = grind (arith, nat_tests)
 
 -- the state is loaded, at the beginning of a try
 pub tries_loaded : (m : Words) (states : States) (i : ℕ) (second : Bool) (v x : TransferView) → TwoTries m states i v
@@ -77,8 +78,9 @@ tries_loaded m states i second v x h e en ea el ef = grind (arith, nat_tests)
 
 -- and at the end
 pub tries_final : (m : Words) (states : States) (i : ℕ) (v x : TransferView) → TwoTries m states i v → v.next ≡ LoadFinalState
-    → x.next ≡ LoadReply → x.age ≡ v.age → x.first_loaded ≡ v.first_loaded → loaded_tag x.loaded ≡ state_tag m → TwoTries m states i x
-tries_final m states i v x h e en ea ef el = grind arith
+    → x.next ≡ LoadReply → x.age ≡ v.age → x.installed ≡ v.installed → x.first_loaded ≡ v.first_loaded → loaded_tag x.loaded ≡ state_tag m
+    → TwoTries m states i x
+tries_final m states i v x h e en ea ei ef el = grind arith
 
 -- no transfer is announced
 pub tries_idle : (m : Words) (states : States) (i : ℕ) (x : TransferView) → has_announced x.next ≡ false → TwoTries m states i x
@@ -121,6 +123,6 @@ announced_settled sizes m states i v li low c h = grind (arith, c.rises i, low)
 -- a state is installed: it applied the own transfer
 pub installed_tries : (processes : ℕ) (m n : Words) (states later : States) (next : StackState) (i : ℕ) (second : Bool) (v : TransferView)
     → i < processes → AnnouncementHolds m states i v → TwoTries m states i v → HearsPresent processes m states i v v
-    → v.next ≡ Try second ExchangeState → StatesGrow m n states later next → AppliesHeard processes (states (state_tag m)) next v
-    → TwoTries n later i (installed v)
-installed_tries processes m n states later next i second v li h t p e g a = grind (arith, nat_tests)
+    → v.next ≡ Try second ExchangeState → loaded_tag v.loaded ≡ state_tag m → StatesGrow m n states later next
+    → AppliesHeard processes (states (state_tag m)) next v → TwoTries n later i (installed v)
+installed_tries processes m n states later next i second v li h t p e now g a = grind (arith, nat_tests)

@@ -83,9 +83,9 @@ ended_deaf processes second = grind arith
 
 pub view_ends_try : (sizes : Sizes) (m : Words) (views after : Views) (states : States) (i : ℕ) (second : Bool) (step : TryStep)
     → i < sizes.processes → HelpingHolds sizes m views states → LoadedPast sizes m views → (views i).next ≡ Try second step
-    → has_loaded_state step ≡ true → loaded_tag (views i).loaded < state_tag m → Moved i (try_ended second (views i)) views after
-    → HelpingHolds sizes m after states
-view_ends_try sizes m views after states i second step li h past e has later moved =
+    → has_loaded_state step ≡ true → (views i).installed ≤ (views i).first_loaded → loaded_tag (views i).loaded < state_tag m
+    → Moved i (try_ended second (views i)) views after → HelpingHolds sizes m after states
+view_ends_try sizes m views after states i second step li h past e has none later moved =
     let v = views i in
     let x = try_ended second v in
     let was : in_try v.next ≡ true = rw e has in
@@ -100,7 +100,7 @@ view_ends_try sizes m views after states i second step li h past e has later mov
     view_moves sizes m views after states i x li h past moved (record {
       past = λ k. absurd (grind (arith, k, ended_out second));
       announced = pends_announced m states i v x (h.announced i li) pends;
-      tries = tries_ended m states i second step v (h.tries i li) e has later;
+      tries = tries_ended m states i second step v (h.tries i li) e has none later;
       settled = pends_settled sizes m states i v x (h.settled i li) pends;
       from = λ o lo. hears_none sizes.processes m states o x (views o) (ended_deaf sizes.processes second);
       into = λ w pw k. heard_on sizes.processes m states i w v x k (heard_in_try v x was refl refl);
@@ -137,7 +137,7 @@ view_loads_final sizes m views after states i li h past e moved =
     view_moves sizes m views after states i x li h past moved (record {
       past = λ k. omega arith;
       announced = pends_announced m states i v x (h.announced i li) pends;
-      tries = tries_final m states i v x (h.tries i li) e refl refl refl refl;
+      tries = tries_final m states i v x (h.tries i li) e refl refl refl refl refl;
       settled = pends_settled sizes m states i v x (h.settled i li) pends;
       from = λ o lo. hears_none sizes.processes m states o x (views o) refl;
       into = λ w pw k. heard_on sizes.processes m states i w v x k on;

@@ -115,12 +115,13 @@ installed_applies sizes m views states i second li inv h drafts e now =
 -- the state is exchanged, or not
 pub exchange_step : (sizes : Sizes) (m n : Words) (views after : Views) (states : States) (i : ℕ) (second t : Bool) → sizes.processes ≤ 32
     → i < sizes.processes → RecordsHold sizes m views states → HelpingHolds sizes m views states → RepliesDrafted sizes.processes (views i)
+    → (in_try (views i).next ≡ true → (views i).installed ≤ (views i).first_loaded)
     → (views i).next ≡ Try second ExchangeState → (m State == (views i).loaded.state) ≡ t
     → Acted sizes (Exchange State (views i).loaded.state (next_state (views i))) m n
     → Moved i (if t then installed (views i) else try_ended second (views i)) views after
     → HelpingHolds sizes n after (if t then states_with_drafted m (views i) states else states)
 unfolding state_tag
-exchange_step sizes m n views after states i second true few li inv h drafts e test a moved =
+exchange_step sizes m n views after states i second true few li inv h drafts none e test a moved =
     let v = views i in
     let now : loaded_tag v.loaded ≡ state_tag m = sym (ap tag_of (eqb-true (m State) v.loaded.state test)) in
     let row = row_fits sizes m i v few li (inv.own i li) in
@@ -129,12 +130,14 @@ exchange_step sizes m n views after states i second true few li inv h drafts e t
     let others = misses_announcements sizes (Exchange State v.loaded.state (next_state v)) m n a (λ o d. cc) in
     let grows = states_grow m n states v there.state in
     let applies = installed_applies sizes m views states i second li inv h drafts e now in
-    view_installs sizes m n views after states _ _ i second li h (past sizes m views states inv) inv.tags_below e now there others grows
+    view_installs sizes m n views after states _ _ i second li h (past sizes m views states inv)
+    (λ o lo. (inv.own o lo).installed) inv.tags_below e now there others grows
     applies moved
-exchange_step sizes m n views after states i second false few li inv h drafts e test a moved =
+exchange_step sizes m n views after states i second false few li inv h drafts none e test a moved =
     let v = views i in
     let later = exchange_failed sizes m states v (inv.loaded i li) (rw e refl) (eqb-false (m State) v.loaded.state test) in
     let others = misses_announcements sizes (Exchange State v.loaded.state (next_state v)) m n a (λ o d. cc) in
     stay sizes m n after states
-    (view_ends_try sizes m views after states i second ExchangeState li h (past sizes m views states inv) e refl later moved)
+    (view_ends_try sizes m views after states i second ExchangeState li h (past sizes m views states inv) e refl
+    (none (rw e refl)) later moved)
     (keeps_state sizes v.loaded.state (next_state v) m n test a) others

@@ -69,6 +69,9 @@ pub record TwoTries (words : Words) (states : States) (process : ℕ) (v : Trans
   -- so once both are over it is applied, and so it is in the state of the final load
   pub ended : has_tried v.next ≡ true → (states (state_tag words)).applied process ≡ v.age
   pub final : v.next ≡ LoadReply → (states (loaded_tag v.loaded)).applied process ≡ v.age
+  -- once both have failed there are two states more; the state that one of them installed has applied it
+  pub failed : has_tried v.next ≡ true → v.installed ≤ v.first_loaded → v.first_loaded + 2 ≤ state_tag words
+  pub installed : has_tried v.next ≡ true → v.first_loaded < v.installed → (states v.installed).applied process ≡ v.age
 
 -- Settled reply, of one process whose transfer pends
 pub record SettledReply (sizes : Sizes) (words : Words) (states : States) (process : ℕ) (v : TransferView) : Type 0 where

@@ -26,7 +26,10 @@ own_parts i place history =
     ∙ filter-append (λ e. process_of e == i) (take place history) (drop place history)
 
 -- a longer beginning of the history has all entries of the process too
-pub own_of_longer : (history seen : List Entry) (i place : ℕ) → own seen i ≡ own history i → take (length seen) history ≡ seen → length seen ≤ place
+pub own_of_longer : (history seen : List Entry) (i place : ℕ)
+    → own seen i ≡ own history i
+    → take (length seen) history ≡ seen
+    → length seen ≤ place
     → own (take place history) i ≡ own history i
 own_of_longer history seen i place has_own begins le =
     sym (no_more (own (take place history) i) (own (drop place history) i) (own history i) (own_parts i place history)

@@ -23,7 +23,7 @@ use Rattle.transfer_machine.specs.declared.stage.TryStep.TheVariants.{ExchangeSt
 use Rattle.transfer_invariant.specs.Memory.{Words, Acted, state_tag}
 use Rattle.transfer_invariant.specs.Installing.{drafted_state, states_after}
 use Rattle.transfer_invariant.specs.Progress.{has_announced}
-use Rattle.stack_invariant.proofs.Changes.{present_installed}
+use Rattle.stack_invariant.proofs.Exchanging.{present_installed}
 use Rattle.stack_invariant.proofs.Follows.{installed_next}
 use Rattle.batch_invariant.specs.Batches.{ProcessViews, MovedProcess}
 use Rattle.batch_invariant.proofs.Going.{met_same_announcement}

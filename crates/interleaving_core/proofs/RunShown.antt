@@ -21,7 +21,7 @@ use Rattle.draft_invariant.proofs.NextState.{next_applied}
 use Rattle.stack_invariant.specs.Stack.{StackHolds}
 use Rattle.stack_invariant.specs.Gives.{present}
 use Rattle.stack_invariant.specs.Laws.{HitsNot}
-use Rattle.stack_invariant.proofs.Changes.{present_stays, present_installed}
+use Rattle.stack_invariant.proofs.Exchanging.{present_stays, present_installed}
 use Rattle.stack_invariant.proofs.Follows.{installed_next}
 use Rattle.stack_invariant.proofs.Tables.{first_same}
 use Rattle.interleaving_core.specs.Moves.{CoreState}

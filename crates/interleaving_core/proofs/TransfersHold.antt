@@ -14,7 +14,7 @@ use Rattle.pool_machine.specs.declared.view.ProcessView.{ProcessView}
 use Rattle.transfer_invariant.specs.Memory.{Words, Acted, state_tag}
 use Rattle.transfer_invariant.specs.Installing.{states_after}
 use Rattle.stack_invariant.specs.Laws.{HitsNot}
-use Rattle.stack_invariant.proofs.Changes.{present_stays}
+use Rattle.stack_invariant.proofs.Exchanging.{present_stays}
 use Rattle.stack_invariant.proofs.Keeps.{steps_keep_stack}
 use Rattle.batch_invariant.specs.Batches.{ProcessViews, MovedProcess}
 use Rattle.batch_invariant.proofs.Steps.{transfers_move}

@@ -21,7 +21,7 @@ use Rattle.slot_invariant.proofs.Own.{nothing_known}
 head_low : (t length most : ℕ) → 2 ≤ length → t * length + length ≤ most → t * length < most
 head_low t length most two within = omega arith
 
-opening_slot_low : (sizes : Sizes) → IsShape sizes → (s : ℕ) → opening_slot sizes s < blocks sizes
+pub opening_slot_low : (sizes : Sizes) → IsShape sizes → (s : ℕ) → opening_slot sizes s < blocks sizes
 opening_slot_low sizes shape s = elim (cases_lt s (opening_base sizes)) [
   | inl low ↦ let test : nat_lt s (opening_base sizes) ≡ true = grind (arith, nat_tests) in
       rw test (head_low (2 * sizes.processes + s) sizes.length (blocks sizes) (two_blocks_a_batch sizes shape) (batch_within_blocks sizes (2 * sizes.processes + s) (omega arith)))

@@ -7,7 +7,7 @@ use Rattle.word_layout.specs.declared.name.WordName.{WordName}
 use Rattle.transfer_machine.specs.Machine.{action_of, met_of, begun}
 use Rattle.transfer_machine.specs.Opening.{opening_word, opening_transfer}
 use Rattle.transfer_machine.specs.Words.{name_of}
-use Rattle.transfer_invariant.specs.Memory.{Words, Views, States, Acted, Moved}
+use Rattle.transfer_invariant.specs.Memory.{Words, Views, States, Acted, Moved, state_tag}
 use Rattle.transfer_invariant.specs.OpeningState.{opening_state}
 use Rattle.transfer_invariant.specs.Installing.{states_after}
 use Rattle.transfer_invariant.specs.Invariant.{Invariant}
@@ -25,9 +25,13 @@ use Rattle.slot_invariant.proofs.Own.{nothing_known}
 use Rattle.slot_invariant.proofs.Steps.{slots_move}
 use Rattle.helping_invariant.proofs.Keeps.{steps_keep_helping, beginnings_keep_helping}
 use Rattle.helping_invariant.proofs.OpenedHelping.{opening_meets_helping}
-use Rattle.draft_invariant.proofs.Keeps.{opening_holds, steps_keep, beginnings_keep}
+use Rattle.draft_invariant.proofs.Keeps.{opening_holds, steps_keep, beginnings_keep, moved_each}
 use Rattle.stack_invariant.specs.Laws.{OpeningMeetsStack, BeginningsKeepStack, StepsKeepStack}
+use Rattle.stack_invariant.specs.Loads.{LoadsFit}
 use Rattle.stack_invariant.proofs.Premises.{draft_premises, stack_writes, draft_below, fits_wish}
+use Rattle.stack_invariant.proofs.Following.{opened_follow, follow_kept}
+use Rattle.stack_invariant.proofs.Answered.{opened_answers, begun_answers, answers_kept}
+use Rattle.stack_invariant.proofs.Loaded.{loads_opened, loads_begun, loads_met}
 
 -- the opening
 opened_transfers : (sizes : Sizes) (words : Words) (views : Views) → IsShape sizes
@@ -45,6 +49,9 @@ opening_meets sizes words views shape opened seats = record {
   slots = opened_slots sizes words shape opened views seats;
   helping = opening_meets_helping sizes words views shape opened seats;
   drafts = opening_holds sizes words views (λ m. opening_state sizes) shape opened seats;
+  follow = opened_follow sizes words (opened_tag sizes words shape opened);
+  loads = λ i li. rw (seats i li) (loads_opened sizes i shape);
+  answers = λ i li. rw (seats i li) (opened_answers sizes i);
 }
 
 -- beginnings
@@ -71,6 +78,10 @@ beginnings_keep_stack sizes words views after states i wish li h rest moved = re
   slots = begun_slots sizes words views after states i wish li h.slots moved;
   helping = beginnings_keep_helping sizes words views after states i wish li h.helping rest moved;
   drafts = beginnings_keep sizes words views after states i wish li h.drafts moved;
+  follow = h.follow;
+  loads = moved_each (LoadsFit sizes) sizes.processes views after i (begun wish (views i)) h.loads moved
+      (loads_begun sizes wish (views i) (h.loads i li));
+  answers = begun_answers (states (state_tag words)) sizes.processes i wish views after li (rw rest refl) moved h.answers;
 }
 
 -- steps
@@ -102,4 +113,8 @@ steps_keep_stack sizes words new views after states i shape li h s acted moved =
           acted moved;
       helping = steps_keep_helping sizes words new views after states i shape li t h.helping fits replies wish acted moved;
       drafts = steps_keep sizes words new views after states i shape li t h.drafts premises acted moved;
+      follow = follow_kept sizes words new views states i shape li h acted;
+      loads = moved_each (LoadsFit sizes) sizes.processes views after i (met_of sizes (views i) (words (name_of (action_of sizes (views i)))))
+          h.loads moved (loads_met sizes words views states i shape li h s);
+      answers = answers_kept sizes words new views after states i shape li h acted moved;
     }

@@ -1,7 +1,13 @@
 pub mod Premises
-pub mod Keeps
-pub mod OtherWords
+pub mod Exchanging
 pub mod Follows
+pub mod NextReplies
+pub mod Following
+pub mod Answered
+pub mod Loaded
+pub mod Keeps
+pub mod Emptied
+pub mod OtherWords
 pub mod Content
 pub mod Changes
 pub mod Tables

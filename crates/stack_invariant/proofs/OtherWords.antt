@@ -21,6 +21,7 @@ use Rattle.draft_invariant.specs.Holding.{DraftsHold}
 use Rattle.draft_invariant.proofs.Acts.{pops_stay}
 use Rattle.stack_invariant.specs.Stack.{is_stack_word}
 use Rattle.stack_invariant.specs.Laws.{OtherWordsKeepStack}
+use Rattle.stack_invariant.proofs.Following.{follow_stays}
 
 -- all words that the invariant speaks of stay
 abbrev pub StackWordsStay : Sizes → Words → Words → Type 0
@@ -88,4 +89,7 @@ other_words_keep sizes words new views states h same =
       slots = slots_same sizes words new views states r (slots_stay sizes words new same) h.transfers h.slots;
       helping = moves.stay sizes words new views states h.helping r a;
       drafts = drafts_same sizes words new views states r.state a h.drafts;
+      follow = follow_stays sizes words new states r.state h.follow;
+      loads = h.loads;
+      answers = rw r.state h.answers;
     }

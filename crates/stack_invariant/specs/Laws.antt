@@ -1,9 +1,10 @@
 -- the opening meets the invariant of the shared stack, steps keep it, and what it gives
 use Rattle.std.specs.Prelude.{◌≡◌, ℕ, ◌<◌, ◌≤◌, Bool, true, List}
-use Rattle.word_layout.specs.Sizes.{Sizes, IsShape}
+use Rattle.word_layout.specs.Sizes.{Sizes, IsShape, blocks}
 use Rattle.word_layout.specs.Names.{InRange, word_at}
-use Rattle.word_layout.specs.Packing.{most_age}
+use Rattle.word_layout.specs.Packing.{most_age, reply_of}
 use Rattle.word_layout.specs.declared.announced.Wish.{Wish}
+use Rattle.word_layout.specs.declared.reply.Reply.TheVariants.{Nothing}
 use Rattle.word_layout.specs.declared.name.WordName.{WordName}
 use Rattle.word_layout.specs.declared.name.WordName.TheVariants.{State}
 use Rattle.transfer_machine.specs.Machine.{action_of, met_of, begun, CanAct, CanMeet}
@@ -13,12 +14,14 @@ use Rattle.transfer_machine.specs.declared.transfer.TransferView.{TransferView}
 use Rattle.transfer_machine.specs.declared.stage.NextStep.{NextStep}
 use Rattle.transfer_machine.specs.declared.stage.NextStep.TheVariants.{Rest, Try, LoadReply}
 use Rattle.transfer_machine.specs.declared.stage.TryStep.TheVariants.{ExchangeState}
-use Rattle.transfer_invariant.specs.Memory.{Words, Views, States, Acted, Moved}
+use Rattle.transfer_invariant.specs.Memory.{Words, Views, States, Acted, Moved, state_tag}
+use Rattle.transfer_invariant.specs.Progress.{has_announced}
 use Rattle.transfer_invariant.specs.OpeningState.{opening_state}
 use Rattle.transfer_invariant.specs.Installing.{states_after}
 use Rattle.helping_invariant.specs.Parts.{has_tried}
 use Rattle.stack_invariant.specs.Stack.{StackHolds, Supplied, is_stack_word}
 use Rattle.stack_invariant.specs.Shown.{Shows, SameContent, TableShows}
+use Rattle.stack_invariant.specs.Emptied.{MetNothing}
 use Rattle.stack_invariant.specs.Gives.{present, next_by, Installs, ReplyIsPresent, ProcessHolds}
 
 -- the words and views of the opening meet the invariant, with the state of the opening
@@ -80,6 +83,24 @@ RepliesAreAnswers =
     → StackHolds sizes words views states
     → (views i).next ≡ LoadReply
     → ReplyIsPresent sizes words states i (views i)
+
+-- all heads of all states so far are blocks
+abbrev pub StatesAreBlocks : Type 0
+StatesAreBlocks =
+    (sizes : Sizes) (words : Words) (views : Views) (states : States) (m place : ℕ) → IsShape sizes
+    → StackHolds sizes words views states
+    → 1 ≤ m → m ≤ state_tag words → place < (states m).height
+    → (states m).content place < blocks sizes
+
+-- a transfer that is applied and said nothing was a take, which was applied to an empty content
+abbrev pub EmptyTakesMetNothing : Type 0
+EmptyTakesMetNothing =
+    (sizes : Sizes) (words : Words) (views : Views) (states : States) (i : ℕ) → IsShape sizes → i < sizes.processes
+    → StackHolds sizes words views states
+    → has_announced (views i).next ≡ true
+    → (present words states).applied i ≡ (views i).age
+    → reply_of ((present words states).reply i) ≡ Nothing
+    → MetNothing sizes words states i (views i)
 
 -- of each process
 abbrev pub EachProcessHolds : Type 0

@@ -3,6 +3,7 @@
 ghost use Rattle.stack_invariant.specs.Laws.{OpeningMeetsStack, BeginningsKeepStack, StepsKeepStack, StackStepsCanBeMade};
 ghost use Rattle.stack_invariant.specs.Laws.{OtherWordsKeepStack, InstalledIsNext, RepliesAreAnswers, EachProcessHolds};
 ghost use Rattle.stack_invariant.specs.Laws.{TriesApply, WordsShowState, TablesShowState, StepsMoveContent};
+ghost use Rattle.stack_invariant.specs.Laws.{StatesAreBlocks, EmptyTakesMetNothing};
 
 /// The words and views of the opening meet the invariant, with the opening state.
 pub fn opening()
@@ -49,6 +50,16 @@ pub fn processes()
 /// A transfer is applied once its two tries are over, whoever applied it.
 pub fn tries()
     ensures { TriesApply }
+{}
+
+/// All heads of all states so far are blocks.
+pub fn states()
+    ensures { StatesAreBlocks }
+{}
+
+/// A transfer that was answered with nothing was a take, which an exchange applied to an empty content.
+pub fn empty_takes()
+    ensures { EmptyTakesMetNothing }
 {}
 
 /// The words show the present state.

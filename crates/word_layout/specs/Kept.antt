@@ -1,13 +1,8 @@
 -- what a shape keeps
-use Rattle.std.specs.Prelude.{◌≡◌, ℕ}
+use Rattle.std.specs.Prelude.{◌≡◌}
 use Rattle.word_layout.specs.Sizes.{Sizes, IsShape}
 use Rattle.word_layout.specs.Names.{slots_start, nexts_start, data_start}
 use Rattle.word_layout.specs.declared.shape.Shape.TheInside.{Inside}
-
--- numbers one by one
-abbrev pub sizes : ℕ → ℕ → ℕ → ℕ → ℕ → Sizes
-sizes processes batches words quantum length =
-    record { processes = processes; batches = batches; words = words; quantum = quantum; length = length }
 
 -- the numbers of a shape
 abbrev pub sizes_of : Inside → Sizes

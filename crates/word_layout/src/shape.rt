@@ -58,9 +58,11 @@ impl Model for Shape {
 }
 
 impl Shape {
-    ghost use Rattle.word_layout.specs.Sizes.{Sizes, IsShape, blocks, limits_of, transfer_bound};
-    ghost use Rattle.word_layout.specs.Kept.{sizes};
-    ghost use Rattle.pool_model.specs.Limits.{slack};
+    ghost use Rattle.std.specs.Prelude.{ℕ, List};
+    ghost use Rattle.word_layout.specs.Sizes.{Sizes, IsShape, sizes, blocks, limits_of, transfer_bound};
+    ghost use Rattle.pool_model.specs.declared.entry.Entry.{Entry};
+    ghost use Rattle.pool_model.specs.Limits.{greatest_slack};
+    ghost use Rattle.pool_model.specs.History.{slack};
 
     /// The most processes of a pool.
     const MOST_PROCESSES: u32 = 32;
@@ -199,9 +201,11 @@ impl Shape {
         self.batches * self.length
     }
 
-    /// How many blocks may be unheld at most at some moment shortly before a refusal.
+    /// How many blocks may be unheld at most at some moment shortly before a refusal: the slack of that moment
+    /// is never more.
     pub fn slack(&self) -> u32
-        ensures { result ≡ slack (limits_of self.now) }
+        ensures value { result ≡ greatest_slack (limits_of self.now) }
+        ensures greatest { (history : List Entry) (place : ℕ) → slack (limits_of self.now) history place ≤ result }
     {
         5 * self.processes * self.length
     }

@@ -1,5 +1,5 @@
 use Rattle.std.proofs.Common.{◌<◌, ◌^◌, subst}
-use Rattle.word_layout.proofs.Starts.{data_start_lt}
+use Rattle.word_layout.proofs.Limits.{data_start_lt}
 use Rattle.word_layout.proofs.shape.Shape.data_start.Goals as goal
 
 pub returns-clause-small : goal.returns-clause-small

@@ -1,5 +1,5 @@
 use Rattle.std.proofs.Common.{◌<◌, ◌^◌, subst}
-use Rattle.word_layout.proofs.Starts.{nexts_start_lt}
+use Rattle.word_layout.proofs.Limits.{nexts_start_lt}
 use Rattle.word_layout.proofs.shape.Shape.nexts_start.Goals as goal
 
 pub returns-clause-small : goal.returns-clause-small

@@ -1,7 +1,6 @@
 use Rattle.std.proofs.Common.{◌<◌, ◌^◌, subst, arith}
 use Rattle.word_layout.specs.Sizes.{IsShape}
-use Rattle.word_layout.proofs.Limits.{batches_le_blocks}
-use Rattle.word_layout.proofs.Starts.{slots_start_lt}
+use Rattle.word_layout.proofs.Limits.{batches_le_blocks, slots_start_lt}
 use Rattle.word_layout.proofs.shape.Shape.slots_start.Goals as goal
 
 pub returns-clause-small : goal.returns-clause-small
