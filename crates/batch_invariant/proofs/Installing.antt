@@ -105,10 +105,10 @@ next_carried sizes s views announcements (suc k) le fits present =
     (present k (omega arith))) refl)
 
 -- so does the state that a view installs
-pub planned_carried : (sizes : Sizes) (s : StackState) (views : ProcessViews) (v : TransferView) → HeadsFit sizes s views
+pub drafted_carried : (sizes : Sizes) (s : StackState) (views : ProcessViews) (v : TransferView) → HeadsFit sizes s views
     → InstallsNext sizes s views v
     → Carried sizes s (drafted_state s v) views
-planned_carried sizes s views v fits installs =
+drafted_carried sizes s views v fits installs =
     let announcements = λ (o : ℕ). slice_index v.loaded.announcements o in
     let next = next_of sizes.processes announcements s in
     carried_on sizes s next (drafted_state s v) views (next_carried sizes s views announcements sizes.processes

@@ -38,8 +38,8 @@ abbrev pub SameStatesCarry : Type 0
 SameStatesCarry = (sizes : Sizes) (s t : StackState) (views : ProcessViews) → SameStack sizes.processes s t → Carried sizes s t views
 
 -- and the state that a view installs
-abbrev pub PlannedStatesCarry : Type 0
-PlannedStatesCarry = (sizes : Sizes) (s : StackState) (views : ProcessViews) (v : TransferView)
+abbrev pub DraftedStatesCarry : Type 0
+DraftedStatesCarry = (sizes : Sizes) (s : StackState) (views : ProcessViews) (v : TransferView)
     → HeadsFit sizes s views
     → InstallsNext sizes s views v
     → Carried sizes s (drafted_state s v) views

@@ -1,5 +1,5 @@
 //! What transfers move. Each law is the contract of a call that does nothing.
-ghost use Rattle.batch_invariant.specs.Laws.{BeginningsKeepBatches, StepsKeepBatches, NextStatesCarry, SameStatesCarry, PlannedStatesCarry};
+ghost use Rattle.batch_invariant.specs.Laws.{BeginningsKeepBatches, StepsKeepBatches, NextStatesCarry, SameStatesCarry, DraftedStatesCarry};
 
 /// A process that begins a transfer keeps its batches, and so does one whose transfer makes a step, in a state that stays.
 pub fn views()
@@ -12,5 +12,5 @@ pub fn views()
 pub fn states()
     ensures next { NextStatesCarry }
     ensures same { SameStatesCarry }
-    ensures drafted { PlannedStatesCarry }
+    ensures drafted { DraftedStatesCarry }
 {}

@@ -22,6 +22,7 @@ use Rattle.pool_machine.specs.declared.view.PoolView.{PoolView}
 use Rattle.pool_machine.specs.declared.view.ProcessView.{ProcessView}
 use Rattle.transfer_invariant.specs.Progress.{has_announced}
 use Rattle.pool_machine.specs.Beginning.{newest, due, begun_if_due, before_call, first_stage, entered, call_begun}
+use Rattle.pool_machine.specs.Conditions.{IsYoungFor}
 use Rattle.pool_machine.proofs.Plans.{choice_is_the_plans}
 use Rattle.pool_invariant.specs.Stages.{is_moving}
 use Rattle.pool_invariant.specs.Kept.{PoolKept}
@@ -117,11 +118,11 @@ enters_call sizes i x call g changes some plan phase h = record {
 }
 
 -- how its account goes on
-begun_draft : (a : Account) (idle rests : Bool) → (account_begun_by idle rests a).plan ≡ after_choice a.plan
-begun_draft a true true = refl
-begun_draft a true false = refl
-begun_draft a false true = refl
-begun_draft a false false = refl
+begun_plan : (a : Account) (idle rests : Bool) → (account_begun_by idle rests a).plan ≡ after_choice a.plan
+begun_plan a true true = refl
+begun_plan a true false = refl
+begun_plan a false true = refl
+begun_plan a false false = refl
 
 begun_account_phase : (a : Account) (idle rests : Bool) → (account_begun_by idle rests a).phase ≡ (if rests then schedule.Own else schedule.Moving 0)
 begun_account_phase a true true = refl
@@ -151,7 +152,7 @@ changing_begun sizes i v g call changes some between young h =
     record {
       goes = begun_goes g idle rests refl refl (between_phase sizes i v g h between);
       calls = enters_call sizes i x call (record g { account = account_begun a }) changes some
-          (begun_draft a idle rests ∙ chosen)
+          (begun_plan a idle rests ∙ chosen)
           (begun_account_phase a idle rests ∙ ap (λ plan. if is_idle plan.pending then schedule.Own else schedule.Moving 0) chosen)
           (enters_if_due sizes v (due v.pool) refl young (record { runs = h.runs; heads = h.heads; announced = h.announced }));
     }
@@ -175,6 +176,13 @@ keeping_begun sizes i v g call keeps between h = record {
     kept_phase (Free block) e = grind arith
     kept_phase (Read block index) e = refl
     kept_phase (Write block index value) e = refl
+
+-- a call that changes the pool begins only at an age below the limit
+pub young_to_change : (v : ProcessView) (call : Call) → changes_pool (Some call) ≡ true → IsYoungFor call v → v.transfer.age < most_age
+young_to_change v Allocate changes young = young
+young_to_change v (Free block) changes young = young
+young_to_change v (Read block index) changes young = grind arith
+young_to_change v (Write block index value) changes young = grind arith
 
 -- each call begins
 pub changing_call_begins : (sizes : Sizes) (i : ℕ) (v : ProcessView) (g : Ledger) (call : Call) → changes_pool (Some call) ≡ true → 0 < sizes.quantum → v.calls.stage ≡ Between

@@ -24,27 +24,27 @@ use Rattle.chain_invariant.proofs.Places.{head_once}
 use Rattle.chain_invariant.proofs.Counts.{content_low, spare_low, transit_low, begun_low, pending_low, current_is_free, current_code, current_next, head_is_free, head_next, held_apart, room}
 
 -- the drafted overlay stands above the drafted base
-planned_height : (s : StackState) (v : TransferView) → (drafted_state s v).height ≡ v.draft.base + v.draft.overlay
+drafted_height : (s : StackState) (v : TransferView) → (drafted_state s v).height ≡ v.draft.base + v.draft.overlay
 unfolding drafted_state
-planned_height s v = refl
+drafted_height s v = refl
 
 overlay_above : (base k low : ℕ) (high : ℕ → ℕ) → (if nat_lt (base + k) base then low else high (base + k - base)) ≡ high k
 overlay_above base k low high =
     let test : nat_lt (base + k) base ≡ false = grind (arith, nat_tests) in
     let place : base + k - base ≡ k = omega arith in rw (test, place) refl
 
-planned_overlay : (s : StackState) (v : TransferView) (k : ℕ) → (drafted_state s v).content (v.draft.base + k) ≡ slice_index v.draft.heads k
+drafted_overlay : (s : StackState) (v : TransferView) (k : ℕ) → (drafted_state s v).content (v.draft.base + k) ≡ slice_index v.draft.heads k
 unfolding drafted_state
-planned_overlay s v k = overlay_above v.draft.base k (s.content (v.draft.base + k)) (λ place. slice_index v.draft.heads place)
+drafted_overlay s v k = overlay_above v.draft.base k (s.content (v.draft.base + k)) (λ place. slice_index v.draft.heads place)
 
--- so a plan has room where the state that it makes has
+-- so a draft has room where the state that it makes has
 drafted_fits : (sizes : Sizes) (s : StackState) (v : TransferView) → (drafted_state s v).height ≤ sizes.batches
     → ((place : ℕ) → place < (drafted_state s v).height → (drafted_state s v).content place < blocks sizes) → DraftFits sizes v.draft
 drafted_fits sizes s v within low =
-    let height = planned_height s v in
+    let height = drafted_height s v in
     record {
       within = omega (arith, height, within);
-      heads = λ k lt. omega (arith, planned_overlay s v k, low (v.draft.base + k) (omega (arith, height)));
+      heads = λ k lt. omega (arith, drafted_overlay s v k, low (v.draft.base + k) (omega (arith, height)));
     }
 
 pub some_long : (sizes : Sizes) → IsShape sizes → 1 ≤ sizes.length
@@ -103,9 +103,9 @@ module _ (sizes : Sizes) (words : Words) (s : StackState) (views : ProcessViews)
     pending_low sizes words s views chains.batch_blocks chains.current_blocks held chains.hold i long li,
   )
 
-  pub plans_have_room : (v : TransferView) → IsShape sizes → Chains sizes words s views held → InstallsNext sizes s views v
+  pub drafts_have_room : (v : TransferView) → IsShape sizes → Chains sizes words s views held → InstallsNext sizes s views v
       → DraftFits sizes v.draft
-  plans_have_room v shape chains installs =
+  drafts_have_room v shape chains installs =
       let long = some_long sizes shape in
       let hold = installs_carry sizes words s views chains.batch_blocks chains.current_blocks held v shape chains.hold installs in
       drafted_fits sizes s v (room sizes words (drafted_state s v) views chains.batch_blocks chains.current_blocks held hold long)

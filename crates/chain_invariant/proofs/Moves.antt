@@ -27,7 +27,7 @@ use Rattle.batch_invariant.specs.Transit.{HeadsFit, Carried, is_large}
 use Rattle.batch_invariant.specs.Premises.{InStep, PendingIsPresent, InstallsNext}
 use Rattle.batch_invariant.proofs.Transit.{small_where}
 use Rattle.batch_invariant.proofs.Steps.{stage_keeps, begun_keeps}
-use Rattle.batch_invariant.proofs.Installing.{next_carried, planned_carried}
+use Rattle.batch_invariant.proofs.Installing.{next_carried, drafted_carried}
 use Rattle.chain_invariant.specs.Chains.{BlockLists, ChainsHold, NextsStay, pool_weight, blocks_weight, is_head}
 use Rattle.chain_invariant.specs.Steps.{SameParts}
 use Rattle.chain_invariant.proofs.Lists.{chain_stays}
@@ -195,4 +195,4 @@ pub installs_carry : (sizes : Sizes) (words : Words) (s : StackState) (views : P
     → ChainsHold sizes words (drafted_state s v) views batch_blocks current_blocks held_blocks
 installs_carry sizes words s views batch_blocks current_blocks held_blocks v shape hold installs =
     carried_chains sizes words s (drafted_state s v) views batch_blocks current_blocks held_blocks hold
-    (planned_carried sizes s views v (chains_fit sizes words s views batch_blocks current_blocks held_blocks shape hold) installs)
+    (drafted_carried sizes s views v (chains_fit sizes words s views batch_blocks current_blocks held_blocks shape hold) installs)

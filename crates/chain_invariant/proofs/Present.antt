@@ -29,13 +29,13 @@ same_words : (a b : ℕ) → (a == b) ≡ true → a ≡ b
 same_words a b h = grind (arith, nat_tests)
 
 -- where the present state is the one that a view loaded, its next record is a row, and the state that it drafted has a property
-abbrev PlannedHas : (StackState → Type 0) → Words → TransferView → States → Type 0
-PlannedHas P m v states = m State ≡ v.loaded.state → (v.next_record < value_limit) × P (drafted_state (states (state_tag m)) v)
+abbrev DraftedHas : (StackState → Type 0) → Words → TransferView → States → Type 0
+DraftedHas P m v states = m State ≡ v.loaded.state → (v.next_record < value_limit) × P (drafted_state (states (state_tag m)) v)
 
 -- the state is exchanged, or not
 exchange_holds_after : (P : StackState → Type 0) (sizes : Sizes) (m n : Words) (v : TransferView) (states : States) (t : Bool)
     → P (states (state_tag m))
-    → PlannedHas P m v states
+    → DraftedHas P m v states
     → (m State == v.loaded.state) ≡ t
     → Acted sizes (Exchange State v.loaded.state (next_state v)) m n
     → P ((if t then states_with_drafted m v states else states) (state_tag n))
@@ -54,7 +54,7 @@ exchange_holds_after P sizes m n v states false holds installs test a =
 -- what holds of the present state and of a state that the step installs holds of the present state after a step of a try
 try_holds_after : (P : StackState → Type 0) (sizes : Sizes) (m n : Words) (v : TransferView) (states : States) (step : TryStep)
     → P (states (state_tag m))
-    → (step ≡ ExchangeState → PlannedHas P m v states)
+    → (step ≡ ExchangeState → DraftedHas P m v states)
     → Acted sizes (try_action sizes v step) m n
     → P (states_after_try_step m v states step (state_tag n))
 try_holds_after P sizes m n v states LoadState holds installs a = rw (leaves_records sizes (Load State) m n a refl).state holds
@@ -75,7 +75,7 @@ try_holds_after P sizes m n v states ExchangeState holds installs a =
 -- the same of any step of a transfer
 pub holds_after : (P : StackState → Type 0) (sizes : Sizes) (m n : Words) (v : TransferView) (states : States) (stage : NextStep)
     → P (states (state_tag m))
-    → ((second : Bool) → stage ≡ Try second ExchangeState → PlannedHas P m v states)
+    → ((second : Bool) → stage ≡ Try second ExchangeState → DraftedHas P m v states)
     → Acted sizes (action_at sizes v stage) m n
     → P (states_after_at m v states stage (state_tag n))
 holds_after P sizes m n v states Rest holds installs a = rw (leaves_records sizes (Load State) m n a refl).state holds

@@ -1,6 +1,6 @@
 //! Each block is at one place. Each law is the contract of a call that does nothing.
 ghost use Rattle.chain_invariant.specs.Calls.{CallsBeginWithChains, OwnStepsKeepChains, GotBlocksAreFree, OwnStepsCanBeMade, SameHeldKeepChains};
-ghost use Rattle.chain_invariant.specs.Laws.{OpeningHasChains, BeginningsKeepChains, StepsKeepChains, NextStatesKeepChains, SameStatesKeepChains, TransfersKeepChains, QuietStepsKeepChains, LeavingKeepsChains, OpeningASpareKeepsChains, ComingKeepsChains, StartingKeepsChains, CurrentListsAreFree, SparesAreFree, HeldAreApart, BlocksAreOnce, StackHasRoom, HeadsAreBlocks, HeadsAreApart, GivesAreBlocks, PlansHaveRoom, EndsAnswerWishes, BlocksAreCounted, KeptIsWithheld, FewAreFree, EmptyTakesFindFew};
+ghost use Rattle.chain_invariant.specs.Laws.{OpeningHasChains, BeginningsKeepChains, StepsKeepChains, NextStatesKeepChains, SameStatesKeepChains, TransfersKeepChains, QuietStepsKeepChains, LeavingKeepsChains, OpeningASpareKeepsChains, ComingKeepsChains, StartingKeepsChains, CurrentListsAreFree, SparesAreFree, HeldAreApart, BlocksAreOnce, StackHasRoom, HeadsAreBlocks, HeadsAreApart, GivesAreBlocks, DraftsHaveRoom, EndsAnswerWishes, BlocksAreCounted, KeptIsWithheld, FewAreFree, EmptyTakesFindFew};
 
 /// At the opening each block is at one place.
 pub fn opening()
@@ -57,9 +57,9 @@ pub fn heads()
     ensures gives { GivesAreBlocks }
 {}
 
-/// A plan that is installed has room: all its places are slots, and its heads are blocks.
+/// A draft that is installed has room: all its places are slots, and its heads are blocks.
 pub fn plans()
-    ensures { PlansHaveRoom }
+    ensures { DraftsHaveRoom }
 {}
 
 /// A transfer ends with a reply to its wish.

@@ -3,8 +3,8 @@ use Rattle.std.proofs.Common.{◌≡◌, ℕ, ◌<◌, ◌≤◌, refl, ◌∙�
 use Rattle.std.specs.List.{Contains}
 use Rattle.std.proofs.lemmas.Bool.{cases_eq}
 use Rattle.pool_model.specs.declared.entry.Entry.{Entry}
-use Rattle.pool_model.specs.Limits.{Limits, slack}
-use Rattle.pool_model.specs.History.{own, held, unheld, grip}
+use Rattle.pool_model.specs.Limits.{Limits}
+use Rattle.pool_model.specs.History.{own, held, HasFewUnheld, grip}
 use Rattle.pool_model.proofs.Histories.{each_entry_none}
 use Rattle.pool_model.specs.Legal.{MayFollow, HasNet}
 use Rattle.transfer_schedule.specs.Account.{opens}
@@ -41,7 +41,7 @@ opening_holds limits bound quantum ledgers opened = record {
 -- an exchange: the place of a take that found nothing is the present one
 pub few_now : (limits : Limits) (history : List Entry) (start : ℕ)
     → start ≤ length history
-    → unheld limits history (length history) ≤ slack limits
+    → HasFewUnheld limits history (length history)
     → HadFewSince limits history start
 few_now limits history start le few = record { place = length history; after = le; within = omega arith; few = few }
 

@@ -1,5 +1,5 @@
 -- A legal history shares the held blocks out among the grips of the processes.
-use Rattle.std.proofs.Common.{◌≡◌, ◌≢◌, ℕ, ◌+◌, ◌<◌, ◌≤◌, cond, refl, sym, ◌∙◌, ap, subst, inl, inr, arith, zero, suc, List, [], ◌∷◌, ◌++◌, length, take, get_or, Some}
+use Rattle.std.proofs.Common.{◌≡◌, ◌≢◌, ℕ, ◌+◌, ◌<◌, ◌≤◌, cond, refl, sym, ap, subst, inl, inr, arith, zero, suc, List, [], ◌∷◌, ◌++◌, length, take, get_or, Some}
 use Rattle.std.specs.Prelude.{slice_get}
 use Rattle.std.specs.List.{count_by}
 use Rattle.std.proofs.Math.Seq.{take-length, take-suc}
@@ -10,7 +10,7 @@ use Rattle.pool_model.specs.declared.entry.Entry.TheVariants.{Got, Back, Dry}
 use Rattle.pool_model.specs.Limits.{Limits}
 use Rattle.pool_model.specs.History.{process_of, own, held_after, held, grip, is_got, is_back}
 use Rattle.pool_model.specs.Legal.{MayFollow, EachEntry, IsLegal}
-use Rattle.pool_model.proofs.Histories.{held_more, own_more, own_other}
+use Rattle.pool_model.proofs.Histories.{held_more, grip_more, own_more, own_other, own_grip_more, own_grip_other}
 use Rattle.history_invariant.specs.Grips.{times, GripsAreHeld, Balances}
 use Rattle.history_invariant.proofs.Times.{length_without, times_contained}
 use Rattle.history_invariant.proofs.Grips.{grips_got, grips_back, grips_same, grips_none, grip_once}
@@ -24,18 +24,14 @@ pub record Shared (limits : Limits) (history : List Entry) : Type 0 where
   pub grips : GripsAreHeld limits (held history) (grips_of history)
   pub balance : (i : ℕ) → i < limits.processes → Balances (own history i)
 
--- the grip of the process that makes an entry, and those of all others
-grip_more : (history : List Entry) (entry : Entry)
-    → grips_of (history ++ entry ∷ []) (process_of entry) ≡ held_after (grips_of history (process_of entry)) entry
-grip_more history entry = ap held (own_more history entry (process_of entry) refl) ∙ held_more (own history (process_of entry)) entry
-
-grip_other : (history : List Entry) (entry : Entry) (o : ℕ) → o ≢ process_of entry → grips_of (history ++ entry ∷ []) o ≡ grips_of history o
-grip_other history entry o ne = ap held (own_other history entry o (λ e. ne (sym e)))
+-- an entry leaves the grips of all other processes
+grip_stays : (history : List Entry) (entry : Entry) (o : ℕ) → o ≢ process_of entry → grips_of (history ++ entry ∷ []) o ≡ grips_of history o
+grip_stays history entry o ne = own_grip_other history entry o (λ e. ne (sym e))
 
 grip_refused : (history : List Entry) (by o : ℕ) → grips_of (history ++ Dry by ∷ []) o ≡ grips_of history o
 grip_refused history by o = elim (cases_eq o by) [
-  | inl e ↦ rw e (grip_more history (Dry by))
-  | inr ne ↦ grip_other history (Dry by) o ne
+  | inl e ↦ rw e (own_grip_more history (Dry by) by refl)
+  | inr ne ↦ grip_stays history (Dry by) o ne
 ]
 
 -- an entry that may follow keeps the held blocks shared out
@@ -43,10 +39,10 @@ shares_more : (limits : Limits) (history : List Entry) (entry : Entry) → Share
     → GripsAreHeld limits (held_after (held history) entry) (grips_of (history ++ entry ∷ []))
 shares_more limits history (Got by block) s may =
     grips_got limits by block (held history) (grips_of history) (grips_of (history ++ Got by block ∷ [])) may.0 may.1 may.2 s.grips
-    (grip_more history (Got by block)) (λ o lo. grip_other history (Got by block) o)
+    (own_grip_more history (Got by block) by refl) (λ o lo. grip_stays history (Got by block) o)
 shares_more limits history (Back by block) s may =
     grips_back limits by block (held history) (grips_of history) (grips_of (history ++ Back by block ∷ [])) may.0 may.1 s.grips
-    (grip_more history (Back by block)) (λ o lo. grip_other history (Back by block) o)
+    (own_grip_more history (Back by block) by refl) (λ o lo. grip_stays history (Back by block) o)
 shares_more limits history (Dry by) s may =
     grips_same limits (held history) (grips_of history) (grips_of (history ++ Dry by ∷ [])) s.grips (grip_refused history by)
 
@@ -62,25 +58,25 @@ backs_more entries entry = sum_by_push (λ e. cond (is_back e) 1 0) entries entr
 -- the own entries of the process that makes the entry balance
 got_balances : (entries : List Entry) (by block : ℕ) → Balances entries → Balances (entries ++ Got by block ∷ [])
 got_balances entries by block b =
-    omega (arith, b, gots_more entries (Got by block), backs_more entries (Got by block), ap length (held_more entries (Got by block)))
+    omega (arith, b, gots_more entries (Got by block), backs_more entries (Got by block), ap length (grip_more entries (Got by block)))
 
 back_balances : (entries : List Entry) (by block : ℕ)
-    → times block (held entries) ≡ 1
+    → times block (grip entries) ≡ 1
     → Balances entries
     → Balances (entries ++ Back by block ∷ [])
 back_balances entries by block one b = omega (
   arith,
   b,
   one,
-  length_without block (held entries),
+  length_without block (grip entries),
   gots_more entries (Back by block),
   backs_more entries (Back by block),
-  ap length (held_more entries (Back by block)),
+  ap length (grip_more entries (Back by block)),
 )
 
 dry_balances : (entries : List Entry) (by : ℕ) → Balances entries → Balances (entries ++ Dry by ∷ [])
 dry_balances entries by b =
-    omega (arith, b, gots_more entries (Dry by), backs_more entries (Dry by), ap length (held_more entries (Dry by)))
+    omega (arith, b, gots_more entries (Dry by), backs_more entries (Dry by), ap length (grip_more entries (Dry by)))
 
 mine_balances : (limits : Limits) (history : List Entry) (entry : Entry) → Shared limits history → MayFollow limits history entry
     → Balances (own history (process_of entry) ++ entry ∷ [])

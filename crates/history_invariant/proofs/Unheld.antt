@@ -2,13 +2,13 @@
 use Rattle.std.proofs.Common.{ℕ, ◌+◌, ◌*◌, ◌<◌, ◌≤◌, arith, List, length}
 use Rattle.std.proofs.Math.Seq.{take-length}
 use Rattle.pool_model.specs.declared.entry.Entry.{Entry}
-use Rattle.pool_model.specs.Limits.{Limits, slack}
-use Rattle.pool_model.specs.History.{held, unheld}
+use Rattle.pool_model.specs.Limits.{Limits}
+use Rattle.pool_model.specs.History.{held, allowance, HasFewUnheld}
 use Rattle.transfer_schedule.specs.Numbers.{AreSizes, withheld}
 use Rattle.transfer_schedule.specs.Account.{Account, Reached}
 use Rattle.transfer_schedule.proofs.Reaching.{reached_stands, reached_sizes, stands_withholds}
 use Rattle.process_sums.specs.Sums.{total}
-use Rattle.process_sums.proofs.Sums.{total_at_most}
+use Rattle.process_sums.proofs.Sums.{total_le}
 use Rattle.history_invariant.specs.Ledger.{Ledgers}
 use Rattle.history_invariant.specs.Holds.{HistoryHolds}
 
@@ -20,13 +20,13 @@ withholds_five : (length bound quantum : ℕ) (a : Account)
 withholds_five length bound quantum a sizes r =
     omega (arith, stands_withholds a (reached_stands length bound quantum a sizes r), (reached_sizes length bound quantum a r).0)
 
--- where each block is held or withheld, and each process withholds five batches at most, at most the slack is unheld
-pub five_leave_few : (limits : Limits) (history : List Entry) (kept : ℕ → ℕ)
-    → ((i : ℕ) → i < limits.processes → kept i ≤ 5 * limits.batch_length)
+-- where each block is held or withheld, and each process withholds at most its allowance, at most the slack is unheld
+pub allowances_leave_few : (limits : Limits) (history : List Entry) (kept : ℕ → ℕ)
+    → ((i : ℕ) → i < limits.processes → kept i ≤ allowance limits history i)
     → limits.blocks ≤ length (held history) + total limits.processes kept
-    → unheld limits history (length history) ≤ slack limits
-five_leave_few limits history kept five all =
-    let few = total_at_most (5 * limits.batch_length) limits.processes kept five in
+    → HasFewUnheld limits history (length history)
+allowances_leave_few limits history kept each all =
+    let few = total_le limits.processes kept (allowance limits history) each in
     rw (take-length history) (omega (arith, few))
 
 -- the processes of a history withhold five batches at most
@@ -34,7 +34,7 @@ pub few_unheld : (limits : Limits) (bound quantum : ℕ) (history : List Entry) 
     → AreSizes limits.batch_length bound quantum
     → HistoryHolds limits bound quantum history ledgers
     → limits.blocks ≤ length (held history) + total limits.processes (λ i. withheld (ledgers i).account.plan)
-    → unheld limits history (length history) ≤ slack limits
+    → HasFewUnheld limits history (length history)
 few_unheld limits bound quantum history ledgers sizes h all =
-    five_leave_few limits history (λ i. withheld (ledgers i).account.plan)
+    allowances_leave_few limits history (λ i. withheld (ledgers i).account.plan)
     (λ i li. withholds_five limits.batch_length bound quantum (ledgers i).account sizes (h.each i li).reached) all

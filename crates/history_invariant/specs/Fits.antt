@@ -1,8 +1,8 @@
 -- how the ledger of a process fits the one history
 use Rattle.std.specs.Prelude.{◌≡◌, ℕ, ◌≤◌, true, List, length, take, count_by}
 use Rattle.pool_model.specs.declared.entry.Entry.{Entry}
-use Rattle.pool_model.specs.Limits.{Limits, slack}
-use Rattle.pool_model.specs.History.{own, unheld, is_got, is_back}
+use Rattle.pool_model.specs.Limits.{Limits}
+use Rattle.pool_model.specs.History.{own, HasFewUnheld, is_got, is_back}
 use Rattle.transfer_schedule.specs.Numbers.{is_taking}
 use Rattle.transfer_schedule.specs.Account.{Account, Reached}
 use Rattle.history_invariant.specs.Ledger.{Ledger, IsAnnounced}
@@ -31,7 +31,7 @@ pub record HadFewSince (limits : Limits) (history : List Entry) (start : ℕ) : 
   pub place : ℕ
   pub after : start ≤ place
   pub within : place ≤ length history
-  pub few : unheld limits history place ≤ slack limits
+  pub few : HasFewUnheld limits history place
 
 -- a take that found nothing had a moment since its announcement when few blocks were unheld: the pending one, and the last
 -- ended one where the plan says dry

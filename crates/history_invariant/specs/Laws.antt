@@ -2,8 +2,8 @@
 use Rattle.std.specs.Prelude.{◌≡◌, ◌≢◌, ℕ, ◌+◌, ◌<◌, ◌≤◌, List, [], ◌∷◌, ◌++◌, length, take, Contains}
 use Rattle.pool_model.specs.declared.entry.Entry.{Entry}
 use Rattle.pool_model.specs.declared.entry.Entry.TheVariants.{Got, Back, Dry}
-use Rattle.pool_model.specs.Limits.{Limits, slack}
-use Rattle.pool_model.specs.History.{held, unheld, grip}
+use Rattle.pool_model.specs.Limits.{Limits}
+use Rattle.pool_model.specs.History.{held, HasFewUnheld, grip}
 use Rattle.pool_model.specs.Legal.{IsLegal}
 use Rattle.transfer_schedule.specs.declared.own_step.Source.TheVariants.{Nothing}
 use Rattle.transfer_schedule.specs.Numbers.{AreSizes, source_of, withheld}
@@ -87,7 +87,7 @@ EmptyStackLeavesFew = (limits : Limits) (bound quantum : ℕ) (history : List En
     → AreSizes limits.batch_length bound quantum
     → HistoryHolds limits bound quantum history ledgers
     → limits.blocks ≤ length (held history) + total limits.processes (λ i. withheld (ledgers i).account.plan)
-    → unheld limits history (length history) ≤ slack limits
+    → HasFewUnheld limits history (length history)
 
 -- the held blocks are shared out among the processes
 abbrev pub HeldBlocksAreShared : Type 0

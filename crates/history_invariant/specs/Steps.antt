@@ -1,8 +1,8 @@
 -- how the ledgers move on: by steps that make no entry, by exchanges of the state, and by entries
 use Rattle.std.specs.Prelude.{◌≡◌, ◌≢◌, ◌==◌, ℕ, ◌+◌, ◌<◌, ◌≤◌, Bool, true, false, if◌then◌else◌, List, [], ◌∷◌, ◌++◌, length}
 use Rattle.pool_model.specs.declared.entry.Entry.{Entry}
-use Rattle.pool_model.specs.Limits.{Limits, slack}
-use Rattle.pool_model.specs.History.{unheld}
+use Rattle.pool_model.specs.Limits.{Limits}
+use Rattle.pool_model.specs.History.{HasFewUnheld}
 use Rattle.transfer_schedule.specs.Numbers.{is_taking, is_giving}
 pub use Rattle.transfer_schedule.specs.Account.{stepped, ended_with, got_one, got_none, gave_back}
 use Rattle.transfer_schedule.specs.Account.{Account, Between, Moving, Follows}
@@ -45,7 +45,7 @@ pub data GoesOn (ledger : Ledger) : Ledger → Type 0 where
 -- what an exchange of the state makes of a ledger: nothing, or its take has found nothing, at a moment when few blocks are unheld
 pub data Emptied (limits : Limits) (history : List Entry) (ledger : Ledger) : Ledger → Type 0 where
   stays : Emptied limits history ledger ledger
-  empties : unheld limits history (length history) ≤ slack limits
+  empties : HasFewUnheld limits history (length history)
       → Emptied limits history ledger (record ledger { found_nothing = true })
 
 -- the process makes an entry, and so has seen the whole history

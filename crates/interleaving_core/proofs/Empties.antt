@@ -12,8 +12,7 @@ use Rattle.word_layout.specs.declared.reply.Reply.TheVariants.{Nothing, Took}
 use Rattle.word_layout.proofs.Packed.{reply_of-reply_value}
 use Rattle.process_sums.proofs.Sums.{total_le}
 use Rattle.pool_model.specs.declared.entry.Entry.{Entry}
-use Rattle.pool_model.specs.History.{held, unheld}
-use Rattle.pool_model.specs.Limits.{slack}
+use Rattle.pool_model.specs.History.{held, HasFewUnheld}
 use Rattle.transfer_schedule.specs.Numbers.{withheld, is_idle}
 use Rattle.transfer_schedule.specs.declared.pending.Pending.{Pending}
 use Rattle.transfer_schedule.specs.declared.pending.Pending.TheVariants.{Idle}
@@ -36,7 +35,7 @@ use Rattle.draft_invariant.proofs.NextState.{either_reply}
 use Rattle.chain_invariant.proofs.Gives.{some_long}
 use Rattle.stack_invariant.proofs.Emptied.{found_empty}
 use Rattle.interleaving_core.specs.Invariant.{Ghosts, Holds, held_in}
-use Rattle.interleaving_core.proofs.Joins.{keeps}
+use Rattle.interleaving_core.proofs.Joins.{withholds_few_at, keeps}
 
 idle_is : (p : Pending) → is_idle p ≡ true → p ≡ Idle
 idle_is p e = grind arith
@@ -47,7 +46,7 @@ pub few_at : (sizes : Sizes) (words : Words) (views : ProcessViews) (history : L
     → ((k : ℕ) → k < sizes.processes → PendingIsPresent (ghosts.states (state_tag words)) (announcements k) k (views k).transfer)
     → is_pending (announcements o) ((ghosts.states (state_tag words)).reply o) ≡ true
     → reply_of ((next_of sizes.processes announcements (ghosts.states (state_tag words))).reply o) ≡ Nothing
-    → unheld (limits_of sizes) history (length history) ≤ slack (limits_of sizes)
+    → HasFewUnheld (limits_of sizes) history (length history)
 few_at sizes words views history ghosts announcements o shape lo h present pending says =
     let s = ghosts.states (state_tag words) in
     let t = next_of o announcements s in
@@ -65,7 +64,7 @@ few_at sizes words views history ghosts announcements o shape lo h present pendi
     let most = total_le sizes.processes (λ i. kept_blocks sizes t i (views i)) (λ i. withheld (views i).pool.plan)
     (λ i li. withholds sizes t i (views i) (keeps sizes words views history ghosts i shape li h)) in
     let shared = held_shared (limits_of sizes) (transfer_bound sizes) sizes.quantum history ghosts.ledgers h.entries in
-    empty_stack_leaves_few sizes (limits_of sizes) history views refl (λ i li. keeps sizes words views history ghosts i shape li h)
+    empty_stack_leaves_few (limits_of sizes) history views (λ i li. withholds_few_at sizes words views history ghosts i shape li h)
     (enough (blocks sizes) _ _ _ (sizes.length * t.height) (length (held history)) counted (rw found.empty (omega arith)) most
     shared.grips.count)
   where

@@ -11,8 +11,8 @@ use Rattle.word_layout.specs.declared.announced.Wish.TheVariants.{Take, Give}
 use Rattle.word_layout.specs.declared.reply.Reply.{Reply}
 use Rattle.word_layout.specs.declared.reply.Reply.TheVariants.{Nothing, Took, Gave}
 use Rattle.pool_model.specs.declared.entry.Entry.{Entry}
-use Rattle.pool_model.specs.History.{own, unheld}
-use Rattle.pool_model.specs.Limits.{Limits, slack}
+use Rattle.pool_model.specs.History.{own, HasFewUnheld}
+use Rattle.pool_model.specs.Limits.{Limits}
 use Rattle.transfer_schedule.specs.Account.{opened}
 use Rattle.transfer_schedule.specs.Numbers.{Numbers, is_taking, after_take, after_end, after_steps, after_took_one, after_gave_one, opening}
 use Rattle.transfer_schedule.specs.declared.own_step.Source.{Source}
@@ -69,7 +69,7 @@ few_longer limits history tail ledger plan h = record {
 
 -- an exchange answers a take with nothing, at a moment when few blocks are unheld
 pub few_known : (limits : Limits) (history : List Entry) (t : Bool) (g : Ledger) (plan : Numbers)
-    → (t ≡ true → unheld limits history (length history) ≤ slack limits) → g.begun_place ≤ length history
+    → (t ≡ true → HasFewUnheld limits history (length history)) → g.begun_place ≤ length history
     → TakesHadFew limits history g plan
     → TakesHadFew limits history (if t then record g { found_nothing = true } else g) plan
 few_known limits history true g plan few le h = record {

@@ -1,5 +1,5 @@
 -- the step that installs a state keeps the whole invariant: takes that it answers with nothing are known to have found nothing
-use Rattle.std.proofs.Common.{◌≡◌, ℕ, ◌<◌, ◌≤◌, Bool, true, false, List, length, refl, sym, ap, ◌∙◌, inl, inr, arith, subst}
+use Rattle.std.proofs.Common.{◌≡◌, ℕ, ◌<◌, Bool, true, false, List, length, refl, sym, ap, ◌∙◌, inl, inr, arith, subst}
 use Rattle.std.specs.Prelude.{if◌then◌else◌, slice_index, ◌&&◌}
 use Rattle.std.proofs.lemmas.Bool.{cases_eq}
 use Rattle.word_layout.specs.Sizes.{Sizes, IsShape, limits_of}
@@ -9,8 +9,7 @@ use Rattle.word_layout.specs.declared.announced.Wish.TheVariants.{Take, Give}
 use Rattle.word_layout.specs.declared.name.WordName.TheVariants.{State}
 use Rattle.word_layout.proofs.Packed.{value_of-tagged}
 use Rattle.pool_model.specs.declared.entry.Entry.{Entry}
-use Rattle.pool_model.specs.History.{unheld}
-use Rattle.pool_model.specs.Limits.{slack}
+use Rattle.pool_model.specs.History.{HasFewUnheld}
 use Rattle.transfer_machine.specs.Machine.{action_of, met_of, met_at}
 use Rattle.transfer_machine.specs.States.{StackState}
 use Rattle.transfer_machine.specs.Tries.{is_pending, is_take, announced_wish}
@@ -116,7 +115,7 @@ module _ (sizes : Sizes) (words new : Words) (views after : ProcessViews) (histo
   ]
 
   found_few : (o : ℕ) → o < sizes.processes → finds_nothing s (views i).transfer o ≡ true
-      → unheld (limits_of sizes) history (length history) ≤ slack (limits_of sizes)
+      → HasFewUnheld (limits_of sizes) history (length history)
   unfolding s
   found_few o lo f =
       let v = (views i).transfer in

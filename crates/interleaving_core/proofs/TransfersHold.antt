@@ -1,12 +1,11 @@
 -- the step of a transfer, alone or in a call, keeps the whole invariant
-use Rattle.std.proofs.Common.{◌≡◌, ◌≢◌, ℕ, ◌<◌, ◌≤◌, Bool, true, false, List, length, refl, sym, ap, ◌∙◌, inl, inr, arith, subst}
+use Rattle.std.proofs.Common.{◌≡◌, ◌≢◌, ℕ, ◌<◌, Bool, true, false, List, length, refl, sym, ap, ◌∙◌, inl, inr, arith, subst}
 use Rattle.std.specs.Prelude.{◌⊎◌}
 use Rattle.std.proofs.Math.Path.{fun_ext}
 use Rattle.std.proofs.lemmas.Bool.{cases_eq}
 use Rattle.word_layout.specs.Sizes.{Sizes, IsShape, transfer_bound, limits_of}
 use Rattle.pool_model.specs.declared.entry.Entry.{Entry}
-use Rattle.pool_model.specs.History.{unheld, grip}
-use Rattle.pool_model.specs.Limits.{slack}
+use Rattle.pool_model.specs.History.{HasFewUnheld, grip}
 use Rattle.transfer_machine.specs.Machine.{action_of}
 use Rattle.pool_machine.specs.Pools.{view_met}
 use Rattle.transfer_machine.specs.Words.{name_of}
@@ -67,7 +66,7 @@ pub step_made : (sizes : Sizes) (words new : Words) (views after : ProcessViews)
     → IsShape sizes → i < sizes.processes → Holds sizes words views history ghosts
     → Acted sizes (action_of sizes (views i).transfer) words new → MovedProcess i x views after
     → Made sizes words history ghosts i (views i) x g
-    → ((o : ℕ) → o < sizes.processes → found o ≡ true → unheld (limits_of sizes) history (length history) ≤ slack (limits_of sizes))
+    → ((o : ℕ) → o < sizes.processes → found o ≡ true → HasFewUnheld (limits_of sizes) history (length history))
     → ((o : ℕ) → o < sizes.processes → KnowsOfNothing (states_after words (views i).transfer ghosts.states (state_tag new)) o
     (after o).transfer (ledgers_made i g found ghosts.ledgers o))
     → Holds sizes new after history

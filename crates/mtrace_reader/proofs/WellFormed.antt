@@ -1,13 +1,14 @@
-use Rattle.std.proofs.Common.{◌≡◌, ◌≢◌, ℕ, ◌+◌, ◌<◌, ◌≤◌, Bool, true, false, cond, eqb, nat_lt, List, [], ◌∷◌, ◌++◌, length, get_or, take, drop, zero, suc, Option, Some, None, is_some, fold, refl, sym, ap, ◌∙◌, subst, ⊎_elim, inl, inr, ◌⊎◌, arith, length-append, append-nil, map-id, ◌==◌}
+use Rattle.std.proofs.Common.{◌≡◌, ◌≢◌, ℕ, ◌+◌, ◌<◌, Bool, true, false, cond, eqb, nat_lt, List, [], ◌∷◌, ◌++◌, length, get_or, take, drop, zero, suc, Option, Some, None, is_some, fold, refl, sym, ap, ◌∙◌, subst, ⊎_elim, inl, inr, ◌⊎◌, arith, length-append, append-nil, map-id, ◌==◌}
 use Rattle.std.specs.List.{slice_get, Contains, range_with_len}
 use Rattle.std.specs.Map.{lookup}
-use Rattle.std.proofs.lemmas.Bool.{cases_lt, false≢true}
-use Rattle.std.proofs.lemmas.Option.{same_Some, none-some, slice_get_within, slice_get-get_or}
+use Rattle.std.proofs.lemmas.Bool.{false≢true}
+use Rattle.std.proofs.lemmas.Option.{same_Some, none-some, slice_get-get_or}
 use Rattle.std.proofs.lemmas.List.{take-append-le, take-append-drop}
 use Rattle.std.proofs.Math.Seq.{take-append_seam}
 use Rattle.std.proofs.lemmas.List.Elements.{Contains-append_left, Contains-append_right, Contains-push, Contains-push_cases}
 use Rattle.std.proofs.lemmas.List.FromFn.{get_or-range_with_len, length-range_with_len, map-range_with_len_more}
 use Rattle.std.proofs.lemmas.Bool.{eqb-true, eq-eqb}
+use Rattle.pool_model.proofs.Places.{slice_get-push_cases}
 use Rattle.mtrace_reader.proofs.LivePairs.{lookup-live_but}
 use Rattle.mtrace_reader.specs.declared.trace.Operation.{Operation}
 use Rattle.mtrace_reader.specs.declared.trace.Operation.TheVariants.{New, Release, Failed}
@@ -45,27 +46,6 @@ placed_below steps news slot in_order placed =
 
 -- ---- leaves
 
-pub slice_get-append : {X : Type 0} (xs ys : List X) (i : ℕ) → i < length xs → slice_get (xs ++ ys) i ≡ slice_get xs i
-slice_get-append [] ys i inside = absurd (omega arith)
-slice_get-append (x ∷ xs) ys zero inside = refl
-slice_get-append (x ∷ xs) ys (suc i) inside = slice_get-append xs ys i (omega arith)
-
-pub slice_get-push : {X : Type 0} (xs : List X) (y : X) → slice_get (xs ++ y ∷ []) (length xs) ≡ Some y
-slice_get-push [] y = refl
-slice_get-push (x ∷ xs) y = slice_get-push xs y
-
--- a place of a list with one more step is one of the list, or its length
-place_cases : (steps : List Step) (step : Step) (place slot : ℕ) → slice_get (steps ++ step ∷ []) place ≡ Some (Leave slot)
-    → ((place < length steps) × (slice_get steps place ≡ Some (Leave slot))) ⊎ ((place ≡ length steps) × (step ≡ Leave slot))
-place_cases steps step place slot at =
-    let within = slice_get_within (steps ++ step ∷ []) place (Leave slot) at in
-    ⊎_elim
-    (λ (inside : place < length steps). inl (inside, sym (slice_get-append steps (step ∷ []) place inside) ∙ at))
-    (λ (past : length steps ≤ place).
-    let end : place ≡ length steps = omega (arith, within, length-append steps (step ∷ [])) in
-    inr (end, same_Some step (Leave slot) (sym (slice_get-push steps step) ∙ ap (slice_get (steps ++ step ∷ [])) (sym end) ∙ at)))
-    (cases_lt place (length steps))
-
 pub LeavesPlaced-push : (steps : List Step) (step : Step) → LeavesPlaced steps
     → ((slot : ℕ) → step ≡ Leave slot → Contains steps (Place slot) × ¬ Contains steps (Leave slot))
     → LeavesPlaced (steps ++ step ∷ [])
@@ -75,7 +55,7 @@ LeavesPlaced-push steps step before last place slot at =
     rw (take-append-le place steps (step ∷ []) (omega arith)) (before place slot p.1))
     (λ (p : (place ≡ length steps) × (step ≡ Leave slot)).
     rw (p.0, take-append_seam steps (step ∷ [])) (last slot p.1))
-    (place_cases steps step place slot at)
+    (slice_get-push_cases steps step (Leave slot) place at)
 
 -- a slot that was left was placed
 pub left_was_placed : (steps : List Step) (slot : ℕ) → LeavesPlaced steps → Contains steps (Leave slot) → Contains steps (Place slot)

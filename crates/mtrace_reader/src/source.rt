@@ -31,12 +31,7 @@ fn next_count(taken: u64, limit: u64) -> usize
     ensures fits { result ≤ BUFFER_BYTES }
     ensures within { taken + result ≤ limit + 1 }
 {
-    let others = limit - taken;
-    if others < BUFFER_BYTES as u64 {
-        others as usize + 1
-    } else {
-        BUFFER_BYTES
-    }
+    (limit - taken).min(BUFFER_BYTES as u64 - 1) as usize + 1
 }
 
 /// Reads the next bytes of a source into a buffer, and answers them: none at the end alone.

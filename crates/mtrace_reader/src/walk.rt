@@ -235,6 +235,7 @@ mod tests {
         }
         Ok(())
     }
+
     /// Addresses whose hashes by a hasher of a fixed seed agree in their lowest bits.
     fn colliding(alloc: Global) -> Result<Vec<u64>, Fail> {
         let mut addresses = Vec::new(alloc);

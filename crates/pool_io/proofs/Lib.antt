@@ -1,4 +1,5 @@
 pub mod Counting
 pub mod InMemory
+pub mod Telling
 pub mod Told
 pub mod Writing

@@ -1,4 +1,5 @@
 pub mod Counts
+pub mod Gates
 pub mod Links
 pub mod MemoryFiles
 pub mod MemorySink

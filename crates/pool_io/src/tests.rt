@@ -1,12 +1,14 @@
 ghost use Rattle.std.specs.Prelude.{◌≡◌, ◌-◌, ◌^◌, ◌<◌, IfOk};
+ghost use Rattle.pool_io.specs.Gates.{ToldBefore};
 
 use super::*;
 use pool_model::NoMemory;
 use std::alloc::{AllocError, Global};
 use std::env::FillError;
 use std::rt::Env;
+use std::sync::atomic::{AtomicU64, Ordering};
 use std::test::Fail;
-use std::{fs, mem};
+use std::{env, fs, mem};
 
 // Reads a file to its end, in pieces of at most 4 bytes. None where the files fail.
 fn read_whole<F: Files>(
@@ -168,7 +170,7 @@ fn a_word_that_is_no_text_leaves_no_words(rt: HostRuntime) -> Result<(), Fail> {
         ),
         (b"pooltrace\n\xff\nf".as_slice(), [].as_slice()),
     ] {
-        let found = words(&(Given(given), alloc))?;
+        let found = words(alloc, env::args(&(Given(given), alloc)))?;
         assert_eq!(rt; found.len(), expected.len());
         for (word, text) in found.iter().zip(expected) {
             assert_eq!(rt; word.as_str(), *text);
@@ -193,10 +195,37 @@ fn noted_reads_have_no_bytes(rt: HostRuntime) -> Result<(), Fail> {
     Ok(())
 }
 
+// Tells a gate of the first so many calls of a process, as a player does that makes them.
+fn tell<G: Gate>(gate: &G, process: u32, calls: u64)
+    ensures { ToldBefore (G.told gate.now) process calls }
+{
+    for call in 0..calls {
+        gate.pass(process, call);
+    }
+}
+
 #[test]
 fn an_open_gate_lets_go_on() {
-    fn tell<G: Gate>(gate: &G) {
-        gate.pass(1, 0);
+    tell(&OpenGate, 1, 3);
+}
+
+// Counts what it is told.
+#[derive(Drop)]
+struct Counting {
+    tells: AtomicU64,
+}
+
+impl Gate for Counting {
+    fn pass(&self, _process: u32, _call: u64) {
+        self.tells.fetch_add(1, Ordering::SeqCst);
     }
-    tell(&OpenGate);
+}
+
+#[test]
+fn a_gate_hears_of_each_call(rt: HostRuntime) {
+    let gate = Counting {
+        tells: AtomicU64::new(0),
+    };
+    tell(&gate, 1, 3);
+    assert_eq!(rt; gate.tells.load(Ordering::SeqCst), 3);
 }

@@ -1,5 +1,5 @@
 -- What one more entry makes of the numbers of a history.
-use Rattle.std.proofs.Common.{◌≡◌, ℕ, ◌+◌, ◌<◌, ◌==◌, Bool, true, false, cond, refl, ◌∙◌, ap, inl, inr, arith, zero, suc, List, [], ◌∷◌, ◌++◌, length, take, drop, length-append, append-nil}
+use Rattle.std.proofs.Common.{◌≡◌, ℕ, ◌+◌, ◌*◌, ◌<◌, ◌≤◌, ◌==◌, Bool, true, false, cond, refl, ◌∙◌, ap, inl, inr, arith, zero, suc, List, [], ◌∷◌, ◌++◌, length, take, drop, length-append, append-nil}
 use Rattle.std.specs.Prelude.{fold}
 use Rattle.std.proofs.lemmas.List.{take-append-le, take_all, take-take, length-take}
 use Rattle.std.proofs.lemmas.List.Elements.{filter-append}
@@ -7,10 +7,11 @@ use Rattle.std.specs.List.{Contains}
 use Rattle.std.proofs.lemmas.Bool.{cases_eq, cases_lt}
 use Rattle.std.proofs.lemmas.Bool.Decides.{nat_tests}
 use Rattle.std.proofs.lemmas.Option.{slice_get_past}
+use Rattle.process_sums.proofs.Sums.{total_at_most}
 use Rattle.pool_model.specs.declared.entry.Entry.{Entry}
 use Rattle.pool_model.specs.declared.entry.Entry.TheVariants.{Got, Back, Dry}
-use Rattle.pool_model.specs.Limits.{Limits}
-use Rattle.pool_model.specs.History.{process_of, own, held_after, held, unheld}
+use Rattle.pool_model.specs.Limits.{Limits, greatest_slack}
+use Rattle.pool_model.specs.History.{process_of, own, held_after, held, grip_after, grip, unheld, allowance, slack}
 use Rattle.pool_model.specs.Legal.{MayFollow, HasNet, IsDryWhenFull, EachEntry, IsLegal, IsExact}
 use Rattle.pool_model.proofs.Places.{slice_get-append, slice_get-push, slice_get-take}
 use Rattle.pool_model.proofs.Members.{without_shorter}
@@ -21,6 +22,14 @@ held_more history entry = go history []
     go : (history : List Entry) (blocks : List ℕ) → fold held_after blocks (history ++ entry ∷ []) ≡ held_after (fold held_after blocks history) entry
     go [] blocks = refl
     go (first ∷ rest) blocks = go rest (held_after blocks first)
+
+-- the grip, with one more entry of its process
+pub grip_more : (entries : List Entry) (entry : Entry) → grip (entries ++ entry ∷ []) ≡ grip_after (grip entries) entry
+grip_more entries entry = go entries []
+  where
+    go : (entries : List Entry) (blocks : List ℕ) → fold grip_after blocks (entries ++ entry ∷ []) ≡ grip_after (fold grip_after blocks entries) entry
+    go [] blocks = refl
+    go (first ∷ rest) blocks = go rest (grip_after blocks first)
 
 pub held_got : (history : List Entry) (i block : ℕ) → length (held (history ++ Got i block ∷ [])) ≡ length (held history) + 1
 held_got history i block = ap length (held_more history (Got i block)) ∙ omega arith
@@ -43,6 +52,20 @@ own_other history entry i apart = filter-append (λ e. process_of e == i) histor
     last : (t : Bool) → t ≡ false → cond t (entry ∷ []) [] ≡ []
     last false e = refl
     last true e = cc
+
+-- so an entry moves the grip of its own process, and of no other
+pub own_grip_more : (history : List Entry) (entry : Entry) (i : ℕ) → process_of entry ≡ i
+    → grip (own (history ++ entry ∷ []) i) ≡ grip_after (grip (own history i)) entry
+own_grip_more history entry i mine = ap grip (own_more history entry i mine) ∙ grip_more (own history i) entry
+
+pub own_grip_other : (history : List Entry) (entry : Entry) (i : ℕ) → ¬ (process_of entry ≡ i)
+    → grip (own (history ++ entry ∷ []) i) ≡ grip (own history i)
+own_grip_other history entry i apart = ap grip (own_other history entry i apart)
+
+-- the slack of a place is at most the greatest
+pub slack_at_most : (limits : Limits) (history : List Entry) (place : ℕ) → slack limits history place ≤ greatest_slack limits
+slack_at_most limits history place =
+    omega (arith, total_at_most (5 * limits.batch_length) limits.processes (allowance limits (take place history)) (λ i lt. omega arith))
 
 -- a fact of each entry, one entry on
 pub each_entry_more : (Fact : List Entry → Entry → Type 0) (history : List Entry) (entry : Entry) → EachEntry Fact history → Fact history entry → EachEntry Fact (history ++ entry ∷ [])

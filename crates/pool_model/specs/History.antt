@@ -1,8 +1,9 @@
 -- A history is a list of entries, the first call first. Place y of a history is its prefix of length y, `take y history`.
-use Rattle.std.specs.Prelude.{ℕ, ◌-◌, Bool, true, false, not, ◌==◌, List, [], ◌∷◌, length, take, fold, filter, count_by}
+use Rattle.std.specs.Prelude.{ℕ, ◌-◌, ◌*◌, ◌≤◌, Bool, true, false, not, ◌==◌, List, [], ◌∷◌, length, take, fold, filter, count_by}
 use Rattle.pool_model.specs.declared.entry.Entry.{Entry}
 use Rattle.pool_model.specs.declared.entry.Entry.TheVariants.{Got, Back, Dry}
 use Rattle.pool_model.specs.Limits.{Limits}
+use Rattle.process_sums.specs.Sums.{total}
 
 -- the process that made the entry
 abbrev pub process_of : Entry → ℕ
@@ -28,9 +29,27 @@ held history = fold held_after [] history
 abbrev pub unheld : Limits → List Entry → ℕ → ℕ
 unheld limits history place = limits.blocks - length (held (take place history))
 
--- the blocks that the entries of one process got and after that did not give back
+-- how many blocks a process may withhold, so that nobody else can get them, after this past
+abbrev pub allowance : Limits → List Entry → ℕ → ℕ
+allowance limits past i = 5 * limits.batch_length
+
+-- how many blocks may be unheld at a place of the history where an allocate is refused: the allowances of all processes
+abbrev pub slack : Limits → List Entry → ℕ → ℕ
+slack limits history place = total limits.processes (allowance limits (take place history))
+
+-- at the place no more blocks than the slack are unheld
+abbrev pub HasFewUnheld : Limits → List Entry → ℕ → Type 0
+HasFewUnheld limits history place = unheld limits history place ≤ slack limits history place
+
+-- what one more entry of a process makes of its grip: Got adds its block, Back removes its block, all others change nothing
+abbrev pub grip_after : List ℕ → Entry → List ℕ
+grip_after blocks (Got by block) = block ∷ blocks
+grip_after blocks (Back by block) = filter (λ other. not (other == block)) blocks
+grip_after blocks (Dry by) = blocks
+
+-- the grip of a process: the blocks that its entries got and after that did not give back
 abbrev pub grip : List Entry → List ℕ
-grip entries = held entries
+grip entries = fold grip_after [] entries
 
 -- whether the entry gave a block to its caller
 abbrev pub is_got : Entry → Bool

@@ -2,19 +2,19 @@
 use Rattle.std.specs.Prelude.{◌≡◌, ℕ, ◌<◌, ◌≤◌, List, length, take, drop, slice_get, Contains, IfSome}
 use Rattle.pool_model.specs.declared.entry.Entry.{Entry}
 use Rattle.pool_model.specs.declared.entry.Entry.TheVariants.{Got, Back, Dry}
-use Rattle.pool_model.specs.Limits.{Limits, slack, window}
-use Rattle.pool_model.specs.History.{own, held, unheld, grip, net}
+use Rattle.pool_model.specs.Limits.{Limits, window}
+use Rattle.pool_model.specs.History.{own, held, unheld, HasFewUnheld, grip, net}
 
 -- the place is in the window of a refusal of process i after `past`: fewer than 2l of its entries were made since
 pub record IsInWindow (limits : Limits) (past : List Entry) (i place : ℕ) : Type 0 where
   pub before : place ≤ length past
   pub recent : length (own (drop place past) i) < window limits
 
--- a refusal of process i after `past` has a place in its window where at most the slack was unheld
+-- what each refusal of process i asks of its past: a place in its window where at most the slack was unheld
 pub record HadFew (limits : Limits) (past : List Entry) (i : ℕ) : Type 0 where
   pub place : ℕ
   pub in_window : IsInWindow limits past i place
-  pub few : unheld limits past place ≤ slack limits
+  pub few : HasFewUnheld limits past place
 
 -- what an entry asks of its past: its process is one of the shape; a Got names a block of the pool that nobody holds,
 -- a Back one that its process holds, and a Dry had few unheld blocks in its window

@@ -6,9 +6,9 @@ pub record Limits : Type 0 where
   pub blocks : ℕ
   pub batch_length : ℕ
 
--- how many blocks may be unheld where an allocate is refused
-abbrev pub slack : Limits → ℕ
-slack limits = 5 * limits.processes * limits.batch_length
+-- the most blocks that may be unheld where an allocate is refused, whatever came before
+abbrev pub greatest_slack : Limits → ℕ
+greatest_slack limits = 5 * limits.processes * limits.batch_length
 
 -- how many of a caller's last calls a refusal looks back on
 abbrev pub window : Limits → ℕ

@@ -3,13 +3,14 @@
 
 use pool_cli::run;
 use pool_io::{OpenGate, RealFiles, StdSink, words};
+use std::env;
 use std::process::ExitCode;
 
 /// The status where the system doesn't give the program its words.
 const NO_WORDS: u8 = 9;
 
 fn main(rt: HostRuntime) -> ExitCode {
-    let Ok(words) = words(&rt) else {
+    let Ok(words) = words(rt.alloc(), env::args(&rt)) else {
         return ExitCode::from(NO_WORDS);
     };
     let mut files = RealFiles::new(&rt);

@@ -4,8 +4,8 @@ use Rattle.transfer_schedule.specs.declared.own_step.Source.TheVariants.{Nothing
 use Rattle.transfer_schedule.specs.declared.call.OwnStep.{OwnStep}
 use Rattle.transfer_schedule.specs.declared.call.OwnStep.TheVariants.{Allocate, Free}
 use Rattle.transfer_schedule.specs.declared.call.PlannedCall.{PlannedCall}
-use Rattle.transfer_schedule.specs.declared.call.OwnAnswer.{OwnAnswer}
-use Rattle.transfer_schedule.specs.declared.call.OwnAnswer.TheVariants.{Took, Gave}
+use Rattle.transfer_schedule.specs.declared.call.PlannedAnswer.{PlannedAnswer}
+use Rattle.transfer_schedule.specs.declared.call.PlannedAnswer.TheVariants.{Took, Gave}
 use Rattle.transfer_schedule.specs.Numbers.{Numbers, after_choice, after_steps, after_end, after_took_one, after_gave_one, source_of, target_of}
 
 -- the transfer ends in the call, or goes on
@@ -27,7 +27,7 @@ abbrev pub after_call : Numbers → PlannedCall → Numbers
 after_call x call = after_own call.own (ready_for call x)
 
 -- what the own step meets
-abbrev pub own_answer : OwnStep → Numbers → OwnAnswer
+abbrev pub own_answer : OwnStep → Numbers → PlannedAnswer
 own_answer Allocate x = Took (source_of x)
 own_answer Free x = Gave (target_of x)
 

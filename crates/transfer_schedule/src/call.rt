@@ -22,7 +22,7 @@ pub struct PlannedCall {
 
 /// What the own step of a call met.
 #[derive(Clone, Copy, Debug, PartialEq, Eq, Hash)]
-pub enum OwnAnswer {
+pub enum PlannedAnswer {
     /// An `allocate`, and where its block came from.
     Took(Source),
     /// A `free`, and where its block went.

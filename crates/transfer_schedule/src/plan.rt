@@ -5,7 +5,7 @@ ghost use Rattle.transfer_schedule.specs.Beginning.{MayBegin, may_begin, few_spa
 ghost use Rattle.transfer_schedule.specs.Table.{InTable};
 ghost use Rattle.transfer_schedule.specs.Calls.{Fits, ready_for, after_call, own_answer, FitAll, after_calls, EndWithin, EndsEmpty, EachMoment, RefusesOnlyDry};
 
-use crate::call::{OwnAnswer, OwnStep, PlannedCall};
+use crate::call::{OwnStep, PlannedAnswer, PlannedCall};
 use crate::own_step::{Source, Target};
 use crate::pending::Pending;
 use std::marker::Model;
@@ -271,7 +271,7 @@ impl Plan {
     }
 
     /// Makes one whole call: its beginning, its transfer steps, and its own step, which it answers.
-    pub fn make_call(&mut self, call: PlannedCall) -> OwnAnswer
+    pub fn make_call(&mut self, call: PlannedCall) -> PlannedAnswer
         requires { Fits call self.old }
         ensures numbers { self.new ≡ after_call self.old call }
         ensures answer { result ≡ own_answer call.own (ready_for call self.old) }
@@ -283,8 +283,8 @@ impl Plan {
             }
         }
         match call.own {
-            OwnStep::Allocate => OwnAnswer::Took(self.took_one()),
-            OwnStep::Free => OwnAnswer::Gave(self.gave_one()),
+            OwnStep::Allocate => PlannedAnswer::Took(self.took_one()),
+            OwnStep::Free => PlannedAnswer::Gave(self.gave_one()),
         }
     }
 

@@ -1,7 +1,7 @@
 // Plans of the default shape, through a few hundred calls each.
 ghost use Rattle.std.specs.Prelude.{◌≡◌, ◌+◌, ◌*◌, ◌≤◌};
 
-use crate::{OwnAnswer, OwnStep, Pending, Plan, PlannedCall, Source, Target};
+use crate::{OwnStep, Pending, Plan, PlannedAnswer, PlannedCall, Source, Target};
 use std::process::Abort;
 
 /// The most transfer steps of a call.
@@ -27,14 +27,14 @@ struct Run {
 }
 
 impl Run {
-    fn answer(&self, call: u32) -> OwnAnswer {
+    fn answer(&self, call: u32) -> PlannedAnswer {
         let other = call >= self.first && (call - self.first) % self.every == 0;
         match (self.own, other) {
-            (OwnStep::Allocate, _) if call >= self.refused => OwnAnswer::Took(Source::Nothing),
-            (OwnStep::Allocate, true) => OwnAnswer::Took(Source::Spare),
-            (OwnStep::Allocate, false) => OwnAnswer::Took(Source::Current),
-            (OwnStep::Free, true) => OwnAnswer::Gave(Target::Fresh),
-            (OwnStep::Free, false) => OwnAnswer::Gave(Target::Current),
+            (OwnStep::Allocate, _) if call >= self.refused => PlannedAnswer::Took(Source::Nothing),
+            (OwnStep::Allocate, true) => PlannedAnswer::Took(Source::Spare),
+            (OwnStep::Allocate, false) => PlannedAnswer::Took(Source::Current),
+            (OwnStep::Free, true) => PlannedAnswer::Gave(Target::Fresh),
+            (OwnStep::Free, false) => PlannedAnswer::Gave(Target::Current),
         }
     }
 }
@@ -74,8 +74,8 @@ fn make_run(rt: &impl Abort, case: &str, plan: &mut Plan, run: &Run)
     for call in 0..run.calls {
         move_on(rt, case, plan, run);
         let answer = match run.own {
-            OwnStep::Allocate => OwnAnswer::Took(plan.took_one()),
-            OwnStep::Free => OwnAnswer::Gave(plan.gave_one()),
+            OwnStep::Allocate => PlannedAnswer::Took(plan.took_one()),
+            OwnStep::Free => PlannedAnswer::Gave(plan.gave_one()),
         };
         assert!(rt;
             answer == run.answer(call) && is_in_table(plan),
@@ -178,7 +178,7 @@ fn whole_calls_run(rt: HostRuntime) {
         end: None,
         own: OwnStep::Allocate,
     };
-    assert_eq!(rt; plan.make_call(steps), OwnAnswer::Took(Source::Current));
+    assert_eq!(rt; plan.make_call(steps), PlannedAnswer::Took(Source::Current));
     assert_eq!(rt; plan.current(), 3);
     let plan = Plan::after(4, 31, 8, &[]);
     assert_eq!(rt; plan, Plan::open(1));

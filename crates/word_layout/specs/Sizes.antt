@@ -9,6 +9,11 @@ pub record Sizes : Type 0 where
   pub quantum : ℕ
   pub length : ℕ
 
+-- the numbers, one by one
+abbrev pub sizes : ℕ → ℕ → ℕ → ℕ → ℕ → Sizes
+sizes processes batches words quantum length =
+    record { processes = processes; batches = batches; words = words; quantum = quantum; length = length }
+
 -- how many steps of a transfer one call may make
 abbrev pub IsQuantum : ℕ → Type 0
 IsQuantum q = (q ≡ 1) ⊎ ((q ≡ 2) ⊎ ((q ≡ 4) ⊎ ((q ≡ 8) ⊎ (q ≡ 16))))

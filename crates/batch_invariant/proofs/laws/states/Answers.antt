@@ -1,4 +1,4 @@
-use Rattle.batch_invariant.proofs.Installing.{next_carried, same_carried, planned_carried}
+use Rattle.batch_invariant.proofs.Installing.{next_carried, same_carried, drafted_carried}
 use Rattle.batch_invariant.proofs.laws.states.Goals as goal
 
 pub returns-clause-next : goal.returns-clause-next
@@ -8,4 +8,4 @@ pub returns-clause-same : goal.returns-clause-same
 returns-clause-same c sizes s t views same = same_carried sizes s t views same
 
 pub returns-clause-drafted : goal.returns-clause-drafted
-returns-clause-drafted c sizes s views v fits installs = planned_carried sizes s views v fits installs
+returns-clause-drafted c sizes s views v fits installs = drafted_carried sizes s views v fits installs
