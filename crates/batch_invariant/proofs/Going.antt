@@ -13,7 +13,7 @@ use Rattle.transfer_machine.specs.declared.stage.NextStep.{NextStep}
 use Rattle.transfer_machine.specs.declared.stage.NextStep.TheVariants.{Rest, Announce, Try, LoadFinalState, LoadReply}
 use Rattle.transfer_machine.specs.declared.stage.TryStep.{TryStep}
 use Rattle.transfer_machine.specs.declared.stage.TryStep.TheVariants.{LoadState, LoadRecordWord, LoadCoveredSlot, ExchangeSlot, LoadAnnouncement, LoadPoppedSlot, StoreRecordWord, ExchangeState}
-use Rattle.transfer_invariant.specs.Progress.{has_announced}
+use Rattle.transfer_invariant.specs.Progress.{has_announced, goes_on}
 use Rattle.batch_invariant.proofs.Moving.{SameAnnouncement}
 
 -- one of two views
@@ -61,14 +61,6 @@ try_same sizes v word second (LoadPoppedSlot process) h = record { was = h; anno
 try_same sizes v word second (StoreRecordWord index) h = record { was = h; announced = refl; wish = refl; age = refl }
 try_same sizes v word second ExchangeState h = either_view (word == v.loaded.state) v (installed v) (try_ended second v)
     (record { was = h; announced = refl; wish = refl; age = refl }) (ended_same second v h)
-
--- an announced transfer's steps before the last
-abbrev pub goes_on : NextStep → Bool
-goes_on Rest = false
-goes_on Announce = false
-goes_on (Try second step) = true
-goes_on LoadFinalState = true
-goes_on LoadReply = false
 
 pub goes_on_announced : (s : NextStep) → goes_on s ≡ true → has_announced s ≡ true
 goes_on_announced s h = grind arith

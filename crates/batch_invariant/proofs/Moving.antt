@@ -6,8 +6,8 @@ use Rattle.transfer_machine.specs.States.{StackState}
 use Rattle.transfer_machine.specs.declared.transfer.TransferView.{TransferView}
 use Rattle.transfer_machine.specs.declared.stage.NextStep.{NextStep}
 use Rattle.transfer_machine.specs.declared.stage.NextStep.TheVariants.{Rest, Announce}
-use Rattle.transfer_invariant.specs.Progress.{has_announced}
-use Rattle.batch_invariant.specs.Places.{has_only_begun, given, taken, moving}
+use Rattle.transfer_invariant.specs.Progress.{has_announced, has_only_begun}
+use Rattle.batch_invariant.specs.Places.{given, taken, moving}
 
 -- in transit: at rest nothing, before the transfer is applied a given batch, then a taken one
 pub moving_at_rest : (s : StackState) (i : ℕ) (v : TransferView) → v.next ≡ Rest → moving s i v ≡ []

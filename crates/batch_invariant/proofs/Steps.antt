@@ -19,12 +19,12 @@ use Rattle.pool_machine.specs.Pools.{MayBegin, view_begun, pool_met_at, pool_end
 use Rattle.pool_machine.specs.declared.view.PoolView.{PoolView}
 use Rattle.pool_machine.specs.declared.view.ProcessView.{ProcessView}
 use Rattle.transfer_invariant.specs.Memory.{Moved}
-use Rattle.transfer_invariant.specs.Progress.{has_announced}
+use Rattle.transfer_invariant.specs.Progress.{has_announced, goes_on}
 use Rattle.batch_invariant.specs.Places.{taken, brought}
 use Rattle.batch_invariant.specs.Batches.{ProcessViews, MovedProcess, ReplyMatches, KeepsBatches, weight}
 use Rattle.batch_invariant.specs.Premises.{InStep}
 use Rattle.batch_invariant.proofs.Moving.{SameAnnouncement, moving_at_rest, moving_begun, moving_pending, moving_applied, moving_same_view}
-use Rattle.batch_invariant.proofs.Going.{goes_on, goes_on_announced, met_same_announcement}
+use Rattle.batch_invariant.proofs.Going.{goes_on_announced, met_same_announcement}
 
 -- of a process's view, its transfer's moves too
 pub transfers_move : (i : ℕ) (x : ProcessView) (views after : ProcessViews) → MovedProcess i x views after

@@ -1,5 +1,5 @@
 -- the batch that a process's transfer has in transit, by its head
-use Rattle.std.specs.Prelude.{ℕ, ◌==◌, Bool, true, false, if◌then◌else◌, List, [], ◌∷◌}
+use Rattle.std.specs.Prelude.{ℕ, ◌==◌, if◌then◌else◌, List, [], ◌∷◌}
 use Rattle.word_layout.specs.Packing.{reply_of}
 use Rattle.word_layout.specs.declared.announced.Wish.{Wish}
 use Rattle.word_layout.specs.declared.announced.Wish.TheVariants.{Take, Give}
@@ -7,17 +7,7 @@ use Rattle.word_layout.specs.declared.reply.Reply.{Reply}
 use Rattle.word_layout.specs.declared.reply.Reply.TheVariants.{Nothing, Took, Gave}
 use Rattle.transfer_machine.specs.States.{StackState}
 use Rattle.transfer_machine.specs.declared.transfer.TransferView.{TransferView}
-use Rattle.transfer_machine.specs.declared.stage.NextStep.{NextStep}
-use Rattle.transfer_machine.specs.declared.stage.NextStep.TheVariants.{Rest, Announce, Try, LoadFinalState, LoadReply}
-use Rattle.transfer_invariant.specs.Progress.{has_announced}
-
--- in a transfer that is begun and not announced yet
-abbrev pub has_only_begun : NextStep → Bool
-has_only_begun Rest = false
-has_only_begun Announce = true
-has_only_begun (Try second step) = false
-has_only_begun LoadFinalState = false
-has_only_begun LoadReply = false
+use Rattle.transfer_invariant.specs.Progress.{has_announced, has_only_begun}
 
 -- before a wish is applied: the batch of a give
 abbrev pub given : Wish → List ℕ

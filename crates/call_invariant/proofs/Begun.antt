@@ -20,11 +20,10 @@ use Rattle.transfer_machine.specs.declared.stage.NextStep.{NextStep}
 use Rattle.transfer_machine.specs.declared.stage.NextStep.TheVariants.{Rest}
 use Rattle.pool_machine.specs.declared.view.PoolView.{PoolView}
 use Rattle.pool_machine.specs.declared.view.ProcessView.{ProcessView}
-use Rattle.transfer_invariant.specs.Progress.{has_announced}
+use Rattle.transfer_invariant.specs.Progress.{has_announced, is_moving}
 use Rattle.pool_machine.specs.Beginning.{newest, due, begun_if_due, before_call, first_stage, entered, call_begun}
 use Rattle.pool_machine.specs.Conditions.{IsYoungFor}
 use Rattle.pool_machine.proofs.Plans.{choice_is_the_plans}
-use Rattle.pool_invariant.specs.Stages.{is_moving}
 use Rattle.pool_invariant.specs.Kept.{PoolKept}
 use Rattle.pool_invariant.specs.Holds.{PoolRuns}
 use Rattle.history_invariant.specs.Ledger.{Ledger}

@@ -25,12 +25,12 @@ use Rattle.transfer_machine.specs.declared.stage.TryStep.TheVariants.{LoadState}
 use Rattle.transfer_machine.specs.declared.transfer.TransferView.{TransferView}
 use Rattle.pool_machine.specs.declared.view.PoolView.{PoolView}
 use Rattle.pool_machine.specs.declared.view.ProcessView.{ProcessView}
-use Rattle.transfer_invariant.specs.Progress.{has_record, has_announced}
+use Rattle.transfer_invariant.specs.Progress.{has_record, has_announced, is_moving, has_only_begun, goes_on}
 use Rattle.pool_machine.specs.Steps.{after_move, move_counted, call_met_at}
-use Rattle.pool_invariant.specs.Stages.{is_moving, is_announcing, IndexFitsAt}
+use Rattle.pool_invariant.specs.Stages.{IndexFitsAt}
 use Rattle.pool_invariant.specs.StepCount.{steps_before_at}
 use Rattle.pool_invariant.specs.Kept.{Answers, GivenToPool}
-use Rattle.pool_invariant.proofs.Moved.{goes_on, step_stays}
+use Rattle.pool_invariant.proofs.Moved.{step_stays}
 use Rattle.pool_invariant.proofs.Steps.{going_pool, step_runs}
 use Rattle.history_invariant.specs.Ledger.{Ledger}
 use Rattle.history_invariant.specs.Steps.{GoesOn, stepped, announced, ended_with, ended}
@@ -198,5 +198,5 @@ transfer_steps_carry sizes i v word g h s e some given nothing =
 pub enters_nothing : (word made : ℕ) (s : NextStep) (g : Ledger)
     → ((ledger_moved_at word made s g).entries ≡ g.entries)
     × ((ledger_moved_at word made s g).seen ≡ g.seen)
-    × ((ledger_moved_at word made s g).found_nothing ≡ (if is_announcing s then false else g.found_nothing))
+    × ((ledger_moved_at word made s g).found_nothing ≡ (if has_only_begun s then false else g.found_nothing))
 enters_nothing word made s g = grind arith

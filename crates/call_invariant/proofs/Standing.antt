@@ -14,7 +14,7 @@ use Rattle.transfer_machine.specs.declared.stage.NextStep.{NextStep}
 use Rattle.transfer_machine.specs.declared.stage.NextStep.TheVariants.{Rest}
 use Rattle.pool_machine.specs.declared.call.CallView.{CallView}
 use Rattle.pool_machine.specs.declared.view.ProcessView.{ProcessView}
-use Rattle.pool_invariant.specs.Stages.{is_moving}
+use Rattle.transfer_invariant.specs.Progress.{is_moving}
 use Rattle.pool_invariant.specs.Kept.{PoolKept}
 use Rattle.pool_invariant.specs.Holds.{PoolRuns}
 use Rattle.history_invariant.specs.Ledger.{Ledger}

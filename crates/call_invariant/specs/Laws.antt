@@ -28,7 +28,7 @@ use Rattle.pool_machine.specs.Conditions.{MayCall, MayMove}
 use Rattle.pool_machine.specs.OwnSteps.{next_block}
 use Rattle.pool_machine.specs.Ready.{CanBegin, CanMove, CanMeetMoving}
 use Rattle.pool_machine.specs.Steps.{call_met}
-use Rattle.pool_invariant.specs.Stages.{is_announcing}
+use Rattle.transfer_invariant.specs.Progress.{has_only_begun}
 use Rattle.pool_invariant.specs.StepCount.{OverlayIsFew}
 use Rattle.pool_invariant.specs.Kept.{Answers, GivenToPool}
 use Rattle.history_invariant.specs.Ledger.{Ledger, opening_ledger}
@@ -81,7 +81,7 @@ abbrev pub TransferStepsEnterNothing : Type 0
 TransferStepsEnterNothing = (v : ProcessView) (ledger : Ledger) (word : ℕ)
     → ((ledger_moved word v ledger).entries ≡ ledger.entries)
     × ((ledger_moved word v ledger).seen ≡ ledger.seen)
-    × ((ledger_moved word v ledger).found_nothing ≡ (if is_announcing v.transfer.next then false else ledger.found_nothing))
+    × ((ledger_moved word v ledger).found_nothing ≡ (if has_only_begun v.transfer.next then false else ledger.found_nothing))
 
 -- at its own step an allocate or a free is so in the schedule
 abbrev pub OwnStepsAreDue : Type 0

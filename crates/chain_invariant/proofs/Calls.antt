@@ -145,7 +145,7 @@ module _ (sizes : Sizes) (words new : Words) (s : StackState) (views after : Pro
       }) transfer moved (loads_next sizes (newest (views i).pool) words new a) gains
   allocate_at false false et eu word met a pool gains =
       quiet (ap (λ p. p.head) pool) (ap (λ p. p.plan.current) pool ∙ took_none (views i).pool.plan et eu) (ap (λ p. p.heads) pool)
-      (acts_elsewhere sizes (Load State) words new refl a) gains
+      (acts_elsewhere sizes (Load State) words new (λ b e. cc) a) gains
 
   -- the own step of a free
   free_at : (t : Bool) (block : ℕ) → (views i).pool.plan.current ≤ sizes.length → Contains (held i) block
@@ -179,7 +179,7 @@ module _ (sizes : Sizes) (words new : Words) (s : StackState) (views after : Pro
       → Chains sizes new s after held_after
   own_chains_at None within names a pool same =
       quiet (ap (λ p. p.head) pool) (ap (λ p. p.plan.current) pool) (ap (λ p. p.heads) pool)
-      (acts_elsewhere sizes (Load State) words new refl a) same
+      (acts_elsewhere sizes (Load State) words new (λ b e. cc) a) same
   own_chains_at (Some Allocate) within names a pool gains =
       allocate_at (nat_lt 0 (views i).pool.plan.current) (nat_lt 0 (views i).pool.plan.spares) refl refl
       (words (name_of (allocate_action (next_block (views i).pool)))) refl a pool gains
@@ -187,10 +187,10 @@ module _ (sizes : Sizes) (words new : Words) (s : StackState) (views after : Pro
       free_at (nat_lt (views i).pool.plan.current (views i).pool.plan.length) block within names refl a pool loses
   own_chains_at (Some (Read block index)) within names a pool same =
       quiet (ap (λ p. p.head) pool) (ap (λ p. p.plan.current) pool) (ap (λ p. p.heads) pool)
-      (acts_elsewhere sizes (Load (Data block index)) words new refl a) same
+      (acts_elsewhere sizes (Load (Data block index)) words new (λ b e. cc) a) same
   own_chains_at (Some (Write block index value)) within names a pool same =
       quiet (ap (λ p. p.head) pool) (ap (λ p. p.plan.current) pool) (ap (λ p. p.heads) pool)
-      (acts_elsewhere sizes (Store (Data block index) value) words new refl a) same
+      (acts_elsewhere sizes (Store (Data block index) value) words new (λ b e. cc) a) same
 
 -- the block that an allocate gets is free, and what its step names is in range
 module _ (sizes : Sizes) (words : Words) (s : StackState) (views : ProcessViews) (held : BlockLists) (i : ℕ) (shape : IsShape sizes)

@@ -12,8 +12,8 @@ use Rattle.transfer_schedule.specs.Numbers.{is_idle, withheld}
 use Rattle.transfer_machine.specs.States.{StackState}
 use Rattle.transfer_machine.specs.declared.transfer.TransferView.{TransferView}
 use Rattle.pool_machine.specs.declared.view.ProcessView.{ProcessView}
-use Rattle.transfer_invariant.specs.Progress.{has_announced}
-use Rattle.batch_invariant.specs.Places.{has_only_begun, given, taken, announced_batch, moving}
+use Rattle.transfer_invariant.specs.Progress.{has_announced, has_only_begun}
+use Rattle.batch_invariant.specs.Places.{given, taken, announced_batch, moving}
 use Rattle.batch_invariant.proofs.Moving.{moving_at_rest}
 use Rattle.chain_invariant.specs.Laws.{CountsItsBatches, kept_blocks}
 

@@ -46,6 +46,12 @@ module _ (sizes : Sizes) (words new : Words) (s : StackState) (views after : Pro
       chain_stays words new (views o).pool.head (views o).pool.plan.current (currents o)
       (current_stays sizes words s views batches currents holds hold new o stay lo) (hold.currents o lo)
 
+  -- a list without its first block and that block weigh what the list weighs
+  parted : (f : ℕ → ℕ) (first : ℕ) (rest whole : List ℕ) → whole ≡ first ∷ rest → first ≡ block
+      → weight f rest + weight f (block ∷ holds i) ≡ weight f whole + weight f (holds i)
+  parted f first rest whole is named =
+      omega (arith, ap (weight f) is, sum_by-cons f first rest, sum_by-cons f block (holds i), ap f named)
+
   -- the first block of the current list leaves
   first_weights : (f : ℕ → ℕ) (first : ℕ) (rest : List ℕ) → currents i ≡ first ∷ rest → first ≡ block → x.pool.heads ≡ (views i).pool.heads
       → weight f rest + weight f (block ∷ holds i) + pool_weight sizes s after (λ head. weight f (batches head))
@@ -54,10 +60,7 @@ module _ (sizes : Sizes) (words new : Words) (s : StackState) (views after : Pro
       let g = λ (head : ℕ). weight f (batches head) in
       omega (
         arith,
-        ap (weight f) is,
-        sum_by-cons f first rest,
-        sum_by-cons f block (holds i),
-        ap f named,
+        parted f first rest (currents i) is named,
         spares_moved sizes s views after i x g li moved transfer,
         ap (weight g) heads,
       )
@@ -105,10 +108,7 @@ module _ (sizes : Sizes) (words new : Words) (s : StackState) (views after : Pro
   opened_weights f first rest is named none opens =
       omega (
         arith,
-        ap (weight f) is,
-        sum_by-cons f first rest,
-        sum_by-cons f block (holds i),
-        ap f named,
+        parted f first rest (batches block) is named,
         ap (weight f) none,
         spare_weights (λ head. weight f (batches head)) opens,
       )

@@ -1,20 +1,16 @@
 -- the step of a transfer on the words: no next word changes, and the present state stays or the drafted one is installed
-use Rattle.std.proofs.Common.{◌≡◌, ℕ, ◌<◌, Bool, true, false, refl, ap, ◌∙◌, arith}
+use Rattle.std.proofs.Common.{◌≢◌, ℕ, ◌<◌, refl}
 use Rattle.word_layout.specs.Sizes.{Sizes, IsShape}
-use Rattle.word_layout.specs.declared.name.WordName.{WordName}
-use Rattle.word_layout.specs.declared.name.WordName.TheVariants.{State, Announcement, RecordWord, Slot, Next, Data}
-use Rattle.transfer_machine.specs.Machine.{try_action, action_at, action_of}
+use Rattle.word_layout.specs.declared.name.WordName.TheVariants.{Next}
+use Rattle.transfer_machine.specs.Machine.{action_of}
 use Rattle.transfer_machine.specs.Words.{name_of}
 use Rattle.transfer_machine.specs.declared.action.Action.{Action}
 use Rattle.transfer_machine.specs.declared.transfer.TransferView.{TransferView}
-use Rattle.transfer_machine.specs.declared.stage.NextStep.{NextStep}
-use Rattle.transfer_machine.specs.declared.stage.NextStep.TheVariants.{Rest, Announce, Try, LoadFinalState, LoadReply}
-use Rattle.transfer_machine.specs.declared.stage.TryStep.{TryStep}
-use Rattle.transfer_machine.specs.declared.stage.TryStep.TheVariants.{LoadState, LoadRecordWord, LoadCoveredSlot, ExchangeSlot, LoadAnnouncement, LoadPoppedSlot, StoreRecordWord, ExchangeState}
 use Rattle.pool_machine.specs.Pools.{view_met}
 use Rattle.pool_machine.specs.declared.view.ProcessView.{ProcessView}
 use Rattle.transfer_invariant.specs.Installing.{drafted_state, states_after}
 use Rattle.transfer_invariant.specs.Memory.{Words, States, Acted, state_tag}
+use Rattle.transfer_invariant.proofs.Acts.{leaves_other_words}
 use Rattle.batch_invariant.specs.Batches.{ProcessViews, MovedProcess}
 use Rattle.batch_invariant.specs.Premises.{InStep}
 use Rattle.batch_invariant.proofs.Steps.{exchange_in_step}
@@ -24,46 +20,14 @@ use Rattle.chain_invariant.specs.Steps.{SameParts}
 use Rattle.chain_invariant.proofs.Moves.{words_stay, step_keeps, installs_carry}
 use Rattle.chain_invariant.proofs.Present.{holds_after}
 
--- the word is the next word of a block
-abbrev is_next : WordName → Bool
-is_next State = false
-is_next (Announcement process) = false
-is_next (RecordWord row index) = false
-is_next (Slot slot) = false
-is_next (Next block) = true
-is_next (Data block index) = false
-
 -- an action on another word leaves the next words
-pub acts_elsewhere : (sizes : Sizes) (action : Action) (m n : Words) → is_next (name_of action) ≡ false → Acted sizes action m n
+pub acts_elsewhere : (sizes : Sizes) (action : Action) (m n : Words) → ((b : ℕ) → Next b ≢ name_of action) → Acted sizes action m n
     → NextsStay sizes m n
-acts_elsewhere sizes action m n other a = λ b lt. a.elsewhere (Next b) lt (λ e. differ (name_of action) b other e)
-  where
-    apart : true ≡ false → ⊥
-    apart h = grind arith
-
-    differ : (name : WordName) (b : ℕ) → is_next name ≡ false → Next b ≡ name → ⊥
-    differ name b other e = apart (ap is_next e ∙ other)
+acts_elsewhere sizes action m n other a = λ b lt. a.elsewhere (Next b) lt (other b)
 
 -- so does a step of a transfer
-try_elsewhere : (sizes : Sizes) (v : TransferView) (step : TryStep) → is_next (name_of (try_action sizes v step)) ≡ false
-try_elsewhere sizes v LoadState = refl
-try_elsewhere sizes v (LoadRecordWord index) = refl
-try_elsewhere sizes v (LoadCoveredSlot offset) = refl
-try_elsewhere sizes v (ExchangeSlot offset) = refl
-try_elsewhere sizes v (LoadAnnouncement process) = refl
-try_elsewhere sizes v (LoadPoppedSlot process) = refl
-try_elsewhere sizes v (StoreRecordWord index) = refl
-try_elsewhere sizes v ExchangeState = refl
-
-stage_elsewhere : (sizes : Sizes) (v : TransferView) (stage : NextStep) → is_next (name_of (action_at sizes v stage)) ≡ false
-stage_elsewhere sizes v Rest = refl
-stage_elsewhere sizes v Announce = refl
-stage_elsewhere sizes v (Try second step) = try_elsewhere sizes v step
-stage_elsewhere sizes v LoadFinalState = refl
-stage_elsewhere sizes v LoadReply = refl
-
 transfer_keeps_nexts : (sizes : Sizes) (v : TransferView) (m n : Words) → Acted sizes (action_of sizes v) m n → NextsStay sizes m n
-transfer_keeps_nexts sizes v m n a = acts_elsewhere sizes (action_of sizes v) m n (stage_elsewhere sizes v v.next) a
+transfer_keeps_nexts sizes v m n a = λ b lt. leaves_other_words sizes v m n (Next b) a refl lt
 
 pub transfer_keeps : (sizes : Sizes) (m n : Words) (views after : ProcessViews) (states : States)
     (batch_blocks current_blocks held_blocks : BlockLists) (i : ℕ) (x : ProcessView) → IsShape sizes → i < sizes.processes

@@ -1,12 +1,12 @@
 -- the steps by what they change: the parts for all views, from those of the moving view
-use Rattle.std.proofs.Common.{◌≡◌, ◌≢◌, ℕ, ◌+◌, ◌<◌, ◌≤◌, true, false, ap, inl, inr, length}
-use Rattle.std.proofs.lemmas.Bool.{cases_eq}
+use Rattle.std.proofs.Common.{◌≡◌, ◌≢◌, ℕ, ◌+◌, ◌<◌, ◌≤◌, true, false, ap, length}
 use Rattle.word_layout.specs.Sizes.{Sizes}
 use Rattle.transfer_machine.specs.Loads.{loaded_tag}
 use Rattle.transfer_machine.specs.declared.transfer.TransferView.{TransferView}
 use Rattle.transfer_invariant.specs.Memory.{Words, Views, States, Moved, state_tag}
 use Rattle.transfer_invariant.specs.Progress.{in_try, has_loaded, has_announced, heard_announcements}
 use Rattle.transfer_invariant.proofs.Changes.{RecordsStay, WordStored}
+use Rattle.transfer_invariant.proofs.MovedViews.{all_after, all_pairs_after}
 use Rattle.transfer_invariant.proofs.Steps.{try_has}
 use Rattle.helping_invariant.specs.Parts.{AppliedRises, AnnouncementHolds, TwoTries, SettledReply, HearsPresent}
 use Rattle.helping_invariant.specs.Holds.{HelpingHolds}
@@ -34,28 +34,11 @@ pub assemble : (sizes : Sizes) (n : Words) (views after : Views) (states : State
     → Owed sizes n views states i x → HelpingHolds sizes n after states
 assemble sizes n views after states i x moved owed = record {
   counts = owed.counts;
-  announced = λ o lo. elim (cases_eq o i) [
-    | inl e ↦ rw e (rw moved.here owed.announced)
-    | inr ne ↦ rw (moved.elsewhere o ne) (owed.others_announced o lo ne)
-  ];
-  tries = λ o lo. elim (cases_eq o i) [
-    | inl e ↦ rw e (rw moved.here owed.tries)
-    | inr ne ↦ rw (moved.elsewhere o ne) (owed.others_tries o lo ne)
-  ];
-  settled = λ o lo. elim (cases_eq o i) [
-    | inl e ↦ rw e (rw moved.here owed.settled)
-    | inr ne ↦ rw (moved.elsewhere o ne) (owed.others_settled o lo ne)
-  ];
-  hears = λ a o la lo. elim (cases_eq a i) [
-    | inl e ↦ elim (cases_eq o i) [
-      | inl f ↦ rw e (rw f (rw moved.here owed.self))
-      | inr nf ↦ rw e (rw moved.here (rw (moved.elsewhere o nf) (owed.from o lo nf)))
-    ]
-    | inr ne ↦ elim (cases_eq o i) [
-      | inl f ↦ rw f (rw moved.here (rw (moved.elsewhere a ne) (owed.into a la ne)))
-      | inr nf ↦ rw (moved.elsewhere a ne, moved.elsewhere o nf) (owed.rest a o la lo ne nf)
-    ]
-  ];
+  announced = all_after (AnnouncementHolds n states) sizes.processes views after i x moved owed.announced owed.others_announced;
+  tries = all_after (TwoTries n states) sizes.processes views after i x moved owed.tries owed.others_tries;
+  settled = all_after (SettledReply sizes n states) sizes.processes views after i x moved owed.settled owed.others_settled;
+  hears = all_pairs_after (λ a. HearsPresent sizes.processes n states) sizes.processes views after i x moved owed.self owed.from owed.into
+      owed.rest;
 }
 
 -- neither the state nor a record word nor an announcement changes

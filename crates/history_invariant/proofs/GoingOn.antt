@@ -40,32 +40,25 @@ choice_begins x idle busy = grind (arith, nat_tests)
 choice_taking : (x : Numbers) → 0 < (after_choice x).done → is_taking (after_choice x).pending ≡ true → is_taking x.pending ≡ true
 choice_taking x some taking = grind (arith, nat_tests)
 
--- a call that begins no transfer
-none_begins : (a : Account) (phase : CallPhase) → BeginsCall a (record a { plan = after_choice a.plan; phase = phase })
-none_begins a phase = record {
+-- the beginning of a call, where a transfer that is announced then was begun before
+choice_made : (a : Account) (phase : CallPhase) (begun : ℕ) → (0 < (after_choice a.plan).done → begun ≡ a.begun)
+    → BeginsCall a (record a { plan = after_choice a.plan; phase = phase; begun = begun })
+choice_made a phase begun same = record {
   entries = refl;
   gots = refl;
   backs = refl;
   ended = refl;
   dry = choice_dry a.plan;
   announced = choice_announced a.plan;
-  begun = λ some. refl;
+  begun = same;
   taking = choice_taking a.plan;
 }
 
 call_begins : (a b : Account) → a.phase ≡ Between → Follows a b → BeginsCall a b
-call_begins a b between (begins e idle busy) = record {
-  entries = refl;
-  gots = refl;
-  backs = refl;
-  ended = refl;
-  dry = choice_dry a.plan;
-  announced = choice_announced a.plan;
-  begun = λ some. absurd (let none = choice_begins a.plan idle busy in omega arith);
-  taking = choice_taking a.plan;
-}
-call_begins a b between (continues e busy) = none_begins a (Moving 0)
-call_begins a b between (rests e idle) = none_begins a Own
+call_begins a b between (begins e idle busy) =
+    choice_made a (Moving 0) a.entries (λ some. absurd (let none = choice_begins a.plan idle busy in omega arith))
+call_begins a b between (continues e busy) = choice_made a (Moving 0) a.begun (λ some. refl)
+call_begins a b between (rests e idle) = choice_made a Own a.begun (λ some. refl)
 call_begins a b between (moves made e low) = cc
 call_begins a b between (ends made found e low giving) = cc
 call_begins a b between (gets e some) = cc

@@ -11,7 +11,7 @@ use Rattle.pool_model.specs.History.{process_of, own}
 use Rattle.history_invariant.specs.Ledger.{Ledger, Ledgers}
 use Rattle.history_invariant.specs.Fits.{SeesBeginning, LedgerFits}
 use Rattle.history_invariant.specs.Holds.{SomeSeesAll, HistoryHolds}
-use Rattle.history_invariant.specs.Steps.{Replaced}
+use Rattle.history_invariant.specs.Laws.{JoinsKeepHistory}
 use Rattle.history_invariant.specs.Longest.{longest}
 use Rattle.history_invariant.proofs.Fitting.{own_rises}
 
@@ -71,13 +71,7 @@ join_fits limits bound quantum history i other mine theirs f t le = record {
 seen_whole : (history seen : List Entry) → take (length seen) history ≡ seen → length history ≤ length seen → seen ≡ history
 seen_whole history seen beginning le = sym beginning ∙ take_all (length seen) history le
 
-pub join_holds : (limits : Limits) (bound quantum : ℕ) (history : List Entry) (ledgers after : Ledgers) (i other : ℕ)
-    → i < limits.processes
-    → other < limits.processes
-    → HistoryHolds limits bound quantum history ledgers
-    → length (ledgers i).seen ≤ length (ledgers other).seen
-    → Replaced i (record (ledgers i) { seen = (ledgers other).seen }) ledgers after
-    → HistoryHolds limits bound quantum history after
+pub join_holds : JoinsKeepHistory
 join_holds limits bound quantum history ledgers after i other lt lo h le moved = record {
   legal = h.legal;
   each = λ o li. elim (cases_eq o i) [

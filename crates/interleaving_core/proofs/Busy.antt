@@ -12,7 +12,7 @@ use Rattle.pool_machine.specs.declared.call.CallStage.TheVariants.{Moving, Own}
 use Rattle.pool_machine.specs.declared.call.Way.{Way}
 use Rattle.pool_machine.specs.declared.call.Way.TheVariants.{Fresh, Alone, Calls}
 use Rattle.pool_machine.specs.declared.view.ProcessView.{ProcessView}
-use Rattle.interleaving_core.specs.Steps.{is_busy, is_in_call}
+use Rattle.interleaving_core.specs.Steps.{is_alone, is_busy, is_in_call}
 
 -- one that makes transfers alone, and goes on or begins with this wish
 pub moving_busy : (wish : Wish) (v : ProcessView) (way : Way) (t : Bool) → v.calls.way ≡ way
@@ -28,11 +28,20 @@ pub first_inside : (t : Bool) → is_in_call (if t then Own else Moving) ≡ tru
 first_inside true = refl
 first_inside false = refl
 
-pub begun_inside : (call : Call) (v : ProcessView) → is_busy (call_begun call v) ≡ true
-begun_inside Allocate v = first_inside (is_idle (before_call v).pool.plan.pending)
-begun_inside (Free block) v = first_inside (is_idle (before_call v).pool.plan.pending)
-begun_inside (Read block index) v = refl
-begun_inside (Write block index value) v = refl
+pub begun_in_call : (call : Call) (v : ProcessView) → is_in_call (call_begun call v).calls.stage ≡ true
+begun_in_call Allocate v = first_inside (is_idle (before_call v).pool.plan.pending)
+begun_in_call (Free block) v = first_inside (is_idle (before_call v).pool.plan.pending)
+begun_in_call (Read block index) v = refl
+begun_in_call (Write block index value) v = refl
+
+pub begun_calls : (call : Call) (v : ProcessView) → is_alone (call_begun call v).calls.way ≡ false
+begun_calls Allocate v = refl
+begun_calls (Free block) v = refl
+begun_calls (Read block index) v = refl
+begun_calls (Write block index value) v = refl
+
+begun_busy : (call : Call) (v : ProcessView) → is_busy (call_begun call v) ≡ true
+begun_busy call v = rw (begun_calls call v) (begun_in_call call v)
 
 -- and one that goes on with its call, or begins this one
 pub calling_busy : (call : Call) (v : ProcessView) (way : Way) (t : Bool) → v.calls.way ≡ way
@@ -41,4 +50,4 @@ pub calling_busy : (call : Call) (v : ProcessView) (way : Way) (t : Bool) → v.
 calling_busy call v Fresh true e alone inside = rw (e, inside) refl
 calling_busy call v Alone true e alone inside = let h = alone refl in grind arith
 calling_busy call v Calls true e alone inside = rw (e, inside) refl
-calling_busy call v way false e alone inside = begun_inside call v
+calling_busy call v way false e alone inside = begun_busy call v

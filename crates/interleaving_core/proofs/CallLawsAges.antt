@@ -16,12 +16,12 @@ use Rattle.pool_machine.specs.declared.call.Way.TheVariants.{Calls}
 use Rattle.pool_machine.specs.declared.view.ProcessView.{ProcessView}
 use Rattle.transfer_machine.specs.declared.stage.NextStep.{NextStep}
 use Rattle.transfer_machine.specs.declared.stage.NextStep.TheVariants.{Rest}
-use Rattle.pool_invariant.specs.Stages.{is_moving}
 use Rattle.pool_machine.specs.Beginning.{call_begun}
 use Rattle.pool_machine.specs.Conditions.{may_use_transfers}
 use Rattle.pool_machine.specs.Steps.{call_met_at}
 use Rattle.pool_machine.specs.declared.event.Happened.{Happened}
 use Rattle.pool_machine.specs.declared.event.Happened.TheVariants.{Ignored}
+use Rattle.transfer_invariant.specs.Progress.{is_moving}
 use Rattle.call_invariant.proofs.Uses.{idle_pool_rests}
 use Rattle.interleaving_core.specs.Moves.{CoreState, view_at}
 use Rattle.interleaving_core.specs.Runs.{Turn, Moves, Events, IsRun, turns, is_made, turning_view, after_turn, turn_answer, entries_of}
@@ -35,6 +35,7 @@ use Rattle.interleaving_core.proofs.CallLaws.{every_run}
 use Rattle.interleaving_core.proofs.CallLawsShort.{other_view, ignored_state}
 use Rattle.interleaving_core.proofs.CallLawsPending.{Aged, own_step_pending, begun_ages, first_ages}
 use Rattle.interleaving_core.proofs.CallLawsTurns.{Calling, turn_calls, after_is, TurnsAge, turns_age, PendingMoves, pending_moves}
+use Rattle.interleaving_core.proofs.Withheld.{idle_is}
 
 -- the view with which a process turns has the age of its pending transfer
 turning_ages : (quantum n : ℕ) (v : ProcessView) (call : Call) (t : Bool) → is_in_call v.calls.stage ≡ t
@@ -51,9 +52,6 @@ not_idle p pends = elim (cases (is_idle p) refl) [
     cases : (t : Bool) {u : Bool} → u ≡ t → (u ≡ true) ⊎ (u ≡ false)
     cases true e = inl e
     cases false e = inr e
-
-    idle_is : (p : Pending) → is_idle p ≡ true → p ≡ Idle
-    idle_is p e = grind arith
 
 -- a turn with nothing pending leaves nothing pending, unless it begins a transfer
 idle_stays : (sizes : Sizes) (v : ProcessView) (word : ℕ) (stage : CallStage) → Calling v → v.calls.stage ≡ stage

@@ -17,30 +17,25 @@ use Rattle.process_sums.specs.Sums.{total}
 use Rattle.process_sums.proofs.Sums.{total_same, total_le}
 use Rattle.pool_model.specs.declared.entry.Entry.{Entry}
 use Rattle.pool_model.specs.History.{held, allowance, slack}
-use Rattle.transfer_schedule.specs.Numbers.{is_idle, withheld}
-use Rattle.transfer_schedule.specs.declared.pending.Pending.{Pending}
-use Rattle.transfer_schedule.specs.declared.pending.Pending.TheVariants.{Idle}
+use Rattle.transfer_schedule.specs.Numbers.{withheld}
 use Rattle.transfer_machine.specs.States.{StackState}
 use Rattle.transfer_machine.specs.Tries.{is_pending}
 use Rattle.transfer_machine.specs.Words.{first_of, stack}
 use Rattle.transfer_machine.specs.declared.transfer.TransferView.{TransferView}
-use Rattle.pool_machine.specs.declared.view.ProcessView.{ProcessView}
 use Rattle.transfer_invariant.specs.Memory.{state_tag, current_record, word_value}
-use Rattle.transfer_invariant.specs.Progress.{has_announced}
+use Rattle.transfer_invariant.specs.Progress.{has_announced, has_only_begun}
 use Rattle.stack_invariant.specs.Shown.{Shows}
 use Rattle.stack_invariant.proofs.Content.{words_show}
 use Rattle.stack_invariant.proofs.Tables.{tables_show}
 use Rattle.batch_invariant.specs.Batches.{ProcessViews}
-use Rattle.batch_invariant.specs.Places.{has_only_begun, given, taken, announced_batch, moving}
+use Rattle.batch_invariant.specs.Places.{given, taken, announced_batch, moving}
 use Rattle.chain_invariant.specs.Laws.{kept_blocks}
 use Rattle.chain_invariant.proofs.Counts.{blocks_counted}
-use Rattle.chain_invariant.proofs.Kept.{kept_is_withheld}
 use Rattle.history_invariant.proofs.Holding.{held_shared}
-use Rattle.call_invariant.specs.Uses.{PoolKeeps}
-use Rattle.call_invariant.proofs.Uses.{idle_pool_rests}
 use Rattle.interleaving_core.specs.Invariant.{Ghosts, Holds, held_in}
 use Rattle.interleaving_core.specs.Kept.{reply_value_at, pends_at, given_batches, taken_batches, announced_batches, in_transit, kept_by}
 use Rattle.interleaving_core.proofs.Joins.{transfers, keeps, withholds_few_at}
+use Rattle.interleaving_core.proofs.Withheld.{withholds}
 
 -- a transfer pends exactly where its number isn't that of the last applied one
 odd_apart : (age applied : ℕ) (a b : Bool) → (age % 2 == 1) ≡ a → (applied % 2 == 1) ≡ b → age ≡ applied + 1
@@ -141,14 +136,6 @@ kept_said sizes table views history ghosts i li h =
     (transit_said sizes table views history ghosts i li h)
 
 -- each process keeps at most five batches
-idle_is : (p : Pending) → is_idle p ≡ true → p ≡ Idle
-idle_is p e = grind arith
-
-withholds : (sizes : Sizes) (t : StackState) (i : ℕ) (v : ProcessView) → PoolKeeps sizes v → kept_blocks sizes t i v ≤ withheld v.pool.plan
-withholds sizes t i v k =
-    kept_is_withheld sizes t i v (is_idle v.pool.plan.pending) refl
-    (record { size = k.runs.kept.batch; heads = k.heads; idle = λ e. idle_pool_rests sizes v k (idle_is v.pool.plan.pending e) })
-
 at_most : {a b c d : ℕ} → a ≡ b → b ≤ c → c ≤ d → a ≤ d
 at_most e le more = omega (arith, e, le, more)
 

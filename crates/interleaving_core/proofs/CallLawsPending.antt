@@ -13,7 +13,6 @@ use Rattle.transfer_schedule.specs.declared.own_step.Source.{Source}
 use Rattle.transfer_schedule.specs.declared.own_step.Source.TheVariants as source
 use Rattle.transfer_schedule.specs.declared.own_step.Target.{Target}
 use Rattle.transfer_schedule.specs.declared.own_step.Target.TheVariants as target
-use Rattle.transfer_schedule.specs.declared.pending.Pending.{Pending}
 use Rattle.transfer_schedule.specs.declared.pending.Pending.TheVariants.{Idle}
 use Rattle.pool_machine.specs.Pools.{view_begun, pool_met_at, view_met, pool_ended}
 use Rattle.pool_machine.specs.declared.call.Call.{Call}
@@ -32,6 +31,7 @@ use Rattle.pool_machine.specs.Steps.{call_met_at, call_answer_at, happened}
 use Rattle.call_invariant.specs.Phases.{changes_pool}
 use Rattle.interleaving_core.specs.Runs.{entries_of}
 use Rattle.interleaving_core.proofs.RunCounts.{allocated_counts, freed_counts}
+use Rattle.interleaving_core.proofs.Withheld.{idle_is}
 
 -- how many steps of its transfer the present call has made
 abbrev pub made_now_at : ℕ → CallView → CallStage → ℕ
@@ -152,9 +152,6 @@ none_made quantum done none = omega (arith, none)
 changed_ages : (quantum : ℕ) (v : ProcessView) (t : Bool) (call : Call) → is_idle v.pool.plan.pending ≡ t → v.pool.plan.done ≡ 0
     → Aged quantum 0 (entered call (if t then Own else Moving) v) ⊎ (v.pool.plan.pending ≡ Idle) × ((if t then Own else Moving) ≡ Own)
 changed_ages quantum v true call e none = inr (idle_is v.pool.plan.pending e, refl)
-  where
-    idle_is : (p : Pending) → is_idle p ≡ true → p ≡ Idle
-    idle_is p e = grind arith
 changed_ages quantum v false call e none = inl (none_made quantum v.pool.plan.done none)
 
 -- a call that begins none comes to its own step with nothing pending

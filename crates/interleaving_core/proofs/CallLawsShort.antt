@@ -26,7 +26,7 @@ use Rattle.interleaving_core.specs.Moves.{CoreState, view_at, calling_view, with
 use Rattle.interleaving_core.specs.Runs.{Turn, Events, IsRun, turns, by_of, is_made, turning_view, after_turn}
 use Rattle.interleaving_core.specs.Steps.{is_alone, is_in_call, next_action, next_met}
 use Rattle.interleaving_core.proofs.Standing.{alone_between}
-use Rattle.interleaving_core.proofs.Busy.{first_inside}
+use Rattle.interleaving_core.proofs.Busy.{begun_calls, begun_in_call}
 use Rattle.interleaving_core.proofs.Runs.{RunFits, turn_low}
 use Rattle.interleaving_core.proofs.RunTurns.{own_view}
 use Rattle.interleaving_core.proofs.CallLaws.{shapes_stay, every_run, quanta_here}
@@ -62,18 +62,6 @@ begun_steps Allocate v = refl
 begun_steps (Free block) v = refl
 begun_steps (Read block index) v = refl
 begun_steps (Write block index value) v = refl
-
-pub begun_calls : (call : Call) (v : ProcessView) → is_alone (call_begun call v).calls.way ≡ false
-begun_calls Allocate v = refl
-begun_calls (Free block) v = refl
-begun_calls (Read block index) v = refl
-begun_calls (Write block index value) v = refl
-
-begun_in_call : (call : Call) (v : ProcessView) → is_in_call (call_begun call v).calls.stage ≡ true
-begun_in_call Allocate v = first_inside (is_idle (before_call v).pool.plan.pending)
-begun_in_call (Free block) v = first_inside (is_idle (before_call v).pool.plan.pending)
-begun_in_call (Read block index) v = refl
-begun_in_call (Write block index value) v = refl
 
 -- the step of a view in a call
 next_left : (sizes : Sizes) (v : ProcessView) (word : ℕ) → is_alone v.calls.way ≡ false → is_in_call v.calls.stage ≡ true

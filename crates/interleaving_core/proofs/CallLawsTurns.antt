@@ -16,7 +16,6 @@ use Rattle.pool_machine.specs.declared.call.Way.TheVariants.{Fresh, Alone, Calls
 use Rattle.pool_machine.specs.declared.view.ProcessView.{ProcessView}
 use Rattle.transfer_machine.specs.declared.stage.NextStep.{NextStep}
 use Rattle.transfer_machine.specs.declared.stage.NextStep.TheVariants.{Rest, Announce, LoadFinalState, LoadReply, Try}
-use Rattle.pool_invariant.specs.Stages.{is_moving}
 use Rattle.pool_machine.specs.Beginning.{call_begun}
 use Rattle.pool_machine.specs.Steps.{call_met_at, call_answer_at}
 use Rattle.call_invariant.specs.Phases.{changes_pool}
@@ -26,14 +25,16 @@ use Rattle.call_invariant.proofs.Uses.{calls_used, idle_pool_rests, steps_can_co
 use Rattle.batch_invariant.specs.Batches.{ProcessViews}
 use Rattle.transfer_machine.specs.Words.{met_word}
 use Rattle.transfer_machine.specs.Stages.{is_rest}
+use Rattle.transfer_invariant.specs.Progress.{is_moving}
 use Rattle.interleaving_core.specs.Moves.{CoreState, view_at}
 use Rattle.interleaving_core.specs.Runs.{Events, is_made, turning_view, after_turn, turn_answer, entries_of}
 use Rattle.interleaving_core.specs.Steps.{is_alone, is_busy, is_in_call, next_action, next_met, next_answer}
 use Rattle.interleaving_core.specs.CallLaws.{HasPending}
+use Rattle.interleaving_core.proofs.Busy.{begun_calls}
 use Rattle.interleaving_core.proofs.Standing.{isnt_alone, alone_between}
 use Rattle.interleaving_core.proofs.Joins.{keeps, given}
 use Rattle.interleaving_core.proofs.Runs.{RunFits, turn_low, turn_meets, turn_busy}
-use Rattle.interleaving_core.proofs.CallLawsShort.{made_view, not_alone, begun_calls}
+use Rattle.interleaving_core.proofs.CallLawsShort.{made_view, not_alone}
 use Rattle.interleaving_core.proofs.CallLawsPending.{Aged, step_ages}
 
 -- a view that makes a turn of a call

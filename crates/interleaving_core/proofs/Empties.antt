@@ -13,12 +13,9 @@ use Rattle.word_layout.proofs.Packed.{reply_of-reply_value}
 use Rattle.process_sums.proofs.Sums.{total_le}
 use Rattle.pool_model.specs.declared.entry.Entry.{Entry}
 use Rattle.pool_model.specs.History.{held, HasFewUnheld}
-use Rattle.transfer_schedule.specs.Numbers.{withheld, is_idle}
-use Rattle.transfer_schedule.specs.declared.pending.Pending.{Pending}
-use Rattle.transfer_schedule.specs.declared.pending.Pending.TheVariants.{Idle}
+use Rattle.transfer_schedule.specs.Numbers.{withheld}
 use Rattle.transfer_machine.specs.States.{StackState, put, with_transfer, answer_to, next_of}
 use Rattle.transfer_machine.specs.Tries.{is_pending, is_take, is_odd_transfer, announced_wish}
-use Rattle.pool_machine.specs.declared.view.ProcessView.{ProcessView}
 use Rattle.transfer_invariant.specs.Memory.{Words, state_tag}
 use Rattle.batch_invariant.specs.Batches.{ProcessViews}
 use Rattle.batch_invariant.specs.Premises.{PendingIsPresent}
@@ -26,19 +23,15 @@ use Rattle.batch_invariant.proofs.Applied.{put_here}
 use Rattle.chain_invariant.specs.Chains.{ChainsHold}
 use Rattle.chain_invariant.specs.Laws.{kept_blocks}
 use Rattle.chain_invariant.proofs.Counts.{blocks_counted, content_low}
-use Rattle.chain_invariant.proofs.Kept.{kept_is_withheld}
 use Rattle.chain_invariant.proofs.Moves.{next_chains}
 use Rattle.history_invariant.proofs.Holding.{held_shared}
-use Rattle.call_invariant.specs.Uses.{PoolKeeps}
-use Rattle.call_invariant.proofs.Uses.{empty_stack_leaves_few, idle_pool_rests}
+use Rattle.call_invariant.proofs.Uses.{empty_stack_leaves_few}
 use Rattle.draft_invariant.proofs.NextState.{either_reply}
 use Rattle.chain_invariant.proofs.Gives.{some_long}
 use Rattle.stack_invariant.proofs.Emptied.{found_empty}
 use Rattle.interleaving_core.specs.Invariant.{Ghosts, Holds, held_in}
 use Rattle.interleaving_core.proofs.Joins.{withholds_few_at, keeps}
-
-idle_is : (p : Pending) → is_idle p ≡ true → p ≡ Idle
-idle_is p e = grind arith
+use Rattle.interleaving_core.proofs.Withheld.{withholds}
 
 -- at such an exchange at most the slack is unheld
 pub few_at : (sizes : Sizes) (words : Words) (views : ProcessViews) (history : List Entry) (ghosts : Ghosts) (announcements : ℕ → ℕ) (o : ℕ)
@@ -70,12 +63,6 @@ few_at sizes words views history ghosts announcements o shape lo h present pendi
   where
     low : {a b : ℕ} → a < b → b ≤ most_blocks → a < most_blocks
     low lt le = omega (arith, lt, le)
-
-    withholds : (sizes : Sizes) (t : StackState) (i : ℕ) (v : ProcessView) → PoolKeeps sizes v
-        → kept_blocks sizes t i v ≤ withheld v.pool.plan
-    withholds sizes t i v k =
-        kept_is_withheld sizes t i v (is_idle v.pool.plan.pending) refl
-        (record { size = k.runs.kept.batch; heads = k.heads; idle = λ e. idle_pool_rests sizes v k (idle_is v.pool.plan.pending e) })
 
     enough : (all kept held_blocks withheld_blocks stack_blocks held_length : ℕ) → kept + held_blocks + stack_blocks ≡ all
         → stack_blocks ≡ 0 → kept ≤ withheld_blocks → held_length ≡ held_blocks → all ≤ held_length + withheld_blocks

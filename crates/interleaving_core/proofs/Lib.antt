@@ -4,6 +4,7 @@ pub mod Standing
 pub mod Begins
 pub mod Opens
 pub mod Joins
+pub mod Withheld
 pub mod Empties
 pub mod TransferSteps
 pub mod TransfersHold

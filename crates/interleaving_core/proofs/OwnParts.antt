@@ -13,11 +13,10 @@ use Rattle.transfer_machine.specs.declared.action.Action.TheVariants.{Load, Stor
 use Rattle.pool_machine.specs.declared.call.Call.{Call}
 use Rattle.pool_machine.specs.declared.call.Call.TheVariants.{Allocate, Free, Read, Write}
 use Rattle.pool_machine.specs.declared.view.PoolView.{PoolView}
-use Rattle.transfer_invariant.specs.Memory.{Words, Acted}
+use Rattle.transfer_invariant.specs.Memory.{Words, Acted, is_stack_word}
 use Rattle.pool_machine.specs.OwnSteps.{next_block, allocate_action, own_action_for}
 use Rattle.history_invariant.specs.Ledger.{Ledger}
 use Rattle.history_invariant.specs.Steps.{entered, got_one, got_none, gave_back}
-use Rattle.stack_invariant.specs.Stack.{is_stack_word}
 use Rattle.stack_invariant.proofs.OtherWords.{StackWordsStay}
 use Rattle.chain_invariant.specs.Calls.{with_got, held_by_call}
 

@@ -31,7 +31,7 @@ use Rattle.transfer_machine.specs.Stages.{is_rest}
 use Rattle.pool_machine.specs.Beginning.{due, begun_if_due, alone_begun, call_begun}
 use Rattle.pool_machine.specs.OwnSteps.{allocated, freed, pool_own_met}
 use Rattle.pool_machine.specs.Steps.{call_met_at}
-use Rattle.pool_invariant.specs.Stages.{is_moving}
+use Rattle.transfer_invariant.specs.Progress.{is_moving}
 use Rattle.pool_invariant.specs.StepCount.{OverlayIsFew}
 use Rattle.pool_invariant.specs.Holds.{PoolRuns}
 use Rattle.pool_invariant.proofs.Ending.{step_left}

@@ -35,6 +35,10 @@ use Rattle.interleaving_core.proofs.Opens.{opening_holds}
 use Rattle.interleaving_core.proofs.Standing.{number_holds, fresh_rests, alone_between}
 use Rattle.interleaving_core.proofs.Tables.{acted_length, table_step, with_view_here, rests, between_calls, either_may}
 
+-- the state of these parts
+abbrev pub core_of : Sizes → List ℕ → List ProcessView → List (Option ℕ) → CoreState
+core_of sizes words views holders = record { sizes = sizes; words = words; views = views; holders = holders }
+
 -- the words and views at the end of a run are those of the shape, and meet the invariant
 pub record RunFits (s : CoreState) (history : List Entry) : Type 0 where
   pub shape : IsShape s.sizes
@@ -197,17 +201,20 @@ run_fits sizes past history s (turns before made old turn run) =
     turn_fits old made turn (is_made turn old) (run_fits sizes before made old run) refl
 
 -- what a caller asks of a place, a process or a block is in range
-pub word_low : (s t : CoreState) (history : List Entry) (place : ℕ) → s ≡ t → RunFits s history → place < table_words t.sizes
+abbrev pub SomeRun : Sizes → CoreState → Type 0
+SomeRun sizes s = (past : List Turn) × (history : List Entry) × IsRun sizes past history s
+
+pub word_low : (sizes : Sizes) (s t : CoreState) (place : ℕ) → s ≡ t → SomeRun sizes s → place < table_words t.sizes
     → place < length s.words
-word_low s t history place e fits lt = rw (fits.whole, e) lt
+word_low sizes s t place e (past, history, run) lt = rw ((run_fits sizes past history s run).whole, e) lt
 
-pub seat_low : (s t : CoreState) (history : List Entry) (process : ℕ) → s ≡ t → RunFits s history → process < t.sizes.processes
+pub seat_low : (sizes : Sizes) (s t : CoreState) (process : ℕ) → s ≡ t → SomeRun sizes s → process < t.sizes.processes
     → process < length s.views
-seat_low s t history process e fits lt = rw (fits.seats, e) lt
+seat_low sizes s t process e (past, history, run) lt = rw ((run_fits sizes past history s run).seats, e) lt
 
-pub holder_low : (s t : CoreState) (history : List Entry) (block : ℕ) → s ≡ t → RunFits s history → block < blocks t.sizes
+pub holder_low : (sizes : Sizes) (s t : CoreState) (block : ℕ) → s ≡ t → SomeRun sizes s → block < blocks t.sizes
     → block < length s.holders
-holder_low s t history block e fits lt = rw (fits.holders.size, e) lt
+holder_low sizes s t block e (past, history, run) lt = rw ((run_fits sizes past history s run).holders.size, e) lt
 
 -- a process of a run is one of the processes
 pub run_among : (sizes : Sizes) (past : List Turn) (history : List Entry) (s : CoreState) (i : ℕ) → IsRun sizes past history s

@@ -1,68 +1,36 @@
 -- the step of a transfer, alone or in a call, keeps the invariant
-use Rattle.std.proofs.Common.{◌≡◌, ◌≢◌, ℕ, ◌+◌, ◌<◌, ◌==◌, Bool, true, false, List, length, refl, sym, ap, ◌∙◌, inl, inr, arith}
+use Rattle.std.proofs.Common.{◌≡◌, ◌≢◌, ℕ, ◌+◌, ◌<◌, ◌==◌, Bool, true, false, List, length, refl, sym, ◌∙◌, inl, inr, arith}
 use Rattle.std.specs.Prelude.{if◌then◌else◌, slice_index, ◌&&◌}
 use Rattle.std.proofs.lemmas.Bool.{cases_eq, false≢true}
 use Rattle.std.proofs.lemmas.Bool.Decides.{nat_tests}
 use Rattle.word_layout.specs.Sizes.{Sizes, blocks}
 use Rattle.word_layout.specs.Packing.{reply_of}
-use Rattle.word_layout.specs.declared.name.WordName.{WordName}
-use Rattle.word_layout.specs.declared.name.WordName.TheVariants.{State, Announcement, RecordWord, Slot, Next, Data}
+use Rattle.word_layout.specs.declared.name.WordName.TheVariants.{Data}
 use Rattle.word_layout.specs.declared.reply.Reply.{Reply}
 use Rattle.word_layout.specs.declared.reply.Reply.TheVariants.{Nothing, Took, Gave}
 use Rattle.pool_model.specs.declared.entry.Entry.{Entry}
 use Rattle.pool_model.specs.History.{HasFewUnheld}
 use Rattle.pool_model.specs.Limits.{Limits}
-use Rattle.transfer_machine.specs.Machine.{try_action, action_at, action_of, met_at}
+use Rattle.transfer_machine.specs.Machine.{action_of, met_at}
 use Rattle.transfer_machine.specs.States.{StackState}
 use Rattle.transfer_machine.specs.Tries.{is_pending, is_take, announced_wish}
-use Rattle.transfer_machine.specs.Words.{name_of}
 use Rattle.transfer_machine.specs.declared.transfer.TransferView.{TransferView}
 use Rattle.transfer_machine.specs.declared.stage.NextStep.{NextStep}
 use Rattle.transfer_machine.specs.declared.stage.NextStep.TheVariants.{Rest, Announce, LoadFinalState, LoadReply, Try}
-use Rattle.transfer_machine.specs.declared.stage.TryStep.{TryStep}
-use Rattle.transfer_machine.specs.declared.stage.TryStep.TheVariants.{LoadState, LoadRecordWord, LoadCoveredSlot, ExchangeSlot}
-use Rattle.transfer_machine.specs.declared.stage.TryStep.TheVariants.{LoadAnnouncement, LoadPoppedSlot, StoreRecordWord, ExchangeState}
 use Rattle.transfer_invariant.specs.Memory.{Words, Acted}
 use Rattle.transfer_invariant.specs.Installing.{drafted_state}
-use Rattle.transfer_invariant.specs.Progress.{has_announced}
+use Rattle.transfer_invariant.specs.Progress.{has_announced, has_only_begun}
+use Rattle.transfer_invariant.proofs.Acts.{leaves_other_words}
 use Rattle.batch_invariant.proofs.Moving.{SameAnnouncement}
 use Rattle.batch_invariant.proofs.Going.{met_same_announcement}
-use Rattle.pool_invariant.specs.Stages.{is_announcing}
 use Rattle.history_invariant.specs.Ledger.{Ledger, Ledgers}
 use Rattle.history_invariant.specs.Steps.{Emptied, stays, empties, with_ledger}
 use Rattle.interleaving_core.specs.Invariant.{KnowsOfNothing}
 
--- whether a word is one of data
-abbrev is_data : WordName → Bool
-is_data State = false
-is_data (Announcement process) = false
-is_data (RecordWord row index) = false
-is_data (Slot slot) = false
-is_data (Next block) = false
-is_data (Data block index) = true
-
--- a transfer leaves those
-try_on_no_data : (sizes : Sizes) (v : TransferView) (s : TryStep) → is_data (name_of (try_action sizes v s)) ≡ false
-try_on_no_data sizes v LoadState = refl
-try_on_no_data sizes v (LoadRecordWord index) = refl
-try_on_no_data sizes v (LoadCoveredSlot offset) = refl
-try_on_no_data sizes v (ExchangeSlot offset) = refl
-try_on_no_data sizes v (LoadAnnouncement process) = refl
-try_on_no_data sizes v (LoadPoppedSlot process) = refl
-try_on_no_data sizes v (StoreRecordWord index) = refl
-try_on_no_data sizes v ExchangeState = refl
-
-stage_on_no_data : (sizes : Sizes) (v : TransferView) (s : NextStep) → is_data (name_of (action_at sizes v s)) ≡ false
-stage_on_no_data sizes v Rest = refl
-stage_on_no_data sizes v Announce = refl
-stage_on_no_data sizes v (Try second step) = try_on_no_data sizes v step
-stage_on_no_data sizes v LoadFinalState = refl
-stage_on_no_data sizes v LoadReply = refl
-
+-- a transfer leaves the data words
 pub data_stays : (sizes : Sizes) (v : TransferView) (m n : Words) (block index : ℕ) → Acted sizes (action_of sizes v) m n
     → block < blocks sizes → index < sizes.words → n (Data block index) ≡ m (Data block index)
-data_stays sizes v m n block index a low within =
-    a.elsewhere (Data block index) (low, within) (λ e. false≢true (sym (stage_on_no_data sizes v v.next) ∙ sym (ap is_data e)))
+data_stays sizes v m n block index a low within = leaves_other_words sizes v m n (Data block index) a refl (low, within)
 
 -- a reply that says nothing
 abbrev pub is_nothing : Reply → Bool
@@ -115,7 +83,7 @@ goes_on_knowing s i v x g new goes found h =
 
 -- the view that made a step which leaves the state
 pub own_knows : (sizes : Sizes) (s : StackState) (i : ℕ) (v : TransferView) (word : ℕ) (g new : Ledger) (stage : NextStep) → v.next ≡ stage
-    → (has_announced v.next ≡ false → s.applied i ≡ v.age) → (is_announcing stage ≡ false → new.found_nothing ≡ g.found_nothing)
+    → (has_announced v.next ≡ false → s.applied i ≡ v.age) → (has_only_begun stage ≡ false → new.found_nothing ≡ g.found_nothing)
     → KnowsOfNothing s i v g → KnowsOfNothing s i (met_at sizes v word stage) new
 own_knows sizes s i v word g new Rest e calm found h = nothing_to_know s i v new (rw e refl)
 own_knows sizes s i v word g new Announce e calm found h =

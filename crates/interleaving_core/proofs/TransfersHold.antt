@@ -12,6 +12,7 @@ use Rattle.transfer_machine.specs.Words.{name_of}
 use Rattle.pool_machine.specs.declared.view.ProcessView.{ProcessView}
 use Rattle.transfer_invariant.specs.Memory.{Words, Acted, state_tag}
 use Rattle.transfer_invariant.specs.Installing.{states_after}
+use Rattle.transfer_invariant.specs.Progress.{has_only_begun}
 use Rattle.stack_invariant.specs.Laws.{HitsNot}
 use Rattle.stack_invariant.proofs.Exchanging.{present_stays}
 use Rattle.stack_invariant.proofs.Keeps.{steps_keep_stack}
@@ -22,7 +23,6 @@ use Rattle.chain_invariant.specs.Steps.{SameParts}
 use Rattle.chain_invariant.specs.Calls.{NamesHeld}
 use Rattle.chain_invariant.proofs.Gives.{held_are_apart}
 use Rattle.chain_invariant.proofs.Transfers.{transfer_keeps}
-use Rattle.pool_invariant.specs.Stages.{is_announcing}
 use Rattle.history_invariant.specs.Ledger.{Ledger, Ledgers}
 use Rattle.history_invariant.specs.Holds.{HistoryHolds}
 use Rattle.history_invariant.specs.Steps.{with_ledger}
@@ -42,7 +42,7 @@ pub record Made (sizes : Sizes) (words : Words) (history : List Entry) (ghosts :
     pub call : x.calls.call ≡ v.calls.call
     pub entries : HistoryHolds (limits_of sizes) (transfer_bound sizes) sizes.quantum history (with_ledger i g ghosts.ledgers)
     pub same : g.entries ≡ (ghosts.ledgers i).entries
-    pub found : is_announcing v.transfer.next ≡ false → g.found_nothing ≡ (ghosts.ledgers i).found_nothing
+    pub found : has_only_begun v.transfer.next ≡ false → g.found_nothing ≡ (ghosts.ledgers i).found_nothing
     pub uses : UsesPool sizes i x g
     pub few : TakesHadFew (limits_of sizes) history g x.pool.plan
 

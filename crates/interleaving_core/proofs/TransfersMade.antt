@@ -16,9 +16,9 @@ use Rattle.pool_machine.specs.declared.call.CallStage.TheVariants.{Moving}
 use Rattle.pool_machine.specs.declared.call.Way.TheVariants.{Alone}
 use Rattle.transfer_machine.specs.declared.stage.NextStep.TheVariants.{LoadReply}
 use Rattle.transfer_invariant.specs.Memory.{Words, Acted}
+use Rattle.transfer_invariant.specs.Progress.{has_only_begun}
 use Rattle.batch_invariant.specs.Batches.{ProcessViews, MovedProcess}
 use Rattle.pool_machine.specs.Steps.{call_met_at}
-use Rattle.pool_invariant.specs.Stages.{is_announcing}
 use Rattle.history_invariant.specs.Steps.{with_ledger}
 use Rattle.history_invariant.proofs.Fitting.{step_kept, seen_within}
 use Rattle.history_invariant.proofs.GoingOn.{going_fits, going_sees}
@@ -118,7 +118,7 @@ call_step_holds sizes words new views after history ghosts i shape li h calls st
           (going_fits (limits_of sizes) (transfer_bound sizes) sizes.quantum history i g next (shape_fits sizes shape) (h.entries.each i li)
           carries.goes) (going_sees g next carries.goes) (replaced_with i next ghosts.ledgers);
       same = entries;
-      found = λ e. found_kept (is_announcing v.transfer.next) next.found_nothing g.found_nothing e found;
+      found = λ e. found_kept (has_only_begun v.transfer.next) next.found_nothing g.found_nothing e found;
       uses = uses_calls sizes i x next x.calls.way calls carries.calls;
       few = few_moved (limits_of sizes) history v.transfer.next word v.pool g next
           (call_places_by (is_taking v.pool.plan.pending) word v.calls.steps v.transfer.next g (ap (λ p. is_taking p.pending) used.plan))

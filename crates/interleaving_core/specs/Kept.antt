@@ -12,8 +12,7 @@ use Rattle.transfer_machine.specs.Tries.{is_pending}
 use Rattle.transfer_machine.specs.Words.{current_record}
 use Rattle.transfer_machine.specs.declared.transfer.TransferView.{TransferView}
 use Rattle.pool_machine.specs.declared.view.ProcessView.{ProcessView}
-use Rattle.transfer_invariant.specs.Progress.{has_announced}
-use Rattle.batch_invariant.specs.Places.{has_only_begun}
+use Rattle.transfer_invariant.specs.Progress.{has_announced, has_only_begun}
 use Rattle.interleaving_core.specs.Moves.{CoreState, view_at}
 
 -- the reply to a process in the current record

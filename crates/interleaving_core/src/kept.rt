@@ -1,13 +1,12 @@
 // How many blocks a process keeps, read off its view and the words.
-ghost use Rattle.std.specs.Prelude.{◌≡◌, ◌<◌, ◌≤◌, ◌^◌, if◌then◌else◌, not};
+ghost use Rattle.std.specs.Prelude.{◌≡◌, ◌<◌, ◌≤◌, ◌^◌};
 ghost use Rattle.word_layout.specs.Packing.{reply_of};
-ghost use Rattle.transfer_machine.specs.Tries.{is_odd_transfer};
 ghost use Rattle.interleaving_core.specs.Content.{SaysContent};
 ghost use Rattle.interleaving_core.specs.Kept.{reply_value_at, given_batches, taken_batches, announced_batches, in_transit, kept_by, pends_at};
 
 use crate::content::{row_of, value_at, whole_at};
 use pool_machine::ProcessView;
-use transfer_machine::{NextStep, TransferView};
+use transfer_machine::{NextStep, TransferView, is_pending};
 use word_layout::{Announced, Reply, Shape, Tagged, Wish, WordName};
 
 /// How many blocks a process keeps: its current list, its spares, and its batch in transit.
@@ -44,10 +43,10 @@ fn announced_batches(words: &[u64], wish: Wish, shape: &Shape, process: u32) -> 
 {
     let value = reply_value_at(words, shape, process);
     let word = whole_at(words, shape, WordName::Announcement { process });
-    let (odd, reply) = Reply::read(value);
-    if is_pending(word, odd) {
+    if is_pending(Tagged::tag(word) % 2 == 1, value) {
         given_batches(wish)
     } else {
+        let (_, reply) = Reply::read(value);
         taken_batches(wish, reply)
     }
 }
@@ -68,13 +67,6 @@ fn reply_value_at(words: &[u64], shape: &Shape, process: u32) -> u32
             index: shape.processes() + 2 + process,
         },
     )
-}
-
-/// Whether an announcement is pending against a reply to a transfer with an odd or an even number.
-fn is_pending(word: u64, odd: bool) -> bool
-    ensures { result ≡ (if is_odd_transfer word then not odd else odd) }
-{
-    (Tagged::tag(word) % 2 == 1) != odd
 }
 
 /// How many batches a transfer keeps that isn't applied.

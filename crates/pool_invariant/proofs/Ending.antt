@@ -7,8 +7,8 @@ use Rattle.transfer_machine.specs.Machine.{met_of}
 use Rattle.transfer_machine.specs.declared.transfer.TransferView.{TransferView}
 use Rattle.transfer_machine.specs.declared.stage.NextStep.{NextStep}
 use Rattle.transfer_machine.specs.declared.stage.NextStep.TheVariants.{Rest, Announce}
-use Rattle.transfer_invariant.specs.Progress.{has_record}
-use Rattle.pool_invariant.specs.Stages.{is_moving, IndexFitsAt, IndexFits}
+use Rattle.transfer_invariant.specs.Progress.{has_record, is_moving}
+use Rattle.pool_invariant.specs.Stages.{IndexFitsAt, IndexFits}
 use Rattle.pool_invariant.specs.StepCount.{OverlayIsFew, TransferSteps, steps_before, steps_before_at}
 use Rattle.pool_invariant.proofs.Moved.{step_indexed}
 use Rattle.pool_invariant.proofs.Counted.{step_nearer}

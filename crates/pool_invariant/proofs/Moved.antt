@@ -13,20 +13,13 @@ use Rattle.transfer_machine.specs.declared.stage.NextStep.{NextStep}
 use Rattle.transfer_machine.specs.declared.stage.NextStep.TheVariants.{Rest, Announce, Try, LoadFinalState, LoadReply}
 use Rattle.transfer_machine.specs.declared.stage.TryStep.{TryStep}
 use Rattle.transfer_machine.specs.declared.stage.TryStep.TheVariants.{LoadState, LoadRecordWord, LoadCoveredSlot, ExchangeSlot, LoadAnnouncement, LoadPoppedSlot, StoreRecordWord, ExchangeState}
-use Rattle.pool_invariant.specs.Stages.{is_moving, is_announcing, IndexFitsInTry, IndexFitsAt, IndexFits}
+use Rattle.transfer_invariant.specs.Progress.{has_only_begun, is_moving, goes_on}
+use Rattle.pool_invariant.specs.Stages.{IndexFitsInTry, IndexFitsAt, IndexFits}
 
--- at a step between the announcement and the reply
-abbrev pub goes_on : NextStep → Bool
-goes_on Rest = false
-goes_on Announce = false
-goes_on (Try second step) = true
-goes_on LoadFinalState = true
-goes_on LoadReply = false
-
--- the view after such a step is in the same transfer
+-- the view after a step that goes on is in the same transfer
 pub record StaysIn (v x : TransferView) : Type 0 where
   pub moving : is_moving x.next ≡ true
-  pub announced : is_announcing x.next ≡ false
+  pub announced : has_only_begun x.next ≡ false
   pub wish : x.wish ≡ v.wish
   pub age : x.age ≡ v.age
 

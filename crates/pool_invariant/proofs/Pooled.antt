@@ -11,12 +11,12 @@ use Rattle.pool_machine.specs.Pools.{pending_of, step_counted, pool_ended}
 use Rattle.transfer_machine.specs.declared.transfer.TransferView.{TransferView}
 use Rattle.pool_machine.specs.declared.view.PoolView.{PoolView}
 use Rattle.pool_machine.specs.declared.view.ProcessView.{ProcessView}
-use Rattle.pool_invariant.specs.Stages.{is_moving, is_announcing}
+use Rattle.transfer_invariant.specs.Progress.{is_moving, has_only_begun}
 use Rattle.pool_invariant.specs.Kept.{PoolKept, SparesKept, KeptAlone, Answers}
 
 -- a step that doesn't end the transfer
 pub step_kept : (sizes : Sizes) (v : ProcessView) (x : TransferView) (giving : ℕ) → PoolKept sizes v
-    → is_moving v.transfer.next ≡ true → is_moving x.next ≡ true → is_announcing x.next ≡ false → x.wish ≡ v.transfer.wish → giving ≡ 0
+    → is_moving v.transfer.next ≡ true → is_moving x.next ≡ true → has_only_begun x.next ≡ false → x.wish ≡ v.transfer.wish → giving ≡ 0
     → PoolKept sizes (record v { transfer = x; pool = record (step_counted v.pool) { giving = giving } })
 step_kept sizes v x giving h moving after announced wish none = grind arith
 
@@ -28,7 +28,7 @@ step_alone sizes process pool giving h = record { full = h.full; first = h.first
 
 -- the end of the transfer
 pub end_kept : (sizes : Sizes) (v : ProcessView) (x : TransferView) (reply : Reply) → PoolKept sizes v
-    → is_announcing v.transfer.next ≡ false → is_moving x.next ≡ false → is_announcing x.next ≡ false
+    → has_only_begun v.transfer.next ≡ false → is_moving x.next ≡ false → has_only_begun x.next ≡ false
     → PoolKept sizes (record v { transfer = x; pool = pool_ended reply (step_counted v.pool) })
 end_kept sizes v x Nothing h before after settled = grind (arith, nat_tests)
 end_kept sizes v x (Took head) h before after settled = grind (arith, nat_tests)

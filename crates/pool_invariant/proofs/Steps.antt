@@ -11,12 +11,11 @@ use Rattle.pool_machine.specs.declared.view.PoolView.{PoolView}
 use Rattle.pool_machine.specs.declared.view.ProcessView.{ProcessView}
 use Rattle.transfer_machine.specs.declared.stage.NextStep.{NextStep}
 use Rattle.transfer_machine.specs.declared.stage.NextStep.TheVariants.{Rest, Announce, Try, LoadFinalState, LoadReply}
-use Rattle.transfer_invariant.specs.Progress.{has_record}
-use Rattle.pool_invariant.specs.Stages.{is_moving, is_announcing}
+use Rattle.transfer_invariant.specs.Progress.{has_record, is_moving, has_only_begun, goes_on}
 use Rattle.pool_invariant.specs.StepCount.{steps_before_at}
 use Rattle.pool_invariant.specs.Kept.{Answers, AgeFits}
 use Rattle.pool_invariant.specs.Holds.{PoolRuns, PoolAlone, PoolHolds}
-use Rattle.pool_invariant.proofs.Moved.{goes_on, StaysIn, step_stays, step_indexed}
+use Rattle.pool_invariant.proofs.Moved.{StaysIn, step_stays, step_indexed}
 use Rattle.pool_invariant.proofs.Counted.{step_nearer}
 use Rattle.pool_invariant.proofs.Pooled.{step_kept, step_spares, step_alone, end_kept, end_spares, end_alone}
 
@@ -28,7 +27,7 @@ counts_on done before after h k = omega arith
 going_moving : (s : NextStep) → goes_on s ≡ true → is_moving s ≡ true
 going_moving s e = grind arith
 
-going_announced : (s : NextStep) → goes_on s ≡ true → is_announcing s ≡ false
+going_announced : (s : NextStep) → goes_on s ≡ true → has_only_begun s ≡ false
 going_announced s e = grind arith
 
 pub going_pool : (pool : PoolView) (word : ℕ) (s : NextStep) → goes_on s ≡ true → pool_met_at word pool s ≡ step_counted pool

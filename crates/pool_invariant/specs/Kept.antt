@@ -13,7 +13,7 @@ use Rattle.transfer_machine.specs.declared.transfer.TransferView.{TransferView}
 use Rattle.pool_machine.specs.declared.view.PoolView.{PoolView}
 use Rattle.pool_machine.specs.declared.view.ProcessView.{ProcessView}
 use Rattle.transfer_machine.specs.declared.stage.NextStep.TheVariants.{LoadReply}
-use Rattle.pool_invariant.specs.Stages.{is_moving, is_announcing}
+use Rattle.transfer_invariant.specs.Progress.{is_moving, has_only_begun}
 use Rattle.pool_invariant.specs.StepCount.{OverlayIsFew}
 
 -- the plan has the sizes of the shape; it counts steps only of the pending transfer, which is what the process wishes; the head of a
@@ -26,8 +26,8 @@ pub record PoolKept (sizes : Sizes) (v : ProcessView) : Type 0 where
   pub idle : is_moving v.transfer.next ≡ false → v.pool.plan.pending ≡ Idle
   pub none : is_moving v.transfer.next ≡ false → v.pool.plan.done ≡ 0
   pub pending : is_moving v.transfer.next ≡ true → v.pool.plan.pending ≡ pending_of v.transfer.wish
-  pub given : is_announcing v.transfer.next ≡ true → v.pool.giving ≡ wish_code v.transfer.wish
-  pub settled : is_announcing v.transfer.next ≡ false → v.pool.giving ≡ 0
+  pub given : has_only_begun v.transfer.next ≡ true → v.pool.giving ≡ wish_code v.transfer.wish
+  pub settled : has_only_begun v.transfer.next ≡ false → v.pool.giving ≡ 0
 
 -- each spare has its head; there are at most three, and at most two while a transfer is pending
 pub record SparesKept (pool : PoolView) : Type 0 where
@@ -47,7 +47,7 @@ pub record KeptAlone (sizes : Sizes) (process : ℕ) (pool : PoolView) : Type 0 
 -- the age is within its limit, and a transfer is begun only below it
 pub record AgeFits (v : TransferView) : Type 0 where
   pub most : v.age ≤ most_age
-  pub below : is_announcing v.next ≡ true → v.age < most_age
+  pub below : has_only_begun v.next ≡ true → v.age < most_age
 
 -- a reply that answers a wish: a take gets nothing or a batch, a give is always made
 abbrev pub Answers : Wish → Reply → Type 0

@@ -1,5 +1,5 @@
--- where a view is in its transfer, as far as its pool is concerned, and which place its next step names
-use Rattle.std.specs.Prelude.{◌<◌, Bool, true, false}
+-- which place the next step of a view names
+use Rattle.std.specs.Prelude.{◌<◌}
 use Rattle.word_layout.specs.Sizes.{Sizes}
 use Rattle.word_layout.specs.Names.{record_words}
 use Rattle.transfer_machine.specs.Loads.{overlay_length}
@@ -9,22 +9,6 @@ use Rattle.transfer_machine.specs.declared.stage.NextStep.{NextStep}
 use Rattle.transfer_machine.specs.declared.stage.NextStep.TheVariants.{Rest, Announce, Try, LoadFinalState, LoadReply}
 use Rattle.transfer_machine.specs.declared.stage.TryStep.{TryStep}
 use Rattle.transfer_machine.specs.declared.stage.TryStep.TheVariants.{LoadState, LoadRecordWord, LoadCoveredSlot, ExchangeSlot, LoadAnnouncement, LoadPoppedSlot, StoreRecordWord, ExchangeState}
-
--- in a transfer that is begun and hasn't ended
-abbrev pub is_moving : NextStep → Bool
-is_moving Rest = false
-is_moving Announce = true
-is_moving (Try second step) = true
-is_moving LoadFinalState = true
-is_moving LoadReply = true
-
--- in one that is still to be announced
-abbrev pub is_announcing : NextStep → Bool
-is_announcing Rest = false
-is_announcing Announce = true
-is_announcing (Try second step) = false
-is_announcing LoadFinalState = false
-is_announcing LoadReply = false
 
 -- the record word, the covered slot or the process that a step of a try names is one of them
 abbrev pub IndexFitsInTry : Sizes → Loaded → TryStep → Type 0

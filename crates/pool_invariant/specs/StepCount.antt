@@ -9,8 +9,7 @@ use Rattle.transfer_machine.specs.declared.stage.NextStep.{NextStep}
 use Rattle.transfer_machine.specs.declared.stage.NextStep.TheVariants.{Rest, Announce, Try, LoadFinalState, LoadReply}
 use Rattle.transfer_machine.specs.declared.stage.TryStep.{TryStep}
 use Rattle.transfer_machine.specs.declared.stage.TryStep.TheVariants.{LoadState, LoadRecordWord, LoadCoveredSlot, ExchangeSlot, LoadAnnouncement, LoadPoppedSlot, StoreRecordWord, ExchangeState}
-use Rattle.transfer_invariant.specs.Progress.{has_record}
-use Rattle.pool_invariant.specs.Stages.{is_moving}
+use Rattle.transfer_invariant.specs.Progress.{has_record, is_moving}
 
 -- a try takes at most so many steps: the state is loaded and exchanged, each of 2p + 2 record words is loaded and stored, and each
 -- process has at most two steps at a covered slot and two at its announcement

@@ -10,14 +10,16 @@ use Rattle.word_layout.specs.declared.name.WordName.TheVariants.{Slot}
 use Rattle.transfer_machine.specs.Loads.{loaded_tag, loaded_base, overlay_length}
 use Rattle.transfer_machine.specs.Tries.{begun_draft, after_announcement}
 use Rattle.transfer_machine.specs.Machine.{try_ended, after_slot, after_record, after_heard, after_stored, record_word_loaded, popped_loaded}
+use Rattle.transfer_machine.specs.declared.loaded.Loaded.{Loaded}
 use Rattle.transfer_machine.specs.declared.transfer.TransferView.{TransferView}
+use Rattle.transfer_machine.specs.declared.try_draft.TryDraft.{TryDraft}
 use Rattle.transfer_machine.specs.declared.stage.NextStep.TheVariants.{Try}
 use Rattle.transfer_machine.specs.declared.stage.TryStep.TheVariants.{LoadRecordWord, LoadCoveredSlot, ExchangeSlot, LoadAnnouncement, LoadPoppedSlot, StoreRecordWord}
 use Rattle.transfer_invariant.proofs.Loaded.{ended_has_none}
 use Rattle.transfer_invariant.specs.Memory.{Words, Views, States, Moved, state_tag, slot_tag, slot_value}
 use Rattle.transfer_invariant.specs.Progress.{has_record}
 use Rattle.transfer_invariant.specs.Invariant.{RecordsHold}
-use Rattle.slot_invariant.specs.Slots.{covered_in_try, passed_in_try, SlotsHold, SlotsKnown, SlotsInvariant}
+use Rattle.slot_invariant.specs.Slots.{covered_in_try, passed_in_try, SlotsHold, SlotsKnown, SlotsInvariant, passed_slots}
 use Rattle.slot_invariant.proofs.Changes.{SlotsStay}
 use Rattle.slot_invariant.proofs.Covers.{Covers, covers}
 use Rattle.slot_invariant.proofs.Stable.{stay_hold, stay_known}
@@ -69,6 +71,21 @@ heard_past sizes process = grind (arith, nat_tests)
 heard_passed : (sizes : Sizes) (process covered : ℕ) → passed_in_try covered (after_heard sizes process) ≤ covered
 heard_passed sizes process covered = grind (arith, nat_tests)
 
+heard_known : (sizes : Sizes) (n : Words) (v : TransferView) (loaded : Loaded) (draft : TryDraft) (second : Bool) (process : ℕ)
+    → SlotsKnown n v → has_record v.next ≡ true → passed_slots v ≡ overlay_length v.loaded
+    → loaded.state ≡ v.loaded.state → loaded.record_words ≡ v.loaded.record_words → loaded.slots ≡ v.loaded.slots
+    → SlotsKnown n (record v { loaded = loaded; next = Try second (after_heard sizes process); draft = draft })
+heard_known sizes n v loaded draft second process h was all state words slots =
+    past_known n v (record v { loaded = loaded; next = Try second (after_heard sizes process); draft = draft }) h (record {
+      was = was;
+      state = state;
+      record_words = words;
+      slots = slots;
+      all = all;
+      past = heard_past sizes process;
+      none = heard_passed sizes process (overlay_length loaded);
+    })
+
 pub announcement_known : (sizes : Sizes) (n : Words) (v : TransferView) (second : Bool) (process word : ℕ) (t : Bool) → SlotsKnown n v
     → v.next ≡ Try second (LoadAnnouncement process)
     → SlotsKnown n (let loaded = record v.loaded { announcements = set v.loaded.announcements process word } in
@@ -85,28 +102,14 @@ announcement_known sizes n v second process word t h e =
     either_known n t _ _
     (past_known n v (record v { loaded = loaded; next = Try second (LoadPoppedSlot process) }) h
     (record { was = rw e refl; state = refl; record_words = refl; slots = refl; all = rw e refl; past = refl; none = omega arith }))
-    (past_known n v (record v { loaded = loaded; next = Try second (after_heard sizes process); draft = draft }) h (record {
-      was = rw e refl;
-      state = refl;
-      record_words = refl;
-      slots = refl;
-      all = rw e refl;
-      past = heard_past sizes process;
-      none = heard_passed sizes process (overlay_length v.loaded);
-    }))
+    (heard_known sizes n v loaded draft second process h (rw e refl) (rw e refl) refl refl refl)
 
 -- the slot of a taken batch is loaded
 pub popped_known : (sizes : Sizes) (n : Words) (v : TransferView) (second : Bool) (process word : ℕ) → SlotsKnown n v
     → v.next ≡ Try second (LoadPoppedSlot process) → SlotsKnown n (popped_loaded sizes second process word v)
-popped_known sizes n v second process word h e = past_known n v (popped_loaded sizes second process word v) h (record {
-  was = rw e refl;
-  state = refl;
-  record_words = refl;
-  slots = refl;
-  all = rw e refl;
-  past = heard_past sizes process;
-  none = heard_passed sizes process (overlay_length v.loaded);
-})
+popped_known sizes n v second process word h e =
+    let x = popped_loaded sizes second process word v in
+    heard_known sizes n v x.loaded x.draft second process h (rw e refl) (rw e refl) refl refl refl
 
 -- a record word is stored
 stored_past : (sizes : Sizes) (index : ℕ) → covered_in_try (after_stored sizes index) ≡ false

@@ -1,23 +1,13 @@
 -- the opening meets the invariant, and beginnings and steps keep it
-use Rattle.std.proofs.Common.{◌≡◌, ℕ, ◌<◌, refl, ap, arith}
-use Rattle.word_layout.specs.Sizes.{Sizes, IsShape}
-use Rattle.word_layout.specs.Names.{InRange}
+use Rattle.std.proofs.Common.{ℕ, ◌<◌, refl}
+use Rattle.word_layout.specs.Sizes.{Sizes}
 use Rattle.word_layout.specs.declared.announced.Wish.{Wish}
-use Rattle.word_layout.specs.declared.name.WordName.{WordName}
 use Rattle.transfer_machine.specs.Machine.{action_of, met_of, begun}
-use Rattle.transfer_machine.specs.Opening.{opening_word, opening_transfer}
 use Rattle.transfer_machine.specs.Words.{name_of}
-use Rattle.transfer_invariant.specs.Memory.{Words, Views, States, Acted, Moved, state_tag}
+use Rattle.transfer_invariant.specs.Memory.{Words, Views, States, Moved, state_tag}
 use Rattle.transfer_invariant.specs.OpeningState.{opening_state}
-use Rattle.transfer_invariant.specs.Installing.{states_after}
-use Rattle.transfer_invariant.specs.Invariant.{Invariant}
-use Rattle.transfer_invariant.specs.Laws.{WritesFit}
-use Rattle.transfer_invariant.proofs.Counts.{opened_tags_hold, tags_kept, idle_tags}
-use Rattle.transfer_invariant.proofs.Keeps.{step_kept}
-use Rattle.transfer_invariant.proofs.Opened.{opened_tag, opened_invariant}
-use Rattle.transfer_invariant.proofs.Own.{StoresNone}
-use Rattle.transfer_invariant.proofs.Overlays.{overlays_kept, overlays_move}
-use Rattle.transfer_invariant.proofs.Stages.{leaves}
+use Rattle.transfer_invariant.proofs.Gathered.{opening_meets_invariant, beginnings_keep_invariant, steps_keep_invariant}
+use Rattle.transfer_invariant.proofs.Opened.{opened_tag}
 use Rattle.slot_invariant.specs.Slots.{SlotsInvariant}
 use Rattle.slot_invariant.proofs.Keeps.{slots_kept}
 use Rattle.slot_invariant.proofs.Opened.{opened_slots}
@@ -34,18 +24,9 @@ use Rattle.stack_invariant.proofs.Answered.{opened_answers, begun_answers, answe
 use Rattle.stack_invariant.proofs.Loaded.{loads_opened, loads_begun, loads_met}
 
 -- the opening
-opened_transfers : (sizes : Sizes) (words : Words) (views : Views) → IsShape sizes
-    → ((name : WordName) → InRange sizes name → words name ≡ opening_word sizes name)
-    → ((i : ℕ) → i < sizes.processes → views i ≡ opening_transfer i) → Invariant sizes words views (λ m. opening_state sizes)
-opened_transfers sizes words views shape opened seats = record {
-  records = opened_invariant sizes words shape opened views seats;
-  drafts = λ i li. rw (seats i li) tt;
-  tags = opened_tags_hold sizes words views (opened_tag sizes words shape opened) (λ i li. ap (λ v. v.next) (seats i li));
-}
-
 pub opening_meets : OpeningMeetsStack
 opening_meets sizes words views shape opened seats = record {
-  transfers = opened_transfers sizes words views shape opened seats;
+  transfers = opening_meets_invariant sizes words views shape opened seats;
   slots = opened_slots sizes words shape opened views seats;
   helping = opening_meets_helping sizes words views shape opened seats;
   drafts = opening_holds sizes words views (λ m. opening_state sizes) shape opened seats;
@@ -55,17 +36,6 @@ opening_meets sizes words views shape opened seats = record {
 }
 
 -- beginnings
-begun_transfers : (sizes : Sizes) (words : Words) (views after : Views) (states : States) (i : ℕ) (wish : Wish) → i < sizes.processes
-    → Invariant sizes words views states → Moved i (begun wish (views i)) views after → Invariant sizes words after states
-begun_transfers sizes words views after states i wish li inv moved =
-    let x = begun wish (views i) in
-    let none : StoresNone sizes x.next = record { index = omega arith; stored = refl } in
-    record {
-      records = leaves sizes words views after states i x li inv.records refl refl none refl refl refl refl moved;
-      drafts = overlays_move sizes views after i x inv.drafts moved tt;
-      tags = idle_tags sizes words words views after i x li inv.tags moved refl refl refl;
-    }
-
 begun_slots : (sizes : Sizes) (words : Words) (views after : Views) (states : States) (i : ℕ) (wish : Wish) → i < sizes.processes
     → SlotsInvariant sizes words views states → Moved i (begun wish (views i)) views after → SlotsInvariant sizes words after states
 begun_slots sizes words views after states i wish li slots moved =
@@ -74,7 +44,7 @@ begun_slots sizes words views after states i wish li slots moved =
 
 pub beginnings_keep_stack : BeginningsKeepStack
 beginnings_keep_stack sizes words views after states i wish li h rest moved = record {
-  transfers = begun_transfers sizes words views after states i wish li h.transfers moved;
+  transfers = beginnings_keep_invariant sizes words views after states i wish li h.transfers rest moved;
   slots = begun_slots sizes words views after states i wish li h.slots moved;
   helping = beginnings_keep_helping sizes words views after states i wish li h.helping rest moved;
   drafts = beginnings_keep sizes words views after states i wish li h.drafts moved;
@@ -85,20 +55,6 @@ beginnings_keep_stack sizes words views after states i wish li h rest moved = re
 }
 
 -- steps
-stepped_transfers : (sizes : Sizes) (words new : Words) (views after : Views) (states : States) (i : ℕ) → IsShape sizes
-    → i < sizes.processes → Invariant sizes words views states → WritesFit sizes words (views i)
-    → Acted sizes (action_of sizes (views i)) words new
-    → Moved i (met_of sizes (views i) (words (name_of (action_of sizes (views i))))) views after
-    → Invariant sizes new after (states_after words (views i) states)
-stepped_transfers sizes words new views after states i shape li inv fits acted moved =
-    let few = shape.few_processes in
-    let next = (views i).next in
-    record {
-      records = step_kept sizes words new views after states i next few li inv.records (inv.drafts i li) fits refl acted moved;
-      drafts = overlays_kept sizes views after i (words (name_of (action_of sizes (views i)))) li inv.drafts moved;
-      tags = tags_kept sizes words new views after states i next few li inv.records inv.tags fits refl acted moved;
-    }
-
 pub steps_keep_stack : StepsKeepStack
 steps_keep_stack sizes words new views after states i shape li h s acted moved =
     let t = h.transfers in
@@ -108,7 +64,7 @@ steps_keep_stack sizes words new views after states i shape li h s acted moved =
     let wish = fits_wish sizes words states (views i) shape s in
     let premises = draft_premises sizes words views states i li h s in
     record {
-      transfers = stepped_transfers sizes words new views after states i shape li t fits acted moved;
+      transfers = steps_keep_invariant sizes words new views after states i shape li t fits acted moved;
       slots = slots_kept sizes words new views after states i (views i).next shape.few_processes li t.records h.slots fits below refl
           acted moved;
       helping = steps_keep_helping sizes words new views after states i shape li t h.helping fits replies wish acted moved;

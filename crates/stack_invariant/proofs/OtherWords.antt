@@ -6,6 +6,7 @@ use Rattle.word_layout.specs.Packing.{tag_of, value_of}
 use Rattle.word_layout.specs.declared.name.WordName.{WordName}
 use Rattle.word_layout.specs.declared.name.WordName.TheVariants.{State, Announcement, RecordWord, Slot}
 use Rattle.transfer_invariant.specs.Memory.{Words, Views, States, state_tag, current_record, word_tag, word_value, slot_tag, slot_value}
+use Rattle.transfer_invariant.specs.Memory.{is_stack_word}
 use Rattle.transfer_invariant.specs.Tags.{TagsHold}
 use Rattle.transfer_invariant.specs.Invariant.{Invariant}
 use Rattle.transfer_invariant.proofs.Changes.{RecordsStay}
@@ -19,7 +20,6 @@ use Rattle.helping_invariant.proofs.Changes.{AnnouncementsStay}
 use Rattle.helping_invariant.proofs.Moves as moves
 use Rattle.draft_invariant.specs.Holding.{DraftsHold}
 use Rattle.draft_invariant.proofs.Acts.{pops_stay}
-use Rattle.stack_invariant.specs.Stack.{is_stack_word}
 use Rattle.stack_invariant.specs.Laws.{OtherWordsKeepStack}
 use Rattle.stack_invariant.proofs.Following.{follow_stays}
 

@@ -14,12 +14,12 @@ use Rattle.transfer_machine.specs.declared.transfer.TransferView.{TransferView}
 use Rattle.transfer_machine.specs.declared.stage.NextStep.{NextStep}
 use Rattle.transfer_machine.specs.declared.stage.NextStep.TheVariants.{Rest, Try, LoadReply}
 use Rattle.transfer_machine.specs.declared.stage.TryStep.TheVariants.{ExchangeState}
-use Rattle.transfer_invariant.specs.Memory.{Words, Views, States, Acted, Moved, state_tag}
+use Rattle.transfer_invariant.specs.Memory.{Words, Views, States, Acted, Moved, state_tag, is_stack_word}
 use Rattle.transfer_invariant.specs.Progress.{has_announced}
 use Rattle.transfer_invariant.specs.OpeningState.{opening_state}
 use Rattle.transfer_invariant.specs.Installing.{states_after}
 use Rattle.helping_invariant.specs.Parts.{has_tried}
-use Rattle.stack_invariant.specs.Stack.{StackHolds, Supplied, is_stack_word}
+use Rattle.stack_invariant.specs.Stack.{StackHolds, Supplied}
 use Rattle.stack_invariant.specs.Shown.{Shows, SameContent, TableShows}
 use Rattle.stack_invariant.specs.Emptied.{MetNothing}
 use Rattle.stack_invariant.specs.Gives.{present, next_by, Installs, ReplyIsPresent, ProcessHolds}

@@ -1,9 +1,8 @@
 -- the invariant of the shared stack, its parts gathered, and what a step needs besides
-use Rattle.std.specs.Prelude.{◌≡◌, ℕ, ◌+◌, ◌<◌, ◌≤◌, Bool, true, false}
+use Rattle.std.specs.Prelude.{◌≡◌, ℕ, ◌+◌, ◌<◌, ◌≤◌, Bool}
 use Rattle.word_layout.specs.Sizes.{Sizes}
 use Rattle.word_layout.specs.Packing.{most_age}
-use Rattle.word_layout.specs.declared.name.WordName.{WordName}
-use Rattle.word_layout.specs.declared.name.WordName.TheVariants.{State, Announcement, RecordWord, Slot, Next, Data}
+use Rattle.word_layout.specs.declared.name.WordName.TheVariants.{State}
 use Rattle.transfer_machine.specs.declared.transfer.TransferView.{TransferView}
 use Rattle.transfer_machine.specs.declared.stage.NextStep.TheVariants.{Announce, Try}
 use Rattle.transfer_machine.specs.declared.stage.TryStep.TheVariants.{ExchangeState}
@@ -34,12 +33,3 @@ pub record Supplied (sizes : Sizes) (words : Words) (states : States) (v : Trans
   -- all places of a draft that is installed are slots
   pub room : (second : Bool) → v.next ≡ Try second ExchangeState → words State ≡ v.loaded.state
       → v.draft.base + v.draft.overlay ≤ sizes.batches
-
--- whether the invariant speaks of the word of that name
-abbrev pub is_stack_word : WordName → Bool
-is_stack_word State = true
-is_stack_word (Announcement process) = true
-is_stack_word (RecordWord row index) = true
-is_stack_word (Slot slot) = true
-is_stack_word (Next block) = false
-is_stack_word (Data block index) = false

@@ -55,21 +55,20 @@ filled_now refused blocks done entries pool slot block next same below mine hold
 }
 
 -- what a slot has after another, or it itself, was written
-pub block_in-set : (slots : List (Option ℕ)) (slot other : ℕ) (new : Option ℕ) (block : ℕ) → slot < length slots → block_in (set slots slot new) other ≡ Some block
-    → ((other ≡ slot) × (new ≡ Some block)) ⊎ ((other ≢ slot) × (block_in slots other ≡ Some block))
-block_in-set slots slot other new block within e =
+after_set : (slots : List (Option ℕ)) (slot other : ℕ) (new found : Option ℕ) → slot < length slots → block_in (set slots slot new) other ≡ found
+    → ((other ≡ slot) × (new ≡ found)) ⊎ ((other ≢ slot) × (block_in slots other ≡ found))
+after_set slots slot other new found within e =
     ⊎_elim
     (λ (p : other ≡ slot). inl (p, sym (get_or-set_same slots slot new None within) ∙ ap (block_in (set slots slot new)) (sym p) ∙ e))
     (λ (p : other ≢ slot). inr (p, sym (get_or-set_other slots slot other new None p) ∙ e))
     (cases_eq other slot)
 
-pub empty_in-set : (slots : List (Option ℕ)) (slot other : ℕ) (new : Option ℕ) → slot < length slots → block_in (set slots slot new) other ≡ None
-    → ((other ≡ slot) × (new ≡ None)) ⊎ ((other ≢ slot) × (block_in slots other ≡ None))
-empty_in-set slots slot other new within e =
-    ⊎_elim
-    (λ (p : other ≡ slot). inl (p, sym (get_or-set_same slots slot new None within) ∙ ap (block_in (set slots slot new)) (sym p) ∙ e))
-    (λ (p : other ≢ slot). inr (p, sym (get_or-set_other slots slot other new None p) ∙ e))
-    (cases_eq other slot)
+-- a slot that still has a block after one was emptied is another one
+kept_block : (slots : List (Option ℕ)) (slot other block : ℕ) → slot < length slots → block_in (set slots slot None) other ≡ Some block
+    → (other ≢ slot) × (block_in slots other ≡ Some block)
+kept_block slots slot other block within e =
+    ⊎_elim (λ (q : (other ≡ slot) × (None ≡ Some block)). absurd (none-some block q.1)) (λ q. q)
+    (after_set slots slot other None (Some block) within e)
 
 -- how many slots have a block, after one was written
 pub count_by-set : (slots : List (Option ℕ)) (slot : ℕ) (new : Option ℕ) → slot < length slots
@@ -110,12 +109,12 @@ apart_got refused blocks done entries pool slots slot block within free holds a 
     (λ (q : (a ≡ slot) × (Some block ≡ Some other)). ⊎_elim
     (λ (r : (b ≡ slot) × (Some block ≡ Some other)). q.0 ∙ sym r.0)
     (λ (r : (b ≢ slot) × (block_in slots b ≡ Some other)). absurd (not_new b r.1 (same_Some block other q.1)))
-    (block_in-set slots slot b (Some block) other within eb))
+    (after_set slots slot b (Some block) (Some other) within eb))
     (λ (q : (a ≢ slot) × (block_in slots a ≡ Some other)). ⊎_elim
     (λ (r : (b ≡ slot) × (Some block ≡ Some other)). absurd (not_new a q.1 (same_Some block other r.1)))
     (λ (r : (b ≢ slot) × (block_in slots b ≡ Some other)). holds.apart a b other q.1 r.1)
-    (block_in-set slots slot b (Some block) other within eb))
-    (block_in-set slots slot a (Some block) other within ea)
+    (after_set slots slot b (Some block) (Some other) within eb))
+    (after_set slots slot a (Some block) (Some other) within ea)
   where
     not_new : (c : ℕ) → block_in slots c ≡ Some other → block ≡ other → ⊥
     not_new c e same = free (subst (λ (n : ℕ). IsHeld pool n) (sym same) (holds.filled c other e).held)
@@ -140,13 +139,13 @@ holds_got i refused blocks done entries pool new slots slot block names next wit
           let was = holds.filled other c q.1 in
           filled_on refused (refused ++ false ∷ []) blocks (blocks ++ block ∷ []) done (Place slot) entries longer pool new other c keeps (omega arith) (λ e. absurd cc)
           (subst (P c) (sym (held_more entries (Got i block))) (contains_tail c block (held entries) was.mine)) ((gives.held c).1 (inl was.held)) was)
-          (block_in-set slots slot other (Some block) c within e);
+          (after_set slots slot other (Some block) (Some c) within e);
       empty = λ other low e. ⊎_elim
           (λ (q : (other ≡ slot) × (Some block ≡ None)). absurd (none-some block (sym q.1)))
           (λ (q : (other ≢ slot) × (block_in slots other ≡ None)).
           let before : other < length refused = omega (arith, q.0) in
           empty_on refused (refused ++ false ∷ []) blocks (blocks ++ block ∷ []) done (Place slot) other keeps before (holds.empty other before q.1))
-          (empty_in-set slots slot other (Some block) within e);
+          (after_set slots slot other (Some block) None within e);
       apart = apart_got refused blocks done entries pool slots slot block within gives.free holds;
     }
 
@@ -170,27 +169,34 @@ holds_dry i refused blocks done entries pool slots slot names next holds =
       apart = holds.apart;
     }
 
+-- once a slot is left, each slot without a block was refused or left
+left_empty : (refused : List Bool) (blocks : List ℕ) (done : List Step) (entries : List Entry) (pool : Plain) (slots : List (Option ℕ)) (slot : ℕ)
+    → slot < length slots → (is_refused refused slot ≡ true) ⊎ Contains (done ++ Leave slot ∷ []) (Leave slot)
+    → HoldsBlocks refused blocks done entries pool slots
+    → (other : ℕ) → other < length refused → block_in (set slots slot None) other ≡ None
+    → (is_refused refused other ≡ true) ⊎ Contains (done ++ Leave slot ∷ []) (Leave other)
+left_empty refused blocks done entries pool slots slot within own holds other low e =
+    ⊎_elim
+    (λ (q : (other ≡ slot) × (None ≡ None)). rw q.0 own)
+    (λ (q : (other ≢ slot) × (block_in slots other ≡ None)).
+    empty_on refused refused blocks blocks done (Leave slot) other (keeps_all refused blocks (length refused)) low (holds.empty other low q.1))
+    (after_set slots slot other None None within e)
+
 pub holds_back : (i : ℕ) (refused : List Bool) (blocks : List ℕ) (done : List Step) (entries : List Entry) (pool new : Plain) (slots : List (Option ℕ)) (slot block : ℕ)
     → slot < length slots → block_in slots slot ≡ Some block → Takes pool new block → HoldsBlocks refused blocks done entries pool slots
     → HoldsBlocks refused blocks (done ++ Leave slot ∷ []) (entries ++ Back i block ∷ []) new (set slots slot None)
 holds_back i refused blocks done entries pool new slots slot block within has takes holds =
     let keeps = keeps_all refused blocks (length refused) in
-    let old : (other c : ℕ) → block_in (set slots slot None) other ≡ Some c → (other ≢ slot) × (block_in slots other ≡ Some c) =
-    λ other c e. ⊎_elim (λ (q : (other ≡ slot) × (None ≡ Some c)). absurd (none-some c q.1)) (λ q. q) (block_in-set slots slot other None c within e) in
     record {
       filled = λ other c e.
-          let q = old other c e in
+          let q = kept_block slots slot other c within e in
           let was = holds.filled other c q.1 in
           let differs : ¬ (c ≡ block) = λ same. q.0 (holds.apart other slot block (q.1 ∙ ap Some same) has) in
           filled_on refused refused blocks blocks done (Leave slot) entries (entries ++ Back i block ∷ []) pool new other c keeps (omega arith) (λ e. q.0 (sym (cc e)))
           (subst (λ (bs : List ℕ). Contains bs c) (sym (held_more entries (Back i block))) (without_contains block c (held entries) was.mine differs))
           ((takes.held c).1 (was.held, differs)) was;
-      empty = λ other low e. ⊎_elim
-          (λ (q : (other ≡ slot) × (None ≡ None)). inr (subst (λ (s : ℕ). Contains (done ++ Leave slot ∷ []) (Leave s)) (sym q.0) (Contains-push done (Leave slot))))
-          (λ (q : (other ≢ slot) × (block_in slots other ≡ None)).
-          empty_on refused refused blocks blocks done (Leave slot) other keeps low (holds.empty other low q.1))
-          (empty_in-set slots slot other None within e);
-      apart = λ a b c ea eb. holds.apart a b c (old a c ea).1 (old b c eb).1;
+      empty = left_empty refused blocks done entries pool slots slot within (inr (Contains-push done (Leave slot))) holds;
+      apart = λ a b c ea eb. holds.apart a b c (kept_block slots slot a c within ea).1 (kept_block slots slot b c within eb).1;
     }
 
 pub holds_passed : (refused : List Bool) (blocks : List ℕ) (done : List Step) (entries : List Entry) (pool : Plain) (slots : List (Option ℕ)) (slot : ℕ)
@@ -198,17 +204,11 @@ pub holds_passed : (refused : List Bool) (blocks : List ℕ) (done : List Step) 
     → HoldsBlocks refused blocks (done ++ Leave slot ∷ []) entries pool (set slots slot None)
 holds_passed refused blocks done entries pool slots slot within dry holds =
     let keeps = keeps_all refused blocks (length refused) in
-    let old : (other c : ℕ) → block_in (set slots slot None) other ≡ Some c → (other ≢ slot) × (block_in slots other ≡ Some c) =
-    λ other c e. ⊎_elim (λ (q : (other ≡ slot) × (None ≡ Some c)). absurd (none-some c q.1)) (λ q. q) (block_in-set slots slot other None c within e) in
     record {
       filled = λ other c e.
-          let q = old other c e in
+          let q = kept_block slots slot other c within e in
           let was = holds.filled other c q.1 in
           filled_on refused refused blocks blocks done (Leave slot) entries entries pool pool other c keeps (omega arith) (λ e. q.0 (sym (cc e))) was.mine was.held was;
-      empty = λ other low e. ⊎_elim
-          (λ (q : (other ≡ slot) × (None ≡ None)). inl (ap (is_refused refused) q.0 ∙ dry))
-          (λ (q : (other ≢ slot) × (block_in slots other ≡ None)).
-          empty_on refused refused blocks blocks done (Leave slot) other keeps low (holds.empty other low q.1))
-          (empty_in-set slots slot other None within e);
-      apart = λ a b c ea eb. holds.apart a b c (old a c ea).1 (old b c eb).1;
+      empty = left_empty refused blocks done entries pool slots slot within (inl dry) holds;
+      apart = λ a b c ea eb. holds.apart a b c (kept_block slots slot a c within ea).1 (kept_block slots slot b c within eb).1;
     }

@@ -128,29 +128,17 @@ mod tests {
 
     // In the order of a report's line.
     fn tally(numbers: [u64; 10]) -> Tally {
-        let [
-            news,
-            frees,
-            big,
-            failed,
-            stray,
-            twice,
-            refused,
-            peak,
-            left,
-            cut,
-        ] = numbers;
         Tally {
-            news,
-            frees,
-            big,
-            failed,
-            stray,
-            twice,
-            refused,
-            peak,
-            left,
-            cut,
+            news: numbers[0],
+            frees: numbers[1],
+            big: numbers[2],
+            failed: numbers[3],
+            stray: numbers[4],
+            twice: numbers[5],
+            refused: numbers[6],
+            peak: numbers[7],
+            left: numbers[8],
+            cut: numbers[9],
         }
     }
 

@@ -1,17 +1,24 @@
 -- what the actions of the views change
-use Rattle.std.proofs.Common.{◌≡◌, ◌≢◌, ℕ, ◌<◌, ◌==◌, Bool, true, false, refl, ◌∙◌, ap, inl, inr}
+use Rattle.std.proofs.Common.{◌≡◌, ◌≢◌, ℕ, ◌<◌, ◌==◌, Bool, true, false, refl, sym, ◌∙◌, ap, inl, inr}
 use Rattle.std.specs.Prelude.{◌⊎◌}
-use Rattle.std.proofs.lemmas.Bool.{cases_eq}
+use Rattle.std.proofs.lemmas.Bool.{cases_eq, false≢true}
 use Rattle.word_layout.specs.Sizes.{Sizes}
 use Rattle.word_layout.specs.Names.{InRange}
 use Rattle.word_layout.specs.Packing.{tag_of, value_of, tagged, value_limit}
 use Rattle.word_layout.specs.declared.name.WordName.{WordName}
 use Rattle.word_layout.specs.declared.name.WordName.TheVariants.{State, Announcement, RecordWord, Slot, Next, Data}
 use Rattle.word_layout.proofs.Packed.{tag_of-tagged, value_of-tagged}
+use Rattle.transfer_machine.specs.Machine.{try_action, action_at, action_of}
 use Rattle.transfer_machine.specs.Words.{name_of, left_by}
 use Rattle.transfer_machine.specs.declared.action.Action.{Action}
 use Rattle.transfer_machine.specs.declared.action.Action.TheVariants.{Store, Exchange}
-use Rattle.transfer_invariant.specs.Memory.{Words, Acted, state_tag, current_record, word_tag, word_value}
+use Rattle.transfer_machine.specs.declared.transfer.TransferView.{TransferView}
+use Rattle.transfer_machine.specs.declared.stage.NextStep.{NextStep}
+use Rattle.transfer_machine.specs.declared.stage.NextStep.TheVariants.{Rest, Announce, Try, LoadFinalState, LoadReply}
+use Rattle.transfer_machine.specs.declared.stage.TryStep.{TryStep}
+use Rattle.transfer_machine.specs.declared.stage.TryStep.TheVariants.{LoadState, LoadRecordWord, LoadCoveredSlot, ExchangeSlot}
+use Rattle.transfer_machine.specs.declared.stage.TryStep.TheVariants.{LoadAnnouncement, LoadPoppedSlot, StoreRecordWord, ExchangeState}
+use Rattle.transfer_invariant.specs.Memory.{Words, Acted, is_stack_word, state_tag, current_record, word_tag, word_value}
 use Rattle.transfer_invariant.proofs.Changes.{RecordsStay, WordStored, StateInstalled}
 
 -- whether a name is the state
@@ -114,3 +121,27 @@ exchanges_state sizes old tag row m n fits same a =
 pub keeps_state : (sizes : Sizes) (old new : ℕ) (m n : Words) → (m State == old) ≡ false → Acted sizes (Exchange State old new) m n
     → RecordsStay sizes m n
 keeps_state sizes old new m n differs a = leaves_records sizes (Exchange State old new) m n a (rw differs refl)
+
+-- a step of a transfer is on a word of the shared stack
+try_on_stack_word : (sizes : Sizes) (v : TransferView) (s : TryStep) → is_stack_word (name_of (try_action sizes v s)) ≡ true
+try_on_stack_word sizes v LoadState = refl
+try_on_stack_word sizes v (LoadRecordWord index) = refl
+try_on_stack_word sizes v (LoadCoveredSlot offset) = refl
+try_on_stack_word sizes v (ExchangeSlot offset) = refl
+try_on_stack_word sizes v (LoadAnnouncement process) = refl
+try_on_stack_word sizes v (LoadPoppedSlot process) = refl
+try_on_stack_word sizes v (StoreRecordWord index) = refl
+try_on_stack_word sizes v ExchangeState = refl
+
+on_stack_word : (sizes : Sizes) (v : TransferView) (s : NextStep) → is_stack_word (name_of (action_at sizes v s)) ≡ true
+on_stack_word sizes v Rest = refl
+on_stack_word sizes v Announce = refl
+on_stack_word sizes v (Try second step) = try_on_stack_word sizes v step
+on_stack_word sizes v LoadFinalState = refl
+on_stack_word sizes v LoadReply = refl
+
+-- so it leaves all other words
+pub leaves_other_words : (sizes : Sizes) (v : TransferView) (m n : Words) (name : WordName) → Acted sizes (action_of sizes v) m n
+    → is_stack_word name ≡ false → InRange sizes name → n name ≡ m name
+leaves_other_words sizes v m n name a other low =
+    a.elsewhere name low (λ e. false≢true (sym other ∙ ap is_stack_word e ∙ on_stack_word sizes v v.next))

@@ -1,6 +1,7 @@
 pub mod Changes
 pub mod Stable
 pub mod Own
+pub mod MovedViews
 pub mod Steps
 pub mod Stages
 pub mod Writes
@@ -11,3 +12,4 @@ pub mod Installs
 pub mod Counts
 pub mod Overlays
 pub mod Loaded
+pub mod Gathered

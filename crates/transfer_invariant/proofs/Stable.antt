@@ -9,7 +9,7 @@ use Rattle.transfer_machine.specs.declared.transfer.TransferView.{TransferView}
 use Rattle.transfer_machine.specs.declared.stage.NextStep.{NextStep}
 use Rattle.transfer_machine.specs.declared.stage.NextStep.TheVariants.{Try}
 use Rattle.transfer_machine.specs.declared.stage.TryStep.TheVariants.{ExchangeState}
-use Rattle.transfer_invariant.specs.Memory.{Words, States, state_tag, state_value}
+use Rattle.transfer_invariant.specs.Memory.{Words, States, state_tag, current_record, word_tag, word_value, state_value}
 use Rattle.transfer_invariant.specs.Progress.{record_index, stored_words}
 use Rattle.transfer_invariant.specs.Records.{CurrentRecord, StatesFit, TagsBelow, OwnRecord, LoadedState, OwnerWentOn}
 use Rattle.transfer_invariant.proofs.Changes.{RecordsStay, WordStored, StateInstalled}
@@ -35,21 +35,25 @@ stay_states sizes m n states h e t le = h t (omega (arith, e))
 pub stay_tags : (sizes : Sizes) (m n : Words) → TagsBelow sizes m → RecordsStay sizes m n → TagsBelow sizes n
 stay_tags sizes m n h s row index lr lk = grind (arith, h row index lr lk)
 
-pub stay_own : (sizes : Sizes) (m n : Words) (i : ℕ) (v : TransferView) → i < sizes.processes → OwnRecord sizes m i v
-    → RecordsStay sizes m n → OwnRecord sizes n i v
-stay_own sizes m n i v li h s = record {
+-- the own record of a process stays with the state and with its words
+own_stays : (sizes : Sizes) (m n : Words) (i : ℕ) (v : TransferView) → OwnRecord sizes m i v → state_tag n ≡ state_tag m
+    → current_record n ≡ current_record m → ((k : ℕ) → k < record_words sizes → word_tag n v.next_record k ≡ word_tag m v.next_record k)
+    → ((k : ℕ) → k < record_words sizes → word_value n v.next_record k ≡ word_value m v.next_record k) → OwnRecord sizes n i v
+own_stays sizes m n i v h state current tags values = record {
   index = h.index;
   next = h.next;
-  installed = rw s.state h.installed;
+  installed = rw state h.installed;
   tried = h.tried;
-  apart = rw s.current h.apart;
-  stored_tags =
-      λ k lt. s.tags v.next_record k (next_low sizes.processes i v.next_record li h.next)
-      (stored_low sizes v.next k h.index lt) ∙ h.stored_tags k lt;
-  stored_values =
-      λ k lt. s.values v.next_record k (next_low sizes.processes i v.next_record li h.next)
-      (stored_low sizes v.next k h.index lt) ∙ h.stored_values k lt;
+  apart = rw current h.apart;
+  stored_tags = λ k lt. tags k (stored_low sizes v.next k h.index lt) ∙ h.stored_tags k lt;
+  stored_values = λ k lt. values k (stored_low sizes v.next k h.index lt) ∙ h.stored_values k lt;
 }
+
+pub stay_own : (sizes : Sizes) (m n : Words) (i : ℕ) (v : TransferView) → i < sizes.processes → OwnRecord sizes m i v
+    → RecordsStay sizes m n → OwnRecord sizes n i v
+stay_own sizes m n i v li h s =
+    let row = next_low sizes.processes i v.next_record li h.next in
+    own_stays sizes m n i v h s.state s.current (λ k lk. s.tags v.next_record k row lk) (λ k lk. s.values v.next_record k row lk)
 
 pub stay_loaded : (sizes : Sizes) (m n : Words) (states : States) (v : TransferView) → LoadedState sizes m states v → RecordsStay sizes m n
     → LoadedState sizes n states v
@@ -77,19 +81,11 @@ next_apart sizes m i o v w hv hw ne = λ e. ne (sym hw.next ∙ ap (λ r. r / 2)
 
 pub store_own : (sizes : Sizes) (m n : Words) (i o index tag value : ℕ) (v w : TransferView) → o < sizes.processes → OwnRecord sizes m i v
     → OwnRecord sizes m o w → o ≢ i → WordStored sizes m n v.next_record index tag value → OwnRecord sizes n o w
-store_own sizes m n i o index tag value v w lo hv h ne s = record {
-  index = h.index;
-  next = h.next;
-  installed = rw s.state h.installed;
-  tried = h.tried;
-  apart = rw s.current h.apart;
-  stored_tags =
-      λ k lt. s.row_tags w.next_record k (next_low sizes.processes o w.next_record lo h.next) (stored_low sizes w.next k h.index lt)
-      (next_apart sizes m i o v w hv h ne) ∙ h.stored_tags k lt;
-  stored_values =
-      λ k lt. s.row_values w.next_record k (next_low sizes.processes o w.next_record lo h.next) (stored_low sizes w.next k h.index lt)
-      (next_apart sizes m i o v w hv h ne) ∙ h.stored_values k lt;
-}
+store_own sizes m n i o index tag value v w lo hv h ne s =
+    let row = next_low sizes.processes o w.next_record lo h.next in
+    let apart = next_apart sizes m i o v w hv h ne in
+    own_stays sizes m n o w h s.state s.current (λ k lk. s.row_tags w.next_record k row lk apart)
+    (λ k lk. s.row_values w.next_record k row lk apart)
 
 -- the record that a view loaded is rewritten only with tags above the loaded one
 pub store_loaded : (sizes : Sizes) (m n : Words) (states : States) (index tag value : ℕ) (v w : TransferView) → LoadedState sizes m states w

@@ -1,6 +1,5 @@
 -- steps that change neither the state nor a record
-use Rattle.std.proofs.Common.{◌≡◌, ◌≢◌, ℕ, ◌<◌, ◌≤◌, Bool, true, refl, ap, inl, inr, arith, length}
-use Rattle.std.proofs.lemmas.Bool.{cases_eq}
+use Rattle.std.proofs.Common.{◌≡◌, ◌≢◌, ℕ, ◌<◌, ◌≤◌, Bool, true, refl, ap, arith, length}
 use Rattle.std.proofs.lemmas.Bool.Decides.{nat_tests}
 use Rattle.word_layout.specs.Sizes.{Sizes}
 use Rattle.word_layout.specs.Names.{record_words}
@@ -17,6 +16,7 @@ use Rattle.transfer_invariant.specs.Progress.{in_try, has_loaded, record_index, 
 use Rattle.transfer_invariant.specs.Records.{CurrentRecord, StatesFit, TagsBelow, OwnRecord, LoadedState, OwnerWentOn}
 use Rattle.transfer_invariant.specs.Invariant.{RecordsHold}
 use Rattle.transfer_invariant.proofs.Changes.{RecordsStay}
+use Rattle.transfer_invariant.proofs.MovedViews.{all_after, all_pairs_after}
 use Rattle.transfer_invariant.proofs.Stable.{stay_current, stay_states, stay_tags, stay_own, stay_loaded}
 use Rattle.transfer_invariant.proofs.Own.{KeepsLoaded, StoresNone, keeps_own, keeps_loaded, keeps_from, keeps_to, state_own, state_loaded, state_from}
 
@@ -40,24 +40,9 @@ assemble sizes n views after states i x moved owed = record {
   current = owed.current;
   states_fit = owed.states_fit;
   tags_below = owed.tags_below;
-  own = λ o lo. elim (cases_eq o i) [
-    | inl e ↦ rw e (rw moved.here owed.own)
-    | inr ne ↦ rw (moved.elsewhere o ne) (owed.others_own o lo ne)
-  ];
-  loaded = λ o lo. elim (cases_eq o i) [
-    | inl e ↦ rw e (rw moved.here owed.loaded)
-    | inr ne ↦ rw (moved.elsewhere o ne) (owed.others_loaded o lo ne)
-  ];
-  owners = λ a o la lo. elim (cases_eq a i) [
-    | inl e ↦ elim (cases_eq o i) [
-      | inl f ↦ rw e (rw f (rw moved.here owed.self))
-      | inr nf ↦ rw e (rw moved.here (rw (moved.elsewhere o nf) (owed.from o lo nf)))
-    ]
-    | inr ne ↦ elim (cases_eq o i) [
-      | inl f ↦ rw f (rw moved.here (rw (moved.elsewhere a ne) (owed.into a la ne)))
-      | inr nf ↦ rw (moved.elsewhere a ne, moved.elsewhere o nf) (owed.rest a o la lo ne nf)
-    ]
-  ];
+  own = all_after (OwnRecord sizes n) sizes.processes views after i x moved owed.own owed.others_own;
+  loaded = all_after (λ o. LoadedState sizes n states) sizes.processes views after i x moved owed.loaded owed.others_loaded;
+  owners = all_pairs_after (λ a o. OwnerWentOn) sizes.processes views after i x moved owed.self owed.from owed.into owed.rest;
 }
 
 -- words that stay as they were

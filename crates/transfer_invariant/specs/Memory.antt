@@ -1,10 +1,10 @@
 -- the words by their names, what a step leaves of them, and the views and states that belong to them
-use Rattle.std.specs.Prelude.{◌≡◌, ◌≢◌, ℕ, ◌+◌, ◌-◌, ◌==◌, nat_lt, if◌then◌else◌}
+use Rattle.std.specs.Prelude.{◌≡◌, ◌≢◌, ℕ, ◌+◌, ◌-◌, ◌==◌, Bool, true, false, nat_lt, if◌then◌else◌}
 use Rattle.word_layout.specs.Sizes.{Sizes}
 use Rattle.word_layout.specs.Names.{InRange}
 use Rattle.word_layout.specs.Packing.{tag_of, value_of}
 use Rattle.word_layout.specs.declared.name.WordName.{WordName}
-use Rattle.word_layout.specs.declared.name.WordName.TheVariants.{State, RecordWord, Slot}
+use Rattle.word_layout.specs.declared.name.WordName.TheVariants.{State, Announcement, RecordWord, Slot, Next, Data}
 use Rattle.transfer_machine.specs.Words.{name_of, left_by}
 use Rattle.transfer_machine.specs.States.{StackState}
 use Rattle.transfer_machine.specs.declared.action.Action.{Action}
@@ -53,6 +53,15 @@ state_value processes s index =
     else (if index == 1 then s.height - s.base
     else (if nat_lt index (processes + 2) then (if nat_lt (index - 2) (s.height - s.base) then s.content (s.base + (index - 2)) else 0)
     else s.reply (index - (processes + 2))))
+
+-- whether the shared stack is kept in the word of that name
+abbrev pub is_stack_word : WordName → Bool
+is_stack_word State = true
+is_stack_word (Announcement process) = true
+is_stack_word (RecordWord row index) = true
+is_stack_word (Slot slot) = true
+is_stack_word (Next block) = false
+is_stack_word (Data block index) = false
 
 -- an action makes the old words the new ones: only the one that it is on changes
 pub record Acted (sizes : Sizes) (action : Action) (old new : Words) : Type 0 where

@@ -40,6 +40,30 @@ has_announced (Try second step) = true
 has_announced LoadFinalState = true
 has_announced LoadReply = true
 
+-- in a transfer that is begun and not announced yet
+abbrev pub has_only_begun : NextStep → Bool
+has_only_begun Rest = false
+has_only_begun Announce = true
+has_only_begun (Try second step) = false
+has_only_begun LoadFinalState = false
+has_only_begun LoadReply = false
+
+-- in a transfer that is begun and hasn't ended
+abbrev pub is_moving : NextStep → Bool
+is_moving Rest = false
+is_moving Announce = true
+is_moving (Try second step) = true
+is_moving LoadFinalState = true
+is_moving LoadReply = true
+
+-- at a step between the announcement and the reply: the transfer goes on after it
+abbrev pub goes_on : NextStep → Bool
+goes_on Rest = false
+goes_on Announce = false
+goes_on (Try second step) = true
+goes_on LoadFinalState = true
+goes_on LoadReply = false
+
 -- in an announced transfer whose first try has loaded the state
 abbrev pub has_begun_try : NextStep → Bool
 has_begun_try Rest = false

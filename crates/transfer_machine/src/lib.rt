@@ -30,4 +30,4 @@ pub use opening::opening_words;
 pub use stage::{NextStep, Stage, TryStep};
 pub use step::{act, can_step, step_transfer};
 pub use transfer::TransferView;
-pub use try_draft::TryDraft;
+pub use try_draft::{TryDraft, is_pending};

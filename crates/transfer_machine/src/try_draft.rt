@@ -30,8 +30,8 @@ fn is_odd(announced: &Announced) -> bool
     announced.number % 2 == 1
 }
 
-/// Whether an announcement is pending against a reply.
-fn is_pending(odd: bool, reply: u32) -> bool
+/// Whether an announcement, of a number that is odd or not, is pending against the value of a reply.
+pub fn is_pending(odd: bool, reply: u32) -> bool
     ensures { result ≡ (if odd then not (is_odd_reply reply) else is_odd_reply reply) }
 {
     let (replied_odd, _) = Reply::read(reply);

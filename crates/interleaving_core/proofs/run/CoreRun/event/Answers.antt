@@ -1,6 +1,7 @@
 use Rattle.std.proofs.Common.{◌∙◌, sym, subst}
 use Rattle.interleaving_core.specs.Moves.{CoreState}
 use Rattle.interleaving_core.specs.Runs.{IsRun, Events}
+use Rattle.interleaving_core.proofs.Runs.{core_of}
 use Rattle.interleaving_core.proofs.Runs.{run_fits, run_holding, run_ignores, run_made, run_turned, turn_low, turned_state, turned_answer}
 use Rattle.interleaving_core.proofs.run.CoreRun.event.Goals as goal
 
@@ -17,12 +18,7 @@ returns-then-not-can_go-clause-invariant c = λ past history run.
 pub call_process-happened-requires-clause-low : goal.call_process-happened-requires-clause-low
 call_process-happened-requires-clause-low c =
     let (past, history, run) = c.self.invariant in
-    let s : CoreState = record {
-      sizes = c.self.inside.shape;
-      words = c.self.inside.words.items;
-      views = c.self.inside.views.items;
-      holders = c.self.inside.holders.items;
-    } in
+    let s = core_of c.self.inside.shape c.self.inside.words.items c.self.inside.views.items c.self.inside.holders.items in
     rw (run_fits _ past history s run).seats
     (turn_low s (Events c.args.event.now.by c.args.event.now.call)
     (run_made s _ (Events c.args.event.now.by c.args.event.now.call) _ c.self.view_is c.can_go.ensures c.if-not-can_go.false))
@@ -35,12 +31,7 @@ call_process-happened-requires-clause-whole c =
 pub call_process-happened-requires-clause-invariant : goal.call_process-happened-requires-clause-invariant
 call_process-happened-requires-clause-invariant c =
     let (past, history, run) = c.self.invariant in
-    let s : CoreState = record {
-      sizes = c.self.inside.shape;
-      words = c.self.inside.words.items;
-      views = c.self.inside.views.items;
-      holders = c.self.inside.holders.items;
-    } in
+    let s = core_of c.self.inside.shape c.self.inside.words.items c.self.inside.views.items c.self.inside.holders.items in
     let list = c.deref.ensures in
     rw (c.held_by-holds.ensures, list.value)
     (run_holding _ past history s c.args.event.now.by c.args.event.now.call run
@@ -50,12 +41,7 @@ call_process-happened-requires-clause-invariant c =
 pub invariant_of-self : goal.invariant_of-self
 invariant_of-self c =
     let (past, history, run) = c.self.invariant in
-    let s : CoreState = record {
-      sizes = c.self.inside.shape;
-      words = c.self.inside.words.items;
-      views = c.self.inside.views.items;
-      holders = c.self.inside.holders.items;
-    } in (
+    let s = core_of c.self.inside.shape c.self.inside.words.items c.self.inside.views.items c.self.inside.holders.items in (
       _,
       _,
       run_turned _ past history s _ (Events c.args.event.now.by c.args.event.now.call) _ _ _ _ _ c.self.view_is c.can_go.ensures
@@ -64,46 +50,26 @@ invariant_of-self c =
 
 pub returns-clause-answer : goal.returns-clause-answer
 returns-clause-answer c =
-    let s : CoreState = record {
-      sizes = c.self.inside.shape;
-      words = c.self.inside.words.items;
-      views = c.self.inside.views.items;
-      holders = c.self.inside.holders.items;
-    } in
+    let s = core_of c.self.inside.shape c.self.inside.words.items c.self.inside.views.items c.self.inside.holders.items in
     turned_answer s _ (Events c.args.event.now.by c.args.event.now.call) _ _ _ _ c.self.view_is c.can_go.ensures c.if-not-can_go.false
     c.call_process-happened.ensures
 
 pub returns-clause-state : goal.returns-clause-state
 returns-clause-state c =
-    let s : CoreState = record {
-      sizes = c.self.inside.shape;
-      words = c.self.inside.words.items;
-      views = c.self.inside.views.items;
-      holders = c.self.inside.holders.items;
-    } in
+    let s = core_of c.self.inside.shape c.self.inside.words.items c.self.inside.views.items c.self.inside.holders.items in
     turned_state s _ (Events c.args.event.now.by c.args.event.now.call) _ _ _ _ _ c.self.view_is c.can_go.ensures c.if-not-can_go.false
     c.call_process-happened.ensures c.note.ensures
 
 pub returns-clause-run : goal.returns-clause-run
 returns-clause-run c = λ past history run.
-    let s : CoreState = record {
-      sizes = c.self.inside.shape;
-      words = c.self.inside.words.items;
-      views = c.self.inside.views.items;
-      holders = c.self.inside.holders.items;
-    } in
+    let s = core_of c.self.inside.shape c.self.inside.words.items c.self.inside.views.items c.self.inside.holders.items in
     run_turned _ past history s _ (Events c.args.event.now.by c.args.event.now.call) _ _ _ _ _ c.self.view_is c.can_go.ensures
     c.if-not-can_go.false c.call_process-happened.ensures c.note.ensures
     (subst (λ (x : CoreState). IsRun x.sizes past history x) (sym c.self.view_is) run)
 
 pub returns-clause-invariant : goal.returns-clause-invariant
 returns-clause-invariant c = λ past history run.
-    let s : CoreState = record {
-      sizes = c.self.inside.shape;
-      words = c.self.inside.words.items;
-      views = c.self.inside.views.items;
-      holders = c.self.inside.holders.items;
-    } in
+    let s = core_of c.self.inside.shape c.self.inside.words.items c.self.inside.views.items c.self.inside.holders.items in
     (run_fits _ _ _ _ (run_turned _ past history s _ (Events c.args.event.now.by c.args.event.now.call) _ _ _ _ _ c.self.view_is
     c.can_go.ensures c.if-not-can_go.false c.call_process-happened.ensures c.note.ensures
     (subst (λ (x : CoreState). IsRun x.sizes past history x) (sym c.self.view_is) run))).meets

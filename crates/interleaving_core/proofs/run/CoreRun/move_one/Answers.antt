@@ -1,6 +1,7 @@
 use Rattle.std.proofs.Common.{◌∙◌, sym, subst}
 use Rattle.interleaving_core.specs.Moves.{CoreState}
 use Rattle.interleaving_core.specs.Runs.{IsRun, Moves}
+use Rattle.interleaving_core.proofs.Runs.{core_of}
 use Rattle.interleaving_core.proofs.Runs.{run_fits, run_among, run_ignores, run_made, run_turned, turn_low, turned_state, turned_answer}
 use Rattle.interleaving_core.proofs.run.CoreRun.move_one.Goals as goal
 
@@ -16,12 +17,7 @@ returns-then-not-can_move-clause-invariant c = λ past history run.
 pub move_process-happened-requires-clause-low : goal.move_process-happened-requires-clause-low
 move_process-happened-requires-clause-low c =
     let (past, history, run) = c.self.invariant in
-    let s : CoreState = record {
-      sizes = c.self.inside.shape;
-      words = c.self.inside.words.items;
-      views = c.self.inside.views.items;
-      holders = c.self.inside.holders.items;
-    } in
+    let s = core_of c.self.inside.shape c.self.inside.words.items c.self.inside.views.items c.self.inside.holders.items in
     rw (run_fits _ past history s run).seats
     (turn_low s (Moves c.args.by c.args.wish)
     (run_made s _ (Moves c.args.by c.args.wish) _ c.self.view_is c.can_move.ensures c.if-not-can_move.false))
@@ -34,12 +30,7 @@ move_process-happened-requires-clause-whole c =
 pub move_process-happened-requires-clause-invariant : goal.move_process-happened-requires-clause-invariant
 move_process-happened-requires-clause-invariant c =
     let (past, history, run) = c.self.invariant in
-    let s : CoreState = record {
-      sizes = c.self.inside.shape;
-      words = c.self.inside.words.items;
-      views = c.self.inside.views.items;
-      holders = c.self.inside.holders.items;
-    } in
+    let s = core_of c.self.inside.shape c.self.inside.words.items c.self.inside.views.items c.self.inside.holders.items in
     run_among _ past history s c.args.by run
     (turn_low s (Moves c.args.by c.args.wish)
     (run_made s _ (Moves c.args.by c.args.wish) _ c.self.view_is c.can_move.ensures c.if-not-can_move.false))
@@ -47,12 +38,7 @@ move_process-happened-requires-clause-invariant c =
 pub invariant_of-self : goal.invariant_of-self
 invariant_of-self c =
     let (past, history, run) = c.self.invariant in
-    let s : CoreState = record {
-      sizes = c.self.inside.shape;
-      words = c.self.inside.words.items;
-      views = c.self.inside.views.items;
-      holders = c.self.inside.holders.items;
-    } in (
+    let s = core_of c.self.inside.shape c.self.inside.words.items c.self.inside.views.items c.self.inside.holders.items in (
       _,
       _,
       run_turned _ past history s _ (Moves c.args.by c.args.wish) _ _ _ _ _ c.self.view_is c.can_move.ensures c.if-not-can_move.false
@@ -61,45 +47,25 @@ invariant_of-self c =
 
 pub returns-clause-answer : goal.returns-clause-answer
 returns-clause-answer c =
-    let s : CoreState = record {
-      sizes = c.self.inside.shape;
-      words = c.self.inside.words.items;
-      views = c.self.inside.views.items;
-      holders = c.self.inside.holders.items;
-    } in
+    let s = core_of c.self.inside.shape c.self.inside.words.items c.self.inside.views.items c.self.inside.holders.items in
     turned_answer s _ (Moves c.args.by c.args.wish) _ _ _ _ c.self.view_is c.can_move.ensures c.if-not-can_move.false
     c.move_process-happened.ensures
 
 pub returns-clause-state : goal.returns-clause-state
 returns-clause-state c =
-    let s : CoreState = record {
-      sizes = c.self.inside.shape;
-      words = c.self.inside.words.items;
-      views = c.self.inside.views.items;
-      holders = c.self.inside.holders.items;
-    } in
+    let s = core_of c.self.inside.shape c.self.inside.words.items c.self.inside.views.items c.self.inside.holders.items in
     turned_state s _ (Moves c.args.by c.args.wish) _ _ _ _ _ c.self.view_is c.can_move.ensures c.if-not-can_move.false
     c.move_process-happened.ensures c.note.ensures
 
 pub returns-clause-run : goal.returns-clause-run
 returns-clause-run c = λ past history run.
-    let s : CoreState = record {
-      sizes = c.self.inside.shape;
-      words = c.self.inside.words.items;
-      views = c.self.inside.views.items;
-      holders = c.self.inside.holders.items;
-    } in
+    let s = core_of c.self.inside.shape c.self.inside.words.items c.self.inside.views.items c.self.inside.holders.items in
     run_turned _ past history s _ (Moves c.args.by c.args.wish) _ _ _ _ _ c.self.view_is c.can_move.ensures c.if-not-can_move.false
     c.move_process-happened.ensures c.note.ensures (subst (λ (x : CoreState). IsRun x.sizes past history x) (sym c.self.view_is) run)
 
 pub returns-clause-invariant : goal.returns-clause-invariant
 returns-clause-invariant c = λ past history run.
-    let s : CoreState = record {
-      sizes = c.self.inside.shape;
-      words = c.self.inside.words.items;
-      views = c.self.inside.views.items;
-      holders = c.self.inside.holders.items;
-    } in
+    let s = core_of c.self.inside.shape c.self.inside.words.items c.self.inside.views.items c.self.inside.holders.items in
     (run_fits _ _ _ _ (run_turned _ past history s _ (Moves c.args.by c.args.wish) _ _ _ _ _ c.self.view_is c.can_move.ensures
     c.if-not-can_move.false c.move_process-happened.ensures c.note.ensures
     (subst (λ (x : CoreState). IsRun x.sizes past history x) (sym c.self.view_is) run))).meets
