@@ -74,7 +74,7 @@ pub moves_alone : (sizes : Sizes) (i : ℕ) (v : ProcessView) (wish : Wish) (g :
     → InTransfers sizes i (alone_begun wish v) g
 moves_alone sizes i v wish g Fresh e h moves rest may young = fresh_begins sizes i v wish g (h.fresh e) rest may young
 moves_alone sizes i v wish g Alone e h moves rest may young = alone_begins sizes i v wish g h.pool h.nothing h.stage h.none rest may young
-moves_alone sizes i v wish g Calls e h moves rest may young = absurd (moves e)
+moves_alone sizes i v wish g Calls e h moves rest may young = grind arith
 
 -- a step of such a transfer
 pub transfers_step : (sizes : Sizes) (i : ℕ) (v : ProcessView) (word : ℕ) (g : Ledger) → InTransfers sizes i v g → 1 ≤ sizes.processes → GivenToPool sizes v.transfer word

@@ -22,6 +22,7 @@ use Rattle.pool_machine.specs.declared.view.PoolView.{PoolView}
 use Rattle.pool_machine.specs.declared.view.ProcessView.{ProcessView}
 use Rattle.transfer_invariant.specs.Progress.{has_announced, is_moving}
 use Rattle.pool_machine.specs.Beginning.{newest, due, begun_if_due, before_call, first_stage, entered, call_begun}
+use Rattle.pool_machine.specs.Conditions.{IsYoungFor}
 use Rattle.pool_machine.proofs.Plans.{choice_is_the_plans}
 use Rattle.pool_invariant.specs.Kept.{PoolKept}
 use Rattle.pool_invariant.specs.Holds.{PoolRuns}
@@ -174,6 +175,13 @@ keeping_begun sizes i v g call keeps between h = record {
     kept_phase (Free block) e = grind arith
     kept_phase (Read block index) e = refl
     kept_phase (Write block index value) e = refl
+
+-- a call that changes the pool begins only at an age below the limit
+pub young_to_change : (v : ProcessView) (call : Call) → changes_pool (Some call) ≡ true → IsYoungFor call v → v.transfer.age < most_age
+young_to_change v Allocate changes young = young
+young_to_change v (Free block) changes young = young
+young_to_change v (Read block index) changes young = grind arith
+young_to_change v (Write block index value) changes young = grind arith
 
 -- each call begins
 pub changing_call_begins : (sizes : Sizes) (i : ℕ) (v : ProcessView) (g : Ledger) (call : Call) → changes_pool (Some call) ≡ true → 0 < sizes.quantum → v.calls.stage ≡ Between

@@ -1,15 +1,15 @@
 -- what every process keeps, whichever way it uses its pool, and what follows
-use Rattle.std.proofs.Common.{List, ◌+◌, ◌<◌, ◌≡◌, ◌≢◌, ℕ, ◌≤◌, length, refl, sym, ◌∙◌, ap, arith}
+use Rattle.std.proofs.Common.{List, ◌+◌, ◌*◌, ◌<◌, ◌≡◌, ◌≢◌, ℕ, ◌≤◌, length, refl, sym, ◌∙◌, ap, arith}
 use Rattle.std.specs.Prelude.{Some}
 use Rattle.word_layout.specs.Sizes.{Sizes, most_blocks}
-use Rattle.word_layout.specs.Packing.{most_age, value_of, reply_of}
+use Rattle.word_layout.specs.Packing.{value_of, reply_of}
 use Rattle.word_layout.specs.declared.announced.Wish.{Wish}
 use Rattle.word_layout.specs.declared.announced.Wish.TheVariants.{Take, Give}
 use Rattle.word_layout.specs.declared.reply.Reply.{Reply}
 use Rattle.word_layout.specs.declared.reply.Reply.TheVariants.{Nothing, Took, Gave}
 use Rattle.pool_model.specs.declared.entry.Entry.{Entry}
-use Rattle.pool_model.specs.Limits.{Limits, slack}
-use Rattle.pool_model.specs.History.{held, unheld}
+use Rattle.pool_model.specs.Limits.{Limits}
+use Rattle.pool_model.specs.History.{held, allowance, HasFewUnheld}
 use Rattle.transfer_schedule.specs.Numbers.{withheld}
 use Rattle.transfer_schedule.specs.Table.{InTable}
 use Rattle.transfer_schedule.specs.declared.pending.Pending.TheVariants.{Idle}
@@ -28,7 +28,7 @@ use Rattle.pool_invariant.specs.StepCount.{OverlayIsFew}
 use Rattle.pool_invariant.proofs.Ending.{moving_unless_rest, step_left}
 use Rattle.history_invariant.specs.Ledger.{Ledger}
 use Rattle.process_sums.specs.Sums.{total}
-use Rattle.history_invariant.proofs.Unheld.{five_leave_few}
+use Rattle.history_invariant.proofs.Unheld.{allowances_leave_few}
 use Rattle.call_invariant.specs.InCalls.{Scheduled, IsFresh, InCalls}
 use Rattle.call_invariant.specs.InTransfers.{InTransfers}
 use Rattle.call_invariant.specs.Uses.{UsesPoolBy, PoolKeeps}
@@ -38,9 +38,16 @@ use Rattle.call_invariant.proofs.Alone.{kept_in_table, withholds_three}
 
 -- whichever way a process uses its pool
 pub keeps_pool : (sizes : Sizes) (i : ℕ) (v : ProcessView) (g : Ledger) (way : Way) → UsesPoolBy way sizes i v g → Scheduled sizes g.account → PoolKeeps sizes v
-keeps_pool sizes i v g Fresh h s = record { runs = h.runs; heads = h.heads; table = in_table sizes i v g s h; five = withholds_five sizes i v g s h }
-keeps_pool sizes i v g Alone h s = record { runs = h.pool.runs; heads = h.pool.alone.spares.heads; table = kept_in_table sizes i v h.pool; five = withholds_three sizes i v.pool h.pool.runs.kept.batch h.pool.alone.full }
-keeps_pool sizes i v g Calls h s = record { runs = h.runs; heads = h.heads; table = in_table sizes i v g s h; five = withholds_five sizes i v g s h }
+keeps_pool sizes i v g Fresh h s = record { runs = h.runs; heads = h.heads; table = in_table sizes i v g s h }
+keeps_pool sizes i v g Alone h s = record { runs = h.pool.runs; heads = h.pool.alone.spares.heads; table = kept_in_table sizes i v h.pool }
+keeps_pool sizes i v g Calls h s = record { runs = h.runs; heads = h.heads; table = in_table sizes i v g s h }
+
+pub withholds_few : (sizes : Sizes) (i : ℕ) (v : ProcessView) (g : Ledger) (way : Way) → UsesPoolBy way sizes i v g
+    → Scheduled sizes g.account
+    → withheld v.pool.plan ≤ 5 * sizes.length
+withholds_few sizes i v g Fresh h s = withholds_five sizes i v g s h
+withholds_few sizes i v g Alone h s = withholds_three sizes i v.pool h.pool.runs.kept.batch h.pool.alone.full
+withholds_few sizes i v g Calls h s = withholds_five sizes i v g s h
 
 -- the pool can count each step of the transfer, and end it with the own reply
 pub steps_can_count : (sizes : Sizes) (v : ProcessView) → 1 ≤ sizes.quantum → PoolKeeps sizes v → OverlayIsFew sizes v.transfer → v.transfer.next ≢ Rest → CanCount v.pool
@@ -84,8 +91,8 @@ moves_can_be_made sizes i v word g h s moving given act meet =
 pub due_begins : (sizes : Sizes) (v : ProcessView) (wish : Wish) → PoolKeeps sizes v → due v.pool ≡ Some wish → (v.transfer.next ≡ Rest) × MayBegin wish v.pool
 due_begins sizes v wish h e = (due_rests sizes v wish h.runs.kept e, due_may_begin v.pool wish h.heads e)
 
-pub calls_can_begin : (sizes : Sizes) (v : ProcessView) → PoolKeeps sizes v → v.transfer.age < most_age → (v.pool.plan.spares ≡ 3 → newest v.pool < most_blocks) → CanBegin v
-calls_can_begin sizes v h young fits = record { rest = idle_rests sizes v h.runs.kept; age = young; heads = h.heads; fits = fits }
+pub calls_can_begin : (sizes : Sizes) (v : ProcessView) → PoolKeeps sizes v → (v.pool.plan.spares ≡ 3 → newest v.pool < most_blocks) → CanBegin v
+calls_can_begin sizes v h fits = record { rest = idle_rests sizes v h.runs.kept; heads = h.heads; fits = fits }
 
 pub idle_pool_rests : (sizes : Sizes) (v : ProcessView) → PoolKeeps sizes v → v.pool.plan.pending ≡ Idle → v.transfer.next ≡ Rest
 idle_pool_rests sizes v h idle = idle_rests sizes v h.runs.kept idle
@@ -130,9 +137,9 @@ uses_stay sizes i v old new Alone account entries h = record { way = h.way; stag
 uses_stay sizes i v old new Calls account entries h = calls_stay sizes i v old new account entries h
 
 -- where each block is held or withheld by a process, few are unheld
-pub empty_stack_leaves_few : (sizes : Sizes) (limits : Limits) (history : List Entry) (views : ℕ → ProcessView) → limits.batch_length ≡ sizes.length
-    → ((i : ℕ) → i < limits.processes → PoolKeeps sizes (views i))
+pub empty_stack_leaves_few : (limits : Limits) (history : List Entry) (views : ℕ → ProcessView)
+    → ((i : ℕ) → i < limits.processes → withheld (views i).pool.plan ≤ allowance limits history i)
     → limits.blocks ≤ length (held history) + total limits.processes (λ i. withheld (views i).pool.plan)
-    → unheld limits history (length history) ≤ slack limits
-empty_stack_leaves_few sizes limits history views e keeps all =
-    five_leave_few limits history (λ i. withheld (views i).pool.plan) (λ i li. let h = keeps i li in rw e h.five) all
+    → HasFewUnheld limits history (length history)
+empty_stack_leaves_few limits history views each all =
+    allowances_leave_few limits history (λ i. withheld (views i).pool.plan) each all

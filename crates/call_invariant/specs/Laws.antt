@@ -1,12 +1,12 @@
 -- beginnings and steps of a process keep what holds of its pool and its ledger, and what follows
 use Rattle.std.specs.Prelude.{◌+◌, None, ◌≡◌, ◌≢◌, ℕ, ◌<◌, ◌≤◌, Bool, true, false, if◌then◌else◌, Some, List, length, Contains}
-use Rattle.word_layout.specs.Sizes.{Sizes, most_blocks, IsShape, transfer_bound}
+use Rattle.word_layout.specs.Sizes.{Sizes, most_blocks, IsShape, limits_of, transfer_bound}
 use Rattle.word_layout.specs.Packing.{most_age, value_of, reply_of}
 use Rattle.word_layout.specs.declared.announced.Wish.{Wish}
 use Rattle.word_layout.specs.declared.reply.Reply.TheVariants.{Nothing}
 use Rattle.pool_model.specs.declared.entry.Entry.{Entry}
-use Rattle.pool_model.specs.History.{grip, held, unheld}
-use Rattle.pool_model.specs.Limits.{Limits, slack}
+use Rattle.pool_model.specs.History.{grip, held, allowance, HasFewUnheld}
+use Rattle.pool_model.specs.Limits.{Limits}
 use Rattle.transfer_schedule.specs.Numbers.{AreSizes, source_of, target_of, withheld}
 use Rattle.transfer_schedule.specs.Account.{Account}
 use Rattle.transfer_schedule.specs.Account as schedule
@@ -192,9 +192,9 @@ DueTransfersMayBegin = (sizes : Sizes) (v : ProcessView) (wish : Wish) → PoolK
 abbrev pub IdlePoolsRest : Type 0
 IdlePoolsRest = (sizes : Sizes) (v : ProcessView) → PoolKeeps sizes v → v.pool.plan.pending ≡ Idle → v.transfer.next ≡ Rest
 
--- so a call can begin, where the age is below its limit and the newest of three spares is a block
+-- so a call can begin, where the newest of three spares is a block
 abbrev pub CallsCanBegin : Type 0
-CallsCanBegin = (sizes : Sizes) (v : ProcessView) → PoolKeeps sizes v → v.transfer.age < most_age → (v.pool.plan.spares ≡ 3 → newest v.pool < most_blocks) → CanBegin v
+CallsCanBegin = (sizes : Sizes) (v : ProcessView) → PoolKeeps sizes v → (v.pool.plan.spares ≡ 3 → newest v.pool < most_blocks) → CanBegin v
 
 -- a call can make its next transfer step, where the transfer can
 abbrev pub MovesCanBeMade : Type 0
@@ -206,9 +206,15 @@ MovesCanBeMade = (sizes : Sizes) (i : ℕ) (v : ProcessView) (ledger : Ledger) (
     → CanMeet sizes v.transfer word
     → CanMove sizes v × CanMeetMoving sizes v word
 
+-- whichever way a process uses its pool, it withholds at most its allowance, whatever came before
+abbrev pub UsesWithholdFew : Type 0
+UsesWithholdFew = (sizes : Sizes) (history : List Entry) (i : ℕ) (v : ProcessView) (ledger : Ledger) → UsesPool sizes i v ledger
+    → Scheduled sizes ledger.account
+    → withheld v.pool.plan ≤ allowance (limits_of sizes) history i
+
 -- where each block is held or withheld by a process, so that the shared stack is empty, at most the slack is unheld
 abbrev pub EmptyStackLeavesFew : Type 0
-EmptyStackLeavesFew = (sizes : Sizes) (limits : Limits) (history : List Entry) (views : ℕ → ProcessView) → limits.batch_length ≡ sizes.length
-    → ((i : ℕ) → i < limits.processes → PoolKeeps sizes (views i))
+EmptyStackLeavesFew = (limits : Limits) (history : List Entry) (views : ℕ → ProcessView)
+    → ((i : ℕ) → i < limits.processes → withheld (views i).pool.plan ≤ allowance limits history i)
     → limits.blocks ≤ length (held history) + total limits.processes (λ i. withheld (views i).pool.plan)
-    → unheld limits history (length history) ≤ slack limits
+    → HasFewUnheld limits history (length history)

@@ -1,7 +1,6 @@
 -- what holds of every process, whichever way it uses its pool
-use Rattle.std.specs.Prelude.{◌≡◌, ℕ, ◌*◌, ◌≤◌, length}
+use Rattle.std.specs.Prelude.{◌≡◌, ℕ, length}
 use Rattle.word_layout.specs.Sizes.{Sizes}
-use Rattle.transfer_schedule.specs.Numbers.{withheld}
 use Rattle.transfer_schedule.specs.Table.{InTable}
 use Rattle.pool_machine.specs.declared.call.Way.{Way}
 use Rattle.pool_machine.specs.declared.call.Way.TheVariants.{Fresh, Alone, Calls}
@@ -21,10 +20,8 @@ UsesPoolBy Calls sizes process v ledger = InCalls sizes process v ledger
 abbrev pub UsesPool : Sizes → ℕ → ProcessView → Ledger → Type 0
 UsesPool sizes process v ledger = UsesPoolBy v.calls.way sizes process v ledger
 
--- what a process keeps whichever way it uses its pool: each spare has its head, the plan is within the table of spares, and at most
--- five batches are withheld
+-- what a process keeps whichever way it uses its pool: each spare has its head, and the plan is within the table of spares
 pub record PoolKeeps (sizes : Sizes) (v : ProcessView) : Type 0 where
   pub runs : PoolRuns sizes v
   pub heads : length v.pool.heads ≡ v.pool.plan.spares
   pub table : InTable v.pool.plan
-  pub five : withheld v.pool.plan ≤ 5 * sizes.length

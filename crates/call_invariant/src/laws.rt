@@ -1,5 +1,5 @@
 //! Each law is the contract of a call that does nothing.
-ghost use Rattle.call_invariant.specs.Laws.{ShapesFitSchedules, OpeningMeetsCalls, ChangingCallsBegin, KeepingCallsBegin, TransferStepsCarryOn, TransferStepsEnterNothing, OwnStepsAreDue, GotsEndCalls, RefusalsEndCalls, BacksEndCalls, KeepingStepsEndCalls, BlocksAreThePlans, AllocatesHaveSpares, FreesHaveRoom, HoldersMayFree, TransfersBegin, TransfersStep, CallsAreOneWay, InCallsIsAUse, TransfersAreOneWay, InTransfersIsAUse, SameAccountsKeep, UsesKeepPools, StepsCanCount, RepliesCanEnd, DueTransfersMayBegin, IdlePoolsRest, CallsCanBegin, MovesCanBeMade, EmptyStackLeavesFew};
+ghost use Rattle.call_invariant.specs.Laws.{ShapesFitSchedules, OpeningMeetsCalls, ChangingCallsBegin, KeepingCallsBegin, TransferStepsCarryOn, TransferStepsEnterNothing, OwnStepsAreDue, GotsEndCalls, RefusalsEndCalls, BacksEndCalls, KeepingStepsEndCalls, BlocksAreThePlans, AllocatesHaveSpares, FreesHaveRoom, HoldersMayFree, TransfersBegin, TransfersStep, CallsAreOneWay, InCallsIsAUse, TransfersAreOneWay, InTransfersIsAUse, SameAccountsKeep, UsesKeepPools, UsesWithholdFew, StepsCanCount, RepliesCanEnd, DueTransfersMayBegin, IdlePoolsRest, CallsCanBegin, MovesCanBeMade, EmptyStackLeavesFew};
 
 /// The sizes of a shape are those of a schedule.
 pub fn shapes()
@@ -71,7 +71,9 @@ pub fn calls_can_go_on()
     ensures move_on { MovesCanBeMade }
 {}
 
-/// While the shared stack is empty, few blocks are unheld, whichever way each process uses its pool.
+/// Whichever way a process uses its pool, it withholds at most its allowance; so few blocks are unheld while the
+/// shared stack is empty.
 pub fn empty_stacks()
-    ensures { EmptyStackLeavesFew }
+    ensures withheld { UsesWithholdFew }
+    ensures few { EmptyStackLeavesFew }
 {}

@@ -7,9 +7,8 @@ use Rattle.std.proofs.lemmas.List.Sums.{sum_by-cons}
 use Rattle.std.proofs.lemmas.List.Elements.{All-nil, All-cons}
 use Rattle.std.proofs.Math.Nat.{mul-le-mul_right}
 use Rattle.process_sums.specs.Sums.{total}
-use Rattle.process_sums.proofs.Sums.{total_same, total_each, total_at_most, total_sums}
-use Rattle.pool_model.specs.Limits.{slack}
-use Rattle.word_layout.specs.Sizes.{Sizes, blocks, limits_of}
+use Rattle.process_sums.proofs.Sums.{total_same, total_each, total_le, total_sums}
+use Rattle.word_layout.specs.Sizes.{Sizes, blocks}
 use Rattle.word_layout.specs.declared.announced.Wish.{Wish}
 use Rattle.word_layout.specs.declared.announced.Wish.TheVariants.{Take, Give}
 use Rattle.word_layout.specs.declared.name.WordName.TheVariants.{Next}
@@ -44,13 +43,9 @@ in_rest : (b first : ℕ) (rest chain : List ℕ) → chain ≡ first ∷ rest �
 in_rest b first rest chain is some = rw is (omega (arith, some, sum_by-cons (is_head b) first rest))
 
 -- few blocks are free where the stack is empty and what is kept is little
-few_at : (processes l height kept held all : ℕ) → height ≡ 0 → kept + held + l * height ≡ all → kept ≤ 5 * l * processes
-    → all ≤ held + 5 * processes * l
-few_at processes l height kept held all none counted few = let nothing : l * height ≡ 0 = rw none (omega arith) in
-    omega (arith, counted, few, nothing, five_times l processes)
-  where
-    five_times : (l p : ℕ) → 5 * l * p ≡ 5 * p * l
-    five_times l p = omega arith
+few_at : (l height kept held all most : ℕ) → height ≡ 0 → kept + held + l * height ≡ all → kept ≤ most → all ≤ held + most
+few_at l height kept held all most none counted few = let nothing : l * height ≡ 0 = rw none (omega arith) in
+    omega (arith, counted, few, nothing)
 
 module _ (sizes : Sizes) (words : Words) (s : StackState) (views : ProcessViews) (batches currents holds : BlockLists)
     (hold : ChainsHold sizes words s views batches currents holds) where
@@ -175,8 +170,8 @@ module _ (sizes : Sizes) (words : Words) (s : StackState) (views : ProcessViews)
         | inr le ↦ le
       ]
 
-  pub few_free : s.height ≡ 0 → ((i : ℕ) → i < sizes.processes → kept_blocks sizes s i (views i) ≤ 5 * sizes.length)
-      → blocks sizes ≤ total sizes.processes (λ i. length (holds i)) + slack (limits_of sizes)
-  few_free none few = few_at sizes.processes sizes.length s.height (total sizes.processes (λ i. kept_blocks sizes s i (views i)))
-      (total sizes.processes (λ i. length (holds i))) (blocks sizes) none blocks_counted
-      (total_at_most (5 * sizes.length) sizes.processes (λ i. kept_blocks sizes s i (views i)) few)
+  pub few_free : s.height ≡ 0 → (most : ℕ → ℕ) → ((i : ℕ) → i < sizes.processes → kept_blocks sizes s i (views i) ≤ most i)
+      → blocks sizes ≤ total sizes.processes (λ i. length (holds i)) + total sizes.processes most
+  few_free none most few = few_at sizes.length s.height (total sizes.processes (λ i. kept_blocks sizes s i (views i)))
+      (total sizes.processes (λ i. length (holds i))) (blocks sizes) (total sizes.processes most) none blocks_counted
+      (total_le sizes.processes (λ i. kept_blocks sizes s i (views i)) most few)

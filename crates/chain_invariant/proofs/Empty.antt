@@ -1,10 +1,9 @@
 -- a take that is applied with nothing met an empty stack in the middle of the exchange, and then few blocks were free
-use Rattle.std.proofs.Common.{◌≡◌, ◌≢◌, ℕ, zero, suc, ◌+◌, ◌-◌, ◌*◌, ◌<◌, ◌≤◌, ◌==◌, Bool, true, false, refl, sym, ap, ◌∙◌, length, arith}
+use Rattle.std.proofs.Common.{◌≡◌, ◌≢◌, ℕ, zero, suc, ◌+◌, ◌-◌, ◌<◌, ◌≤◌, ◌==◌, Bool, true, false, refl, sym, ap, ◌∙◌, length, arith}
 use Rattle.std.specs.Prelude.{if◌then◌else◌, slice_index}
 use Rattle.std.proofs.lemmas.Bool.Decides.{nat_tests}
 use Rattle.process_sums.specs.Sums.{total}
-use Rattle.pool_model.specs.Limits.{slack}
-use Rattle.word_layout.specs.Sizes.{Sizes, IsShape, blocks, limits_of}
+use Rattle.word_layout.specs.Sizes.{Sizes, IsShape, blocks}
 use Rattle.word_layout.specs.Packing.{reply_value, reply_of}
 use Rattle.word_layout.specs.declared.announced.Wish.{Wish}
 use Rattle.word_layout.specs.declared.announced.Wish.TheVariants.{Take, Give}
@@ -119,8 +118,8 @@ module _ (sizes : Sizes) (words : Words) (s : StackState) (views : ProcessViews)
   met_empty = take_found_nothing (views i).transfer.wish (next_of i (λ o. slice_index v.loaded.announcements o) s) take
       (sym answer_is ∙ nothing)
 
-  pub found_few : ((t : StackState) (o : ℕ) → o < sizes.processes → kept_blocks sizes t o (views o) ≤ 5 * sizes.length)
-      → blocks sizes ≤ total sizes.processes (λ o. length (held o)) + slack (limits_of sizes)
-  found_few few =
+  pub found_few : (most : ℕ → ℕ) → ((t : StackState) (o : ℕ) → o < sizes.processes → kept_blocks sizes t o (views o) ≤ most o)
+      → blocks sizes ≤ total sizes.processes (λ o. length (held o)) + total sizes.processes most
+  found_few most few =
       let met = next_of i (λ o. slice_index v.loaded.announcements o) s in
-      few_free sizes words met views met_chains.batch_blocks met_chains.current_blocks held met_chains.hold met_empty (few met)
+      few_free sizes words met views met_chains.batch_blocks met_chains.current_blocks held met_chains.hold met_empty most (few met)

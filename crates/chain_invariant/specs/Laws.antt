@@ -2,8 +2,7 @@
 use Rattle.std.specs.Prelude.{◌≡◌, ◌≢◌, ℕ, ◌+◌, ◌-◌, ◌*◌, ◌<◌, ◌≤◌, Bool, true, false, [], ◌∷◌, length, slice_index, Contains}
 use Rattle.std.specs.List.{All}
 use Rattle.process_sums.specs.Sums.{total}
-use Rattle.pool_model.specs.Limits.{slack}
-use Rattle.word_layout.specs.Sizes.{Sizes, IsShape, blocks, limits_of}
+use Rattle.word_layout.specs.Sizes.{Sizes, IsShape, blocks}
 use Rattle.word_layout.specs.Packing.{value_of, reply_of}
 use Rattle.word_layout.specs.declared.announced.Wish.{Wish}
 use Rattle.word_layout.specs.declared.announced.Wish.TheVariants.{Take, Give}
@@ -276,22 +275,23 @@ BlocksAreCounted = (sizes : Sizes) (words : Words) (s : StackState) (views : Pro
     → total sizes.processes (λ i. kept_blocks sizes s i (views i)) + total sizes.processes (λ i. length (held i)) + sizes.length * s.height
     ≡ blocks sizes
 
--- where the content is empty and each process keeps at most five batches, all blocks but the slack are held
+-- where the content is empty and each process keeps at most so many blocks, all but these are held
 abbrev pub FewAreFree : Type 0
-FewAreFree = (sizes : Sizes) (words : Words) (s : StackState) (views : ProcessViews) (held : BlockLists)
+FewAreFree = (sizes : Sizes) (words : Words) (s : StackState) (views : ProcessViews) (held : BlockLists) (most : ℕ → ℕ)
     → Chains sizes words s views held
     → s.height ≡ 0
-    → ((i : ℕ) → i < sizes.processes → kept_blocks sizes s i (views i) ≤ 5 * sizes.length)
-    → blocks sizes ≤ total sizes.processes (λ i. length (held i)) + slack (limits_of sizes)
+    → ((i : ℕ) → i < sizes.processes → kept_blocks sizes s i (views i) ≤ most i)
+    → blocks sizes ≤ total sizes.processes (λ i. length (held i)) + total sizes.processes most
 
--- a take that the installed state applied and answered with nothing met an empty stack, so all blocks but the slack are held
+-- a take that the installed state applied and answered with nothing met an empty stack, so all blocks but these are held
 abbrev pub EmptyTakesFindFew : Type 0
-EmptyTakesFindFew = (sizes : Sizes) (words : Words) (s : StackState) (views : ProcessViews) (held : BlockLists) (v : TransferView) (i : ℕ)
+EmptyTakesFindFew =
+    (sizes : Sizes) (words : Words) (s : StackState) (views : ProcessViews) (held : BlockLists) (v : TransferView) (i : ℕ) (most : ℕ → ℕ)
     → IsShape sizes → i < sizes.processes
     → Chains sizes words s views held
     → InstallsNext sizes s views v
     → is_take (views i).transfer.wish ≡ true
     → (drafted_state s v).applied i ≢ s.applied i
     → reply_of ((drafted_state s v).reply i) ≡ Nothing
-    → ((t : StackState) (o : ℕ) → o < sizes.processes → kept_blocks sizes t o (views o) ≤ 5 * sizes.length)
-    → blocks sizes ≤ total sizes.processes (λ o. length (held o)) + slack (limits_of sizes)
+    → ((t : StackState) (o : ℕ) → o < sizes.processes → kept_blocks sizes t o (views o) ≤ most o)
+    → blocks sizes ≤ total sizes.processes (λ o. length (held o)) + total sizes.processes most

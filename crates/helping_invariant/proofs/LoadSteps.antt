@@ -141,8 +141,8 @@ word_step sizes m views after states i second index word li inv h none e et true
     let low : index < record_words sizes = rw e at (inv.own i li).index in
     let above = ltb-true (loaded_tag v.loaded) (tag_of word) test in
     let later = moved_on sizes m states v index inv.current (inv.loaded i li) (rw e refl) low (rw et at above) in
-    view_ends_try sizes m views after states i second (LoadRecordWord index) li h (past sizes m views states inv) e refl (none (rw e refl)) later
-    moved
+    view_ends_try sizes m views after states i second (LoadRecordWord index) li h (past sizes m views states inv) e refl
+    (none (rw e refl)) later moved
 word_step sizes m views after states i second index word li inv h none e et false test moved =
     let loaded = record (views i).loaded { record_words = set (views i).loaded.record_words index word } in
     let last = index + 1 == record_words sizes in

@@ -39,7 +39,7 @@ opening_holds limits bound quantum ledgers opened = record {
 }
 
 -- an exchange: the place of a take that found nothing is the present one
-few_now : (limits : Limits) (history : List Entry) (start : ℕ)
+pub few_now : (limits : Limits) (history : List Entry) (start : ℕ)
     → start ≤ length history
     → HasFewUnheld limits history (length history)
     → HadFewSince limits history start

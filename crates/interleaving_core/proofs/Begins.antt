@@ -1,5 +1,5 @@
 -- beginnings of transfers and of calls keep the invariant
-use Rattle.std.proofs.Common.{◌≡◌, ◌≢◌, ℕ, ◌<◌, Bool, true, false, Option, None, Some, List, refl, sym, ◌∙◌, ap, subst, inl, inr, arith}
+use Rattle.std.proofs.Common.{◌≡◌, ℕ, ◌<◌, Bool, true, false, Option, None, Some, List, refl, sym, ◌∙◌, ap, subst, inl, inr, arith}
 use Rattle.std.specs.Prelude.{nat_lt, ◌&&◌}
 use Rattle.std.proofs.Math.Path.{fun_ext}
 use Rattle.std.proofs.lemmas.Bool.{cases_eq}
@@ -14,8 +14,7 @@ use Rattle.transfer_machine.specs.States.{StackState}
 use Rattle.pool_machine.specs.declared.call.Call.{Call}
 use Rattle.pool_machine.specs.declared.call.Call.TheVariants.{Allocate, Free, Read, Write}
 use Rattle.pool_machine.specs.declared.call.CallStage.TheVariants.{Between}
-use Rattle.pool_machine.specs.declared.call.Way.{Way}
-use Rattle.pool_machine.specs.declared.call.Way.TheVariants.{Fresh, Alone, Calls}
+use Rattle.pool_machine.specs.declared.call.Way.TheVariants.{Alone}
 use Rattle.transfer_machine.specs.declared.transfer.TransferView.{TransferView}
 use Rattle.pool_machine.specs.declared.view.ProcessView.{ProcessView}
 use Rattle.transfer_machine.specs.declared.stage.NextStep.TheVariants.{Rest}
@@ -34,15 +33,17 @@ use Rattle.history_invariant.proofs.Fitting.{step_kept}
 use Rattle.history_invariant.proofs.GoingOn.{going_fits, going_sees}
 use Rattle.history_invariant.proofs.Replacing.{replaced_with}
 use Rattle.pool_machine.specs.Beginning.{due, begun_if_due, alone_begun, call_begun}
-use Rattle.pool_machine.specs.Conditions.{may_call, may_use_transfers, names_fit, MayMove}
+use Rattle.pool_machine.specs.Conditions.{IsYoungFor, may_call, may_use_transfers, names_fit, MayMove}
 use Rattle.call_invariant.specs.InCalls.{Scheduled, InCalls}
 use Rattle.call_invariant.specs.Ledgers.{ledger_begun}
 use Rattle.call_invariant.specs.Phases.{changes_pool}
 use Rattle.call_invariant.specs.Uses.{UsesPool}
 use Rattle.call_invariant.proofs.Alone.{moves_alone}
-use Rattle.call_invariant.proofs.Begun.{changing_call_begins, keeping_call_begins}
+use Rattle.call_invariant.proofs.Begun.{young_to_change, changing_call_begins, keeping_call_begins}
 use Rattle.call_invariant.proofs.Standing.{some_quantum}
 use Rattle.call_invariant.proofs.Uses.{due_begins, uses_calls, calls_used, uses_transfers}
+use Rattle.interleaving_core.specs.EmptyTakes.{TakesHadFew}
+use Rattle.interleaving_core.proofs.EmptyTakes.{few_same, few_called, begun_dry}
 use Rattle.interleaving_core.specs.Invariant.{Ghosts, Holds, Meets, BlockIsHeld, KnowsOfNothing, held_in}
 use Rattle.interleaving_core.specs.Moves.{may_go_alone, may_wish}
 use Rattle.interleaving_core.proofs.Joins.{transfers, keeps, scheduled, same_ledgers}
@@ -91,6 +92,10 @@ alone_begins_at sizes words views after history ghosts i wish shape li h free re
       empties =
           each_moved (λ o w. KnowsOfNothing s o w.transfer (ghosts.ledgers o)) sizes.processes i x views after moved
           (begun_knows s i wish v.transfer (ghosts.ledgers i)) h.empties;
+      few =
+          each_moved (λ o w. TakesHadFew (limits_of sizes) history (ghosts.ledgers o) w.pool.plan) sizes.processes i x views after moved
+          (few_same (limits_of sizes) history (ghosts.ledgers i) (ghosts.ledgers i) v.pool.plan x.pool.plan refl refl refl
+          (begun_dry wish v) (h.few i li)) h.few;
       names =
           each_moved (λ o w. NamesHeld sizes (held_in ghosts.ledgers o) w.calls.call) sizes.processes i x views after moved (h.names i li)
           h.names;
@@ -109,14 +114,9 @@ alone_begins sizes words views after history i wish shape li (ghosts, h) rest ma
     (both_second (nat_lt v.transfer.age most_age) (may_wish wish v.pool) both) in (
       ghosts,
       alone_begins_at sizes words views after history ghosts i wish shape li h
-          (by_way v.calls.way (both_first (may_use_transfers v.calls.way) (nat_lt v.transfer.age most_age && may_wish wish v.pool) tests))
+          (both_first (may_use_transfers v.calls.way) (nat_lt v.transfer.age most_age && may_wish wish v.pool) tests)
           rest fits.1 (less v.transfer.age most_age (both_first (nat_lt v.transfer.age most_age) (may_wish wish v.pool) both)) moved,
     )
-  where
-    by_way : (way : Way) → may_use_transfers way ≡ true → way ≢ Calls
-    by_way Fresh e = λ is. grind arith
-    by_way Alone e = λ is. grind arith
-    by_way Calls e = λ is. grind arith
 
 -- the transfer that begins with a call, if any
 call_wish : Call → ProcessView → Option Wish
@@ -214,10 +214,11 @@ pub record CallGoes (sizes : Sizes) (history : List Entry) (i : ℕ) (x : Proces
 pub call_goes : (sizes : Sizes) (history : List Entry) (i : ℕ) (v : ProcessView) (ledgers : Ledgers) (call : Call) (t : Bool)
     → changes_pool (Some call) ≡ t → i < sizes.processes
     → HistoryHolds (limits_of sizes) (transfer_bound sizes) sizes.quantum history ledgers
-    → Scheduled sizes (ledgers i).account → InCalls sizes i v (ledgers i) → v.calls.stage ≡ Between → v.transfer.age < most_age
+    → Scheduled sizes (ledgers i).account → InCalls sizes i v (ledgers i) → v.calls.stage ≡ Between → IsYoungFor call v
     → CallGoes sizes history i (call_begun call v) ledgers (ledger_begun call (ledgers i))
 call_goes sizes history i v ledgers call true changes li h s calls between young =
-    let carries = changing_call_begins sizes i v (ledgers i) call changes (some_quantum sizes s.fit) between young calls in
+    let carries = changing_call_begins sizes i v (ledgers i) call changes (some_quantum sizes s.fit) between
+    (young_to_change v call changes young) calls in
     let ledger = ledger_begun call (ledgers i) in
     record {
       entries = begun_entries call (ledgers i);
@@ -258,18 +259,18 @@ pub call_begins_at : (sizes : Sizes) (words : Words) (views after : ProcessViews
     (call : Call)
     → IsShape sizes → i < sizes.processes
     → Holds sizes words views history ghosts
-    → (views i).transfer.age < most_age → NamesHeld sizes (held_in ghosts.ledgers i) (Some call)
+    → NamesHeld sizes (held_in ghosts.ledgers i) (Some call)
     → CallGoes sizes history i (call_begun call (views i)) ghosts.ledgers (ledger_begun call (ghosts.ledgers i))
     → MovedProcess i (call_begun call (views i)) views after
     → Holds sizes words after history (record ghosts { ledgers = with_ledger i (ledger_begun call (ghosts.ledgers i)) ghosts.ledgers })
-call_begins_at sizes words views after history ghosts i call shape li h young named goes moved =
+call_begins_at sizes words views after history ghosts i call shape li h named goes moved =
     let v = views i in
     let s = ghosts.states (state_tag words) in
     let x = call_begun call v in
     let ledgers = ghosts.ledgers in
     let ledger = ledger_begun call (ledgers i) in
     let held_same = held_stays i ledger ledgers goes.entries in
-    let can = call_can sizes words views history ghosts i shape li h young in
+    let can = call_can sizes words views history ghosts i shape li h in
     let kept = keeps sizes words views history ghosts i shape li h in
     record {
       stack =
@@ -284,6 +285,8 @@ call_begins_at sizes words views after history ghosts i call shape li h young na
       entries = goes.goes_on;
       empties = each_moved_with (λ o w l. KnowsOfNothing s o w.transfer l) sizes.processes i x ledger views after ledgers moved
           (knows_begun s i (call_wish call v) v x (ledgers i) ledger (call_transfer call v) goes.found (h.empties i li)) h.empties;
+      few = each_moved_with (λ o w l. TakesHadFew (limits_of sizes) history l w.pool.plan) sizes.processes i x ledger views after ledgers
+          moved (few_called (limits_of sizes) history call v (ledgers i) (h.few i li)) h.few;
       names = each_moved_with (λ o w l. NamesHeld sizes (grip l.entries) w.calls.call) sizes.processes i x ledger views after ledgers moved
           (named_so sizes (held_in ledgers i) (grip ledger.entries) call x.calls.call (ap grip goes.entries) (call_named call v) named)
           h.names;
@@ -306,7 +309,7 @@ call_begins sizes words views after history i call holds shape li (ghosts, h) be
     let calls = calls_used sizes i v (ghosts.ledgers i) v.calls.way way (h.pools i li) in
     let s = scheduled sizes words views history ghosts i shape li h in (
       record ghosts { ledgers = with_ledger i ledger ghosts.ledgers },
-      call_begins_at sizes words views after history ghosts i call shape li h young
+      call_begins_at sizes words views after history ghosts i call shape li h
           (subst (λ entries. NamesHeld sizes (grip entries) (Some call)) mine named)
           (call_goes sizes history i v ghosts.ledgers call (changes_pool (Some call)) refl li h.entries s calls between young) moved,
     )

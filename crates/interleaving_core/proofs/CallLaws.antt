@@ -8,9 +8,9 @@ use Rattle.word_layout.proofs.Limits.{length_le_blocks}
 use Rattle.process_sums.specs.Sums.{total}
 use Rattle.pool_model.specs.declared.entry.Entry.{Entry}
 use Rattle.pool_model.specs.declared.entry.Entry.TheVariants.{Dry}
-use Rattle.pool_model.specs.Limits.{Limits, slack}
+use Rattle.pool_model.specs.Limits.{Limits}
 use Rattle.pool_model.specs.Legal.{IsLegal, HadFew, MayFollow}
-use Rattle.pool_model.specs.History.{own, held, grip}
+use Rattle.pool_model.specs.History.{own, held, slack, grip}
 use Rattle.transfer_schedule.specs.Table.{InTable}
 use Rattle.transfer_schedule.specs.Account.{Account}
 use Rattle.transfer_schedule.specs.Account as schedule
@@ -87,13 +87,14 @@ holders_hold =
 
 -- what is withheld
 few_here : (history : List Entry) (s : CoreState) → RunFits s history
-    → blocks s.sizes ≤ length (held history) + s.sizes.length * length (stack s.sizes s.words) + slack (limits_of s.sizes)
+    → blocks s.sizes ≤ length (held history) + s.sizes.length * length (stack s.sizes s.words)
+    + slack (limits_of s.sizes) history (length history)
 few_here history s fits = let (ghosts, h) = fits.meets in few_withheld s.sizes s.words (view_at s) history ghosts fits.shape h
 
 pub few_are_withheld : laws.FewAreWithheld
 few_are_withheld =
     every_run (λ sizes history s. blocks sizes ≤ length (held history) + sizes.length * length (stack sizes s.words) + slack
-    (limits_of sizes)) few_here
+    (limits_of sizes) history (length history)) few_here
 
 pub five_here : (history : List Entry) (s : CoreState) → RunFits s history → (i : ℕ) → i < s.sizes.processes → kept s i ≤ 5 * s.sizes.length
 five_here history s fits i li = let (ghosts, h) = fits.meets in keeps_five s.sizes s.words (view_at s) history ghosts i fits.shape li h

@@ -1,7 +1,7 @@
 -- what each process keeps, and where all blocks are
 use Rattle.std.proofs.Common.{◌≡◌, ◌≢◌, ℕ, zero, suc, ◌+◌, ◌*◌, ◌%◌, ◌<◌, ◌≤◌, ◌==◌, Bool, true, false, List, [], ◌∷◌, length, refl, sym}
 use Rattle.std.proofs.Common.{ap, ◌∙◌, inl, inr, arith}
-use Rattle.std.specs.Prelude.{if◌then◌else◌, not}
+use Rattle.std.specs.Prelude.{if◌then◌else◌, not, take}
 use Rattle.std.proofs.lemmas.Bool.{cases_eq}
 use Rattle.std.proofs.lemmas.Bool.Decides.{nat_tests}
 use Rattle.std.proofs.lemmas.List.{length-append}
@@ -14,10 +14,10 @@ use Rattle.word_layout.specs.declared.name.WordName.TheVariants.{Announcement}
 use Rattle.word_layout.specs.declared.reply.Reply.{Reply}
 use Rattle.word_layout.specs.declared.reply.Reply.TheVariants.{Nothing, Took, Gave}
 use Rattle.process_sums.specs.Sums.{total}
-use Rattle.process_sums.proofs.Sums.{total_same, total_at_most}
+use Rattle.process_sums.proofs.Sums.{total_same, total_le}
 use Rattle.pool_model.specs.declared.entry.Entry.{Entry}
-use Rattle.pool_model.specs.History.{held}
-use Rattle.pool_model.specs.Limits.{slack}
+use Rattle.pool_model.specs.History.{held, allowance, slack}
+use Rattle.transfer_schedule.specs.Numbers.{withheld}
 use Rattle.transfer_machine.specs.States.{StackState}
 use Rattle.transfer_machine.specs.Tries.{is_pending}
 use Rattle.transfer_machine.specs.Words.{first_of, stack}
@@ -34,7 +34,7 @@ use Rattle.chain_invariant.proofs.Counts.{blocks_counted}
 use Rattle.history_invariant.proofs.Holding.{held_shared}
 use Rattle.interleaving_core.specs.Invariant.{Ghosts, Holds, held_in}
 use Rattle.interleaving_core.specs.Kept.{reply_value_at, pends_at, given_batches, taken_batches, announced_batches, in_transit, kept_by}
-use Rattle.interleaving_core.proofs.Joins.{transfers, keeps}
+use Rattle.interleaving_core.proofs.Joins.{transfers, keeps, withholds_few_at}
 use Rattle.interleaving_core.proofs.Withheld.{withholds}
 
 -- a transfer pends exactly where its number isn't that of the last applied one
@@ -105,18 +105,28 @@ pending_said : (word value age applied : ℕ) → tag_of word ≡ age → is_odd
     → age ≤ applied + 1 → is_pending word value ≡ not (applied == age)
 pending_said word value age applied tag odd most least = rw (tag, odd) (odd_pends age applied most least)
 
-pub transit_said : (sizes : Sizes) (table : List ℕ) (views : ProcessViews) (history : List Entry) (ghosts : Ghosts) (i : ℕ)
+-- whether its announcement pends
+pub pends_said : (sizes : Sizes) (table : List ℕ) (views : ProcessViews) (history : List Entry) (ghosts : Ghosts) (i : ℕ)
     → i < sizes.processes → Holds sizes (word_at sizes table) views history ghosts
-    → in_transit sizes table i (views i).transfer ≡ length (moving (ghosts.states (state_tag (word_at sizes table))) i (views i).transfer)
-transit_said sizes table views history ghosts i li h =
+    → pends_at sizes table i ≡ not ((ghosts.states (state_tag (word_at sizes table))).applied i == (views i).transfer.age)
+pends_said sizes table views history ghosts i li h =
     let words = word_at sizes table in
     let s = ghosts.states (state_tag words) in
     let v = (views i).transfer in
     let told = h.stack.helping.announced i li in
     let value = value_said sizes table s i (words_show sizes words (transfers views) ghosts.states h.stack) li in
     let odd = ap is_odd_reply value ∙ h.stack.helping.counts.parities i (state_tag words) li (omega arith) in
-    moving_many s i v (pends_at sizes table i) (reply_value_at sizes table i)
-    (pending_said (words (Announcement i)) (reply_value_at sizes table i) v.age (s.applied i) told.tag odd told.most told.least) value
+    pending_said (words (Announcement i)) (reply_value_at sizes table i) v.age (s.applied i) told.tag odd told.most told.least
+
+pub transit_said : (sizes : Sizes) (table : List ℕ) (views : ProcessViews) (history : List Entry) (ghosts : Ghosts) (i : ℕ)
+    → i < sizes.processes → Holds sizes (word_at sizes table) views history ghosts
+    → in_transit sizes table i (views i).transfer ≡ length (moving (ghosts.states (state_tag (word_at sizes table))) i (views i).transfer)
+transit_said sizes table views history ghosts i li h =
+    let words = word_at sizes table in
+    let s = ghosts.states (state_tag words) in
+    let value = value_said sizes table s i (words_show sizes words (transfers views) ghosts.states h.stack) li in
+    moving_many s i (views i).transfer (pends_at sizes table i) (reply_value_at sizes table i)
+    (pends_said sizes table views history ghosts i li h) value
 
 pub kept_said : (sizes : Sizes) (table : List ℕ) (views : ProcessViews) (history : List Entry) (ghosts : Ghosts) (i : ℕ)
     → i < sizes.processes → Holds sizes (word_at sizes table) views history ghosts
@@ -135,7 +145,8 @@ pub keeps_five : (sizes : Sizes) (table : List ℕ) (views : ProcessViews) (hist
 keeps_five sizes table views history ghosts i shape li h =
     let k = keeps sizes (word_at sizes table) views history ghosts i shape li h in
     at_most (kept_said sizes table views history ghosts i li h)
-    (withholds sizes (ghosts.states (state_tag (word_at sizes table))) i (views i) k) k.five
+    (withholds sizes (ghosts.states (state_tag (word_at sizes table))) i (views i) k)
+    (withholds_few_at sizes (word_at sizes table) views history ghosts i shape li h)
 
 -- how many batches the stack has
 pub first_many : (count : ℕ) (values : ℕ → ℕ) → length (first_of count values) ≡ count
@@ -174,18 +185,15 @@ all_counted sizes table views history ghosts h =
     shared.grips.count
     (stack_many sizes table views history ghosts h)
 
-few : (processes l kept mine height all : ℕ) → kept + mine + l * height ≡ all → kept ≤ 5 * l * processes
-    → all ≤ mine + l * height + 5 * processes * l
-few processes l kept mine height all counted least = omega (arith, counted, least, five_times l processes)
-  where
-    five_times : (l p : ℕ) → 5 * l * p ≡ 5 * p * l
-    five_times l p = omega arith
+few : (l kept mine height all most : ℕ) → kept + mine + l * height ≡ all → kept ≤ most → all ≤ mine + l * height + most
+few l kept mine height all most counted least = omega (arith, counted, least)
 
 pub few_withheld : (sizes : Sizes) (table : List ℕ) (views : ProcessViews) (history : List Entry) (ghosts : Ghosts) → IsShape sizes
     → Holds sizes (word_at sizes table) views history ghosts
-    → blocks sizes ≤ length (held history) + sizes.length * length (stack sizes table) + slack (limits_of sizes)
+    → blocks sizes ≤ length (held history) + sizes.length * length (stack sizes table) + slack (limits_of sizes) history (length history)
 few_withheld sizes table views history ghosts shape h =
-    few sizes.processes sizes.length (total sizes.processes (λ i. kept_by sizes table i (views i))) (length (held history))
-    (length (stack sizes table)) (blocks sizes) (all_counted sizes table views history ghosts h)
-    (total_at_most (5 * sizes.length) sizes.processes (λ i. kept_by sizes table i (views i))
+    few sizes.length (total sizes.processes (λ i. kept_by sizes table i (views i))) (length (held history))
+    (length (stack sizes table)) (blocks sizes) (slack (limits_of sizes) history (length history))
+    (all_counted sizes table views history ghosts h)
+    (total_le sizes.processes (λ i. kept_by sizes table i (views i)) (allowance (limits_of sizes) (take (length history) history))
     (λ i li. keeps_five sizes table views history ghosts i shape li h))

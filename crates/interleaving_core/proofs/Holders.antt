@@ -8,10 +8,10 @@ use Rattle.std.proofs.lemmas.List.{take-append-le, take_all, get_or-replicate, l
 use Rattle.word_layout.specs.Sizes.{Sizes, blocks, limits_of}
 use Rattle.pool_model.specs.declared.entry.Entry.{Entry}
 use Rattle.pool_model.specs.declared.entry.Entry.TheVariants.{Got, Back, Dry}
-use Rattle.pool_model.specs.History.{process_of, own, held_after, held, grip}
+use Rattle.pool_model.specs.History.{own, held, grip}
 use Rattle.pool_model.specs.Legal.{MayFollow, IsLegal}
 use Rattle.pool_model.specs.Limits.{Limits}
-use Rattle.pool_model.proofs.Histories.{held_more, own_more, own_other, legal_take}
+use Rattle.pool_model.proofs.Histories.{own_grip_more, own_grip_other, legal_take}
 use Rattle.pool_model.proofs.Members.{contains_head, contains_tail, contains_cons_cases, contains_nil, contains_without, without_contains}
 use Rattle.pool_machine.specs.declared.call.Call.{Call}
 use Rattle.pool_machine.specs.declared.call.Call.TheVariants.{Allocate, Free, Read, Write}
@@ -65,15 +65,6 @@ opened_holders sizes = record {
   all = λ i block has. absurd (contains_nil block has);
 }
 
--- the grip of the process that makes an entry, and those of all others
-grip_more : (history : List Entry) (entry : Entry) (i : ℕ) → process_of entry ≡ i
-    → grip (own (history ++ entry ∷ []) i) ≡ held_after (grip (own history i)) entry
-grip_more history entry i e = ap held (own_more history entry i e) ∙ held_more (own history i) entry
-
-grip_other : (history : List Entry) (entry : Entry) (i : ℕ) → (process_of entry ≡ i → ⊥)
-    → grip (own (history ++ entry ∷ []) i) ≡ grip (own history i)
-grip_other history entry i ne = ap held (own_other history entry i ne)
-
 -- the last entry of a legal history may follow the others, which are legal
 last_at : (history : List Entry) (entry : Entry) → slice_get (history ++ entry ∷ []) (length history) ≡ Some entry
 last_at [] entry = refl
@@ -117,14 +108,14 @@ module _ (sizes : Sizes) (history : List Entry) (holders : List (Option ℕ)) (b
 
   got_old : (i b : ℕ) → Contains (grip (own history i)) b → Contains (grip (own (history ++ Got by block ∷ []) i)) b
   got_old i b has = elim (cases_eq by i) [
-    | inl is ↦ subst (λ list. Contains list b) (sym (grip_more history (Got by block) i is))
+    | inl is ↦ subst (λ list. Contains list b) (sym (own_grip_more history (Got by block) i is))
         (contains_tail b block (grip (own history i)) has)
-    | inr ne ↦ subst (λ list. Contains list b) (sym (grip_other history (Got by block) i ne)) has
+    | inr ne ↦ subst (λ list. Contains list b) (sym (own_grip_other history (Got by block) i ne)) has
   ]
 
   got_new : (i : ℕ) → by ≡ i → Contains (grip (own (history ++ Got by block ∷ []) i)) block
   got_new i is =
-      subst (λ list. Contains list block) (sym (grip_more history (Got by block) i is)) (contains_head block (grip (own history i)))
+      subst (λ list. Contains list block) (sym (own_grip_more history (Got by block) i is)) (contains_head block (grip (own history i)))
 
   got_truly : (i b : ℕ) → is_holder i (get_or (set holders block (Some by)) b None) ≡ true
       → Contains (grip (own (history ++ Got by block ∷ []) i)) b
@@ -141,13 +132,13 @@ module _ (sizes : Sizes) (history : List Entry) (holders : List (Option ℕ)) (b
       | inl at ↦ rw (at, set_here (Some by)) (is_named i by (sym is))
       | inr ne ↦ rw (set_other (Some by) b ne)
           (h.all i b (elim (contains_cons_cases b block (grip (own history i))
-          (subst (λ list. Contains list b) (grip_more history (Got by block) i is) has)) [
+          (subst (λ list. Contains list b) (own_grip_more history (Got by block) i is) has)) [
             | inl e ↦ absurd (ne (sym e))
             | inr old ↦ old
           ]))
     ]
-    | inr apart ↦ let old : Contains (grip (own history i)) b = subst (λ list. Contains list b) (grip_other history (Got by block) i apart)
-        has in elim (cases_eq b block) [
+    | inr apart ↦ let old : Contains (grip (own history i)) b = subst (λ list. Contains list b)
+        (own_grip_other history (Got by block) i apart) has in elim (cases_eq b block) [
           | inl at ↦ absurd (free i (subst (λ c. Contains (grip (own history i)) c) at old))
           | inr ne ↦ rw (set_other (Some by) b ne) (h.all i b old)
         ]
@@ -167,19 +158,19 @@ module _ (sizes : Sizes) (history : List Entry) (holders : List (Option ℕ)) (b
   back_truly : (i b : ℕ) → is_holder i (get_or (set holders block None) b None) ≡ true
       → Contains (grip (own (history ++ Back by block ∷ []) i)) b
   back_truly i b e = let names = back_names i b e in elim (cases_eq by i) [
-    | inl is ↦ subst (λ list. Contains list b) (sym (grip_more history (Back by block) i is))
+    | inl is ↦ subst (λ list. Contains list b) (sym (own_grip_more history (Back by block) i is))
         (without_contains block b (grip (own history i)) (h.truly i b names.1) names.0)
-    | inr ne ↦ subst (λ list. Contains list b) (sym (grip_other history (Back by block) i ne)) (h.truly i b names.1)
+    | inr ne ↦ subst (λ list. Contains list b) (sym (own_grip_other history (Back by block) i ne)) (h.truly i b names.1)
   ]
 
   back_all : Contains (grip (own history by)) block → (i b : ℕ) → Contains (grip (own (history ++ Back by block ∷ []) i)) b
       → is_holder i (get_or (set holders block None) b None) ≡ true
   back_all mine i b has = elim (cases_eq by i) [
     | inl is ↦ let left = contains_without block b (grip (own history i))
-        (subst (λ list. Contains list b) (grip_more history (Back by block) i is) has) in
+        (subst (λ list. Contains list b) (own_grip_more history (Back by block) i is) has) in
         rw (set_other None b left.1) (h.all i b left.0)
-    | inr apart ↦ let old : Contains (grip (own history i)) b = subst (λ list. Contains list b) (grip_other history (Back by block) i apart)
-        has in elim (cases_eq b block) [
+    | inr apart ↦ let old : Contains (grip (own history i)) b = subst (λ list. Contains list b)
+        (own_grip_other history (Back by block) i apart) has in elim (cases_eq b block) [
           | inl at ↦ absurd (apart
               (one_named i by (get_or holders block None) (h.all i block (subst (λ c. Contains (grip (own history i)) c) at old))
               (h.all by block mine)))
@@ -206,7 +197,10 @@ named_low sizes history holders i block h e = elim (cases_lt block (length holde
 
 -- each entry
 dry_grip : (history : List Entry) (by i : ℕ) → grip (own (history ++ Dry by ∷ []) i) ≡ grip (own history i)
-dry_grip history by i = elim (cases_eq by i) [ inl is ↦ grip_more history (Dry by) i is | inr ne ↦ grip_other history (Dry by) i ne ]
+dry_grip history by i = elim (cases_eq by i) [
+  | inl is ↦ own_grip_more history (Dry by) i is
+  | inr ne ↦ own_grip_other history (Dry by) i ne
+]
 
 entered_fits : (sizes : Sizes) (history : List Entry) (holders : List (Option ℕ)) (entry : Entry) → HoldersFit sizes history holders
     → IsLegal (limits_of sizes) (history ++ entry ∷ [])

@@ -1,5 +1,5 @@
 -- the step that installs a state keeps the whole invariant: takes that it answers with nothing are known to have found nothing
-use Rattle.std.proofs.Common.{◌≡◌, ℕ, ◌<◌, ◌≤◌, Bool, true, false, List, length, refl, sym, ap, ◌∙◌, inl, inr, arith, subst}
+use Rattle.std.proofs.Common.{◌≡◌, ℕ, ◌<◌, Bool, true, false, List, length, refl, sym, ap, ◌∙◌, inl, inr, arith, subst}
 use Rattle.std.specs.Prelude.{if◌then◌else◌, slice_index, ◌&&◌}
 use Rattle.std.proofs.lemmas.Bool.{cases_eq}
 use Rattle.word_layout.specs.Sizes.{Sizes, IsShape, limits_of}
@@ -9,8 +9,7 @@ use Rattle.word_layout.specs.declared.announced.Wish.TheVariants.{Take, Give}
 use Rattle.word_layout.specs.declared.name.WordName.TheVariants.{State}
 use Rattle.word_layout.proofs.Packed.{value_of-tagged}
 use Rattle.pool_model.specs.declared.entry.Entry.{Entry}
-use Rattle.pool_model.specs.History.{unheld}
-use Rattle.pool_model.specs.Limits.{slack}
+use Rattle.pool_model.specs.History.{HasFewUnheld}
 use Rattle.transfer_machine.specs.Machine.{action_of, met_of, met_at}
 use Rattle.transfer_machine.specs.States.{StackState}
 use Rattle.transfer_machine.specs.Tries.{is_pending, is_take, announced_wish}
@@ -33,7 +32,8 @@ use Rattle.history_invariant.specs.Steps.{with_ledger}
 use Rattle.interleaving_core.specs.Invariant.{Ghosts, Holds, Meets, KnowsOfNothing}
 use Rattle.interleaving_core.proofs.Exchanges.{exchanging}
 use Rattle.interleaving_core.proofs.Joins.{transfers, installs_next}
-use Rattle.interleaving_core.proofs.Empties.{few_at, reply_stays}
+use Rattle.interleaving_core.proofs.Empties.{few_at}
+use Rattle.stack_invariant.proofs.NextReplies.{reply_stays}
 use Rattle.interleaving_core.proofs.TransferSteps.{finds_nothing, known_found, each_ledger, is_nothing, says_nothing}
 use Rattle.interleaving_core.proofs.TransfersHold.{Made, ledgers_made, step_made, step_stays}
 
@@ -65,11 +65,6 @@ finds a b c ea eb ec = rw (ea, eb, ec) refl
 first_of_three : (a b c : Bool) → (a && (b && c)) ≡ true → a ≡ true
 first_of_three true b c e = refl
 first_of_three false b c e = grind arith
-
-second_of_three : (a b c : Bool) → (a && (b && c)) ≡ true → b ≡ true
-second_of_three true true c e = refl
-second_of_three true false c e = grind arith
-second_of_three false b c e = grind arith
 
 third_of_three : (a b c : Bool) → (a && (b && c)) ≡ true → c ≡ true
 third_of_three true true c e = e
@@ -120,7 +115,7 @@ module _ (sizes : Sizes) (words new : Words) (views after : ProcessViews) (histo
   ]
 
   found_few : (o : ℕ) → o < sizes.processes → finds_nothing s (views i).transfer o ≡ true
-      → unheld (limits_of sizes) history (length history) ≤ slack (limits_of sizes)
+      → HasFewUnheld (limits_of sizes) history (length history)
   unfolding s
   found_few o lo f =
       let v = (views i).transfer in
@@ -130,8 +125,6 @@ module _ (sizes : Sizes) (words new : Words) (views after : ProcessViews) (histo
       few_at sizes words views history ghosts (λ k. slice_index v.loaded.announcements k) o shape lo h
       (installs_next sizes words views history ghosts i second shape li h e hit).present
       (first_of_three (is_pending word (s.reply o)) (is_take (announced_wish word)) (is_nothing (reply_of ((drafted_state s v).reply o))) f)
-      (second_of_three (is_pending word (s.reply o)) (is_take (announced_wish word))
-      (is_nothing (reply_of ((drafted_state s v).reply o))) f)
       (ap reply_of (sym (gives.next.reply o lo)) ∙ said)
 
   knew : (o : ℕ) → o < sizes.processes → KnowsOfNothing s o (views o).transfer (with_ledger i g ghosts.ledgers o)

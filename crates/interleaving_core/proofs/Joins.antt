@@ -1,8 +1,8 @@
 -- what the parts of the invariant give each other for the step of a transfer
-use Rattle.std.proofs.Common.{◌≡◌, ◌≢◌, ℕ, ◌<◌, Bool, true, false, List, refl, inl, inr, arith}
+use Rattle.std.proofs.Common.{◌≡◌, ◌≢◌, ℕ, ◌<◌, ◌≤◌, Bool, true, false, List, refl, inl, inr, arith}
 use Rattle.std.proofs.Math.Path.{fun_ext}
 use Rattle.std.proofs.lemmas.Bool.{cases_eq}
-use Rattle.word_layout.specs.Sizes.{Sizes, IsShape}
+use Rattle.word_layout.specs.Sizes.{Sizes, IsShape, limits_of}
 use Rattle.word_layout.specs.Packing.{value_of, reply_of}
 use Rattle.word_layout.specs.declared.announced.Wish.{Wish}
 use Rattle.word_layout.specs.declared.announced.Wish.TheVariants.{Take, Give}
@@ -10,6 +10,8 @@ use Rattle.word_layout.specs.declared.reply.Reply.{Reply}
 use Rattle.word_layout.specs.declared.reply.Reply.TheVariants.{Nothing, Took, Gave}
 use Rattle.word_layout.specs.declared.name.WordName.TheVariants.{State}
 use Rattle.pool_model.specs.declared.entry.Entry.{Entry}
+use Rattle.pool_model.specs.History.{allowance}
+use Rattle.transfer_schedule.specs.Numbers.{withheld}
 use Rattle.transfer_machine.specs.Machine.{action_of}
 use Rattle.transfer_machine.specs.Tries.{is_take}
 use Rattle.transfer_machine.specs.Words.{name_of}
@@ -32,7 +34,7 @@ use Rattle.history_invariant.proofs.Replacing.{replaced_with}
 use Rattle.call_invariant.specs.InCalls.{Scheduled}
 use Rattle.call_invariant.specs.Uses.{PoolKeeps}
 use Rattle.call_invariant.proofs.Standing.{shape_fits}
-use Rattle.call_invariant.proofs.Uses.{keeps_pool}
+use Rattle.call_invariant.proofs.Uses.{keeps_pool, withholds_few}
 use Rattle.interleaving_core.specs.Invariant.{Ghosts, Holds, held_in}
 
 -- the views of the transfers
@@ -56,6 +58,14 @@ pub keeps : (sizes : Sizes) (words : Words) (views : ProcessViews) (history : Li
     → i < sizes.processes → Holds sizes words views history ghosts → PoolKeeps sizes (views i)
 keeps sizes words views history ghosts i shape li h =
     keeps_pool sizes i (views i) (ghosts.ledgers i) (views i).calls.way (h.pools i li)
+    (scheduled sizes words views history ghosts i shape li h)
+
+-- and that it withholds at most its allowance
+pub withholds_few_at : (sizes : Sizes) (words : Words) (views : ProcessViews) (history : List Entry) (ghosts : Ghosts) (i : ℕ)
+    → IsShape sizes → i < sizes.processes → Holds sizes words views history ghosts
+    → withheld (views i).pool.plan ≤ allowance (limits_of sizes) history i
+withholds_few_at sizes words views history ghosts i shape li h =
+    withholds_few sizes i (views i) (ghosts.ledgers i) (views i).calls.way (h.pools i li)
     (scheduled sizes words views history ghosts i shape li h)
 
 -- a step of a process is in step with the present state

@@ -11,6 +11,7 @@ pub mod TransfersHold
 pub mod InstallsHold
 pub mod TransfersMade
 pub mod OwnParts
+pub mod EmptyTakes
 pub mod OwnData
 pub mod OwnLedgers
 pub mod OwnSteps
@@ -30,6 +31,7 @@ pub mod RunShown
 pub mod RunContent
 pub mod RunHeads
 pub mod CallLawsKept
+pub mod StateLaws
 pub mod CallLaws
 pub mod CallLawsShort
 pub mod CallLawsData

@@ -16,7 +16,7 @@ use Rattle.pool_machine.specs.declared.call.Way.{Way}
 use Rattle.pool_machine.specs.declared.call.Way.TheVariants.{Fresh, Alone, Calls}
 use Rattle.pool_machine.specs.declared.view.PoolView.{PoolView}
 use Rattle.pool_machine.specs.Beginning.{newest}
-use Rattle.pool_machine.specs.Conditions.{may_use_calls, may_use_transfers, names_fit}
+use Rattle.pool_machine.specs.Conditions.{may_use_calls, may_use_transfers, is_young_for, names_fit}
 use Rattle.interleaving_core.specs.Moves.{CoreState, view_at, holder_of, is_holder, holds_for, may_wish}
 use Rattle.interleaving_core.specs.Runs.{Moves, Events, is_made}
 use Rattle.interleaving_core.specs.Steps.{is_in_call}
@@ -52,25 +52,28 @@ uses_transfers Alone ne = refl
 uses_transfers Calls ne = absurd (ne refl)
 
 -- a call whose names fit begins between two calls
-call_begins : (s : CoreState) (i : ℕ) (call : Call) → StandsBetween s.sizes i s
+call_begins : (s : CoreState) (i : ℕ) (call : Call) → StandsBetween s.sizes i s → is_young_for call (view_at s i) ≡ true
     → names_fit s.sizes (holds_for s.holders i call) call ≡ true → is_made (Events i call) s ≡ true
-call_begins s i call stands names =
+call_begins s i call stands young names =
     let v = view_at s i in
-    let young = both_are (nat_lt v.transfer.age most_age) (names_fit s.sizes (holds_for s.holders i call) call)
-    (is_less v.transfer.age most_age stands.young) names in
-    let may = both_are (may_use_calls v.calls.way) _ (uses_calls v.calls.way stands.way) young in
+    let fits = both_are (is_young_for call v) (names_fit s.sizes (holds_for s.holders i call) call) young names in
+    let may = both_are (may_use_calls v.calls.way) _ (uses_calls v.calls.way stands.way) fits in
     both_are (nat_lt i s.sizes.processes) _ (is_less i s.sizes.processes stands.low) (second_is (is_in_call v.calls.stage) _ may)
 
 allocates_here : (history : List Entry) (s : CoreState) → RunFits s history → (i : ℕ) → StandsBetween s.sizes i s
+    → (view_at s i).transfer.age < most_age
     → is_made (Events i Allocate) s ≡ true
-allocates_here history s fits i stands = call_begins s i Allocate stands refl
+allocates_here history s fits i stands young =
+    call_begins s i Allocate stands (is_less (view_at s i).transfer.age most_age young) refl
 
 pub allocates_begin : laws.AllocatesBegin
 allocates_begin = every_run _ allocates_here
 
 frees_here : (history : List Entry) (s : CoreState) → RunFits s history → (i block : ℕ) → StandsBetween s.sizes i s
+    → (view_at s i).transfer.age < most_age
     → is_holder i (holder_of s block) ≡ true → is_made (Events i (Free block)) s ≡ true
-frees_here history s fits i block stands holds = call_begins s i (Free block) stands holds
+frees_here history s fits i block stands young holds =
+    call_begins s i (Free block) stands (is_less (view_at s i).transfer.age most_age young) holds
 
 pub frees_begin : laws.FreesBegin
 frees_begin = every_run _ frees_here
@@ -79,7 +82,7 @@ reads_here : (history : List Entry) (s : CoreState) → RunFits s history → (i
     → is_holder i (holder_of s block) ≡ true → index < s.sizes.words
     → is_made (Events i (Read block index)) s ≡ true
 reads_here history s fits i block index stands holds within =
-    call_begins s i (Read block index) stands
+    call_begins s i (Read block index) stands refl
     (both_are (is_holder i (holder_of s block)) (nat_lt index s.sizes.words) holds (is_less index s.sizes.words within))
 
 pub reads_begin : laws.ReadsBegin
@@ -89,7 +92,7 @@ writes_here : (history : List Entry) (s : CoreState) → RunFits s history → (
     → is_holder i (holder_of s block) ≡ true → index < s.sizes.words
     → is_made (Events i (Write block index value)) s ≡ true
 writes_here history s fits i block index value stands holds within =
-    call_begins s i (Write block index value) stands
+    call_begins s i (Write block index value) stands refl
     (both_are (is_holder i (holder_of s block)) (nat_lt index s.sizes.words) holds (is_less index s.sizes.words within))
 
 pub writes_begin : laws.WritesBegin

@@ -23,6 +23,7 @@ use Rattle.history_invariant.proofs.Holding as histories
 use Rattle.call_invariant.proofs.Alone.{opening_calls}
 use Rattle.interleaving_core.proofs.Joins.{transfers}
 use Rattle.interleaving_core.specs.Content.{SaysContent}
+use Rattle.interleaving_core.specs.EmptyTakes.{TakesHadFew}
 use Rattle.interleaving_core.specs.Invariant.{Ghosts, MeetsInvariant, KnowsOfNothing, held_in}
 
 -- the opening
@@ -45,6 +46,11 @@ opening_ghosts sizes = record {
 knows_opening : (s : StackState) (sizes : Sizes) (i : ℕ) (ledger : Ledger) → KnowsOfNothing s i (opening_view sizes i).transfer ledger
 knows_opening s sizes i ledger announced = absurd (grind arith)
 
+-- no take was made
+few_opening : (sizes : Sizes) (i : ℕ)
+    → TakesHadFew (limits_of sizes) [] ((opening_ghosts sizes).ledgers i) (opening_view sizes i).pool.plan
+few_opening sizes i = record { pending = λ f. absurd (grind arith); dry = λ d. absurd (grind arith) }
+
 pub opening_holds : (sizes : Sizes) (words : List ℕ) (views : ProcessViews) → IsShape sizes → AreOpening sizes words
     → ((i : ℕ) → i < sizes.processes → views i ≡ opening_view sizes i)
     → MeetsInvariant sizes words views []
@@ -59,6 +65,7 @@ opening_holds sizes words views shape opening seats = (
     empties =
         λ i li. rw (seats i li)
         (knows_opening (opening_state sizes) sizes i (opening_ledger sizes.length (transfer_bound sizes) sizes.quantum));
+    few = λ i li. rw (seats i li) (few_opening sizes i);
     names = λ i li. rw (seats i li) tt;
     data_words =
         λ i li. record {

@@ -6,7 +6,7 @@ use Rattle.word_layout.specs.declared.name.WordName.TheVariants.{State, Announce
 use Rattle.pool_model.specs.declared.entry.Entry.{Entry}
 use Rattle.pool_model.specs.declared.entry.Entry.TheVariants.{Got, Back, Dry}
 use Rattle.pool_model.specs.History.{grip}
-use Rattle.pool_model.proofs.Histories.{held_more}
+use Rattle.pool_model.proofs.Histories.{grip_more}
 use Rattle.transfer_machine.specs.Words.{name_of}
 use Rattle.transfer_machine.specs.declared.action.Action.{Action}
 use Rattle.transfer_machine.specs.declared.action.Action.TheVariants.{Load, Store}
@@ -36,14 +36,14 @@ ledger_by_call history i pool (Some (Write block index value)) ledger = ledger
 -- the blocks that its process then holds
 allocated_grip : (history : List Entry) (i : ℕ) (block : Option ℕ) (ledger : Ledger)
     → grip (ledger_allocated history i block ledger).entries ≡ with_got block (grip ledger.entries)
-allocated_grip history i None ledger = held_more ledger.entries (Dry i)
-allocated_grip history i (Some block) ledger = held_more ledger.entries (Got i block)
+allocated_grip history i None ledger = grip_more ledger.entries (Dry i)
+allocated_grip history i (Some block) ledger = grip_more ledger.entries (Got i block)
 
 pub grip_by_call : (history : List Entry) (i : ℕ) (pool : PoolView) (call : Option Call) (ledger : Ledger)
     → grip (ledger_by_call history i pool call ledger).entries ≡ held_by_call pool call (grip ledger.entries)
 grip_by_call history i pool None ledger = refl
 grip_by_call history i pool (Some Allocate) ledger = allocated_grip history i (next_block pool) ledger
-grip_by_call history i pool (Some (Free block)) ledger = held_more ledger.entries (Back i block)
+grip_by_call history i pool (Some (Free block)) ledger = grip_more ledger.entries (Back i block)
 grip_by_call history i pool (Some (Read block index)) ledger = refl
 grip_by_call history i pool (Some (Write block index value)) ledger = refl
 

@@ -4,7 +4,7 @@ use Rattle.std.specs.Prelude.{◌==◌, if◌then◌else◌, Contains}
 use Rattle.std.proofs.Math.Path.{fun_ext}
 use Rattle.std.proofs.lemmas.Bool.{cases_eq}
 use Rattle.std.proofs.lemmas.Bool.Decides.{nat_tests}
-use Rattle.word_layout.specs.Sizes.{Sizes, IsShape}
+use Rattle.word_layout.specs.Sizes.{Sizes, IsShape, limits_of}
 use Rattle.pool_model.specs.declared.entry.Entry.{Entry}
 use Rattle.pool_model.specs.History.{grip}
 use Rattle.transfer_machine.specs.Words.{name_of}
@@ -27,6 +27,8 @@ use Rattle.history_invariant.specs.Steps.{with_ledger}
 use Rattle.history_invariant.proofs.Replacing.{replaced_with}
 use Rattle.call_invariant.specs.Uses.{UsesPool}
 use Rattle.call_invariant.proofs.Uses.{uses_calls}
+use Rattle.interleaving_core.specs.EmptyTakes.{TakesHadFew}
+use Rattle.interleaving_core.proofs.EmptyTakes.{few_owned, few_longer}
 use Rattle.interleaving_core.specs.DataWords.{known_by_call}
 use Rattle.interleaving_core.specs.Invariant.{Known, Ghosts, held_in, KnowsOfNothing, DataHolds, Holds, Meets}
 use Rattle.interleaving_core.specs.Runs.{entries_of}
@@ -170,6 +172,11 @@ module _ (sizes : Sizes) (words new : Words) (views after : ProcessViews) (histo
             rw same_tag (each_owned (λ o y ledger knows. KnowsOfNothing (ghosts.states (state_tag words)) o y.transfer ledger)
             sizes.processes i x g mine views after ghosts.ledgers ghosts.known moved own_finds
             (λ o lo ne. d.holds.empties o lo));
+        few =
+            each_owned (λ o y ledger knows. TakesHadFew (limits_of sizes)
+            (history ++ entries_of (happened (own_kind v) (own_answer v word))) ledger y.pool.plan) sizes.processes i x g mine views after ghosts.ledgers ghosts.known moved
+            (few_owned (limits_of sizes) history _ i word v.pool v.calls.call (ghosts.ledgers i) (d.holds.few i d.low))
+            (λ o lo ne. few_longer (limits_of sizes) history _ (ghosts.ledgers o) (views o).pool.plan (d.holds.few o lo));
         names =
             each_owned (λ o y ledger knows. NamesHeld sizes (grip ledger.entries) y.calls.call) sizes.processes i x g mine views after
             ghosts.ledgers ghosts.known moved tt (λ o lo ne. d.holds.names o lo);

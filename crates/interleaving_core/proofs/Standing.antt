@@ -11,7 +11,7 @@ use Rattle.transfer_schedule.specs.Beginning.{few_spares}
 use Rattle.transfer_schedule.specs.declared.pending.Pending.TheVariants.{Idle}
 use Rattle.pool_machine.specs.Pools.{MayBegin}
 use Rattle.pool_machine.specs.declared.call.Call.{Call}
-use Rattle.pool_machine.specs.declared.call.CallStage.TheVariants.{Between}
+use Rattle.pool_machine.specs.declared.call.Call.TheVariants.{Allocate, Free, Read, Write}
 use Rattle.pool_machine.specs.declared.call.Way.{Way}
 use Rattle.pool_machine.specs.declared.call.Way.TheVariants.{Fresh, Alone, Calls}
 use Rattle.pool_machine.specs.declared.view.ProcessView.{ProcessView}
@@ -21,7 +21,7 @@ use Rattle.transfer_invariant.specs.Memory.{Words, state_tag}
 use Rattle.stack_invariant.proofs.Follows.{each_process}
 use Rattle.batch_invariant.specs.Batches.{ProcessViews}
 use Rattle.chain_invariant.proofs.Gives.{heads_are_blocks}
-use Rattle.pool_machine.specs.Conditions.{may_call, may_use_calls, names_fit}
+use Rattle.pool_machine.specs.Conditions.{IsYoungFor, is_young_for, may_call, may_use_calls, names_fit}
 use Rattle.pool_machine.specs.Ready.{CanBegin}
 use Rattle.call_invariant.proofs.Uses.{calls_can_begin, calls_used, transfers_used}
 use Rattle.interleaving_core.proofs.Joins.{transfers, keeps}
@@ -121,45 +121,46 @@ wish_fits sizes words views history i wish shape li (ghosts, h) rest may =
     wish_fits_at sizes words views history ghosts i wish shape li h may
 
 -- what the test of a call says
+pub uses_no_transfers : (way : Way) → may_use_calls way ≡ true → way ≢ Alone
+uses_no_transfers Fresh e = λ is. grind arith
+uses_no_transfers Alone e = λ is. grind arith
+uses_no_transfers Calls e = λ is. grind arith
+
 pub call_way : (sizes : Sizes) (holds : Bool) (call : Call) (v : ProcessView) → may_call sizes holds call v ≡ true → v.calls.way ≢ Alone
 call_way sizes holds call v may =
-    by_way v.calls.way (both_first (may_use_calls v.calls.way) (nat_lt v.transfer.age most_age && names_fit sizes holds call) may)
-  where
-    by_way : (way : Way) → may_use_calls way ≡ true → way ≢ Alone
-    by_way Fresh e = λ is. grind arith
-    by_way Alone e = λ is. grind arith
-    by_way Calls e = λ is. grind arith
+    uses_no_transfers v.calls.way (both_first (may_use_calls v.calls.way) (is_young_for call v && names_fit sizes holds call) may)
 
 call_rest : (sizes : Sizes) (holds : Bool) (call : Call) (v : ProcessView) → may_call sizes holds call v ≡ true
-    → (nat_lt v.transfer.age most_age && names_fit sizes holds call) ≡ true
-call_rest sizes holds call v may =
-    both_second (may_use_calls v.calls.way) (nat_lt v.transfer.age most_age && names_fit sizes holds call) may
+    → (is_young_for call v && names_fit sizes holds call) ≡ true
+call_rest sizes holds call v may = both_second (may_use_calls v.calls.way) (is_young_for call v && names_fit sizes holds call) may
 
-pub call_young : (sizes : Sizes) (holds : Bool) (call : Call) (v : ProcessView) → may_call sizes holds call v ≡ true
-    → v.transfer.age < most_age
+young_by : (call : Call) (v : ProcessView) → is_young_for call v ≡ true → IsYoungFor call v
+young_by Allocate v e = less v.transfer.age most_age e
+young_by (Free block) v e = less v.transfer.age most_age e
+young_by (Read block index) v e = tt
+young_by (Write block index value) v e = tt
+
+pub call_young : (sizes : Sizes) (holds : Bool) (call : Call) (v : ProcessView) → may_call sizes holds call v ≡ true → IsYoungFor call v
 call_young sizes holds call v may =
-    less v.transfer.age most_age
-    (both_first (nat_lt v.transfer.age most_age) (names_fit sizes holds call) (call_rest sizes holds call v may))
+    young_by call v (both_first (is_young_for call v) (names_fit sizes holds call) (call_rest sizes holds call v may))
 
 pub call_names : (sizes : Sizes) (holds : Bool) (call : Call) (v : ProcessView) → may_call sizes holds call v ≡ true
     → names_fit sizes holds call ≡ true
 call_names sizes holds call v may =
-    both_second (nat_lt v.transfer.age most_age) (names_fit sizes holds call) (call_rest sizes holds call v may)
+    both_second (is_young_for call v) (names_fit sizes holds call) (call_rest sizes holds call v may)
 
 -- a process between two calls can begin one
 pub call_can : (sizes : Sizes) (words : Words) (views : ProcessViews) (history : List Entry) (ghosts : Ghosts) (i : ℕ) → IsShape sizes
     → i < sizes.processes → Holds sizes words views history ghosts
-    → (views i).transfer.age < most_age → CanBegin (views i)
-call_can sizes words views history ghosts i shape li h young =
+    → CanBegin (views i)
+call_can sizes words views history ghosts i shape li h =
     let kept = keeps sizes words views history ghosts i shape li h in
-    calls_can_begin sizes (views i) kept young (λ three.
+    calls_can_begin sizes (views i) kept (λ three.
     let block = spare_is_block sizes words views history ghosts i (length (views i).pool.heads - 1) shape li h
     (omega (arith, three, kept.heads)) in
     let limit = shape.few_blocks in
     omega arith)
 
-pub call_can_begin : (sizes : Sizes) (words : Words) (views : ProcessViews) (history : List Entry) (i : ℕ) (call : Call) (holds : Bool)
-    → IsShape sizes → i < sizes.processes
-    → Meets sizes words views history → (views i).calls.stage ≡ Between → may_call sizes holds call (views i) ≡ true → CanBegin (views i)
-call_can_begin sizes words views history i call holds shape li (ghosts, h) between may =
-    call_can sizes words views history ghosts i shape li h (call_young sizes holds call (views i) may)
+pub call_can_begin : (sizes : Sizes) (words : Words) (views : ProcessViews) (history : List Entry) (i : ℕ)
+    → IsShape sizes → i < sizes.processes → Meets sizes words views history → CanBegin (views i)
+call_can_begin sizes words views history i shape li (ghosts, h) = call_can sizes words views history ghosts i shape li h

@@ -199,14 +199,13 @@ among_fits sizes table v wish shape among rest may =
     among.meets in
     rw here at fits rest may
 
--- and a process between two calls to begin one
-pub among_can_begin : (sizes : Sizes) (table : List ℕ) (v : ProcessView) (call : Call) (holds : Bool) → IsShape sizes
-    → IsAmong sizes table v → v.calls.stage ≡ Between → may_call sizes holds call v ≡ true → CanBegin v
-among_can_begin sizes table v call holds shape among between may =
+-- and the transfer that is due with a call to begin
+pub among_can_begin : (sizes : Sizes) (table : List ℕ) (v : ProcessView) → IsShape sizes → IsAmong sizes table v → CanBegin v
+among_can_begin sizes table v shape among =
     let here = with_view_here v among.others in
-    let can = call_can_begin sizes (word_at sizes table) (with_view v among.others) among.past v.transfer.number call holds shape among.low
+    let can = call_can_begin sizes (word_at sizes table) (with_view v among.others) among.past v.transfer.number shape among.low
     among.meets in
-    rw here at can between may
+    rw here at can
 
 -- a step at rest, and a stage outside any call
 pub rests : (s : NextStep) → is_rest s ≡ true → s ≡ Rest

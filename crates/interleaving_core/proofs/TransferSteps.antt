@@ -1,5 +1,5 @@
 -- the step of a transfer, alone or in a call, keeps the invariant
-use Rattle.std.proofs.Common.{◌≡◌, ◌≢◌, ℕ, ◌+◌, ◌<◌, ◌≤◌, ◌==◌, Bool, true, false, List, length, refl, sym, ◌∙◌, inl, inr, arith}
+use Rattle.std.proofs.Common.{◌≡◌, ◌≢◌, ℕ, ◌+◌, ◌<◌, ◌==◌, Bool, true, false, List, length, refl, sym, ◌∙◌, inl, inr, arith}
 use Rattle.std.specs.Prelude.{if◌then◌else◌, slice_index, ◌&&◌}
 use Rattle.std.proofs.lemmas.Bool.{cases_eq, false≢true}
 use Rattle.std.proofs.lemmas.Bool.Decides.{nat_tests}
@@ -9,8 +9,8 @@ use Rattle.word_layout.specs.declared.name.WordName.TheVariants.{Data}
 use Rattle.word_layout.specs.declared.reply.Reply.{Reply}
 use Rattle.word_layout.specs.declared.reply.Reply.TheVariants.{Nothing, Took, Gave}
 use Rattle.pool_model.specs.declared.entry.Entry.{Entry}
-use Rattle.pool_model.specs.History.{unheld}
-use Rattle.pool_model.specs.Limits.{Limits, slack}
+use Rattle.pool_model.specs.History.{HasFewUnheld}
+use Rattle.pool_model.specs.Limits.{Limits}
 use Rattle.transfer_machine.specs.Machine.{action_of, met_at}
 use Rattle.transfer_machine.specs.States.{StackState}
 use Rattle.transfer_machine.specs.Tries.{is_pending, is_take, announced_wish}
@@ -62,7 +62,7 @@ known_account true g = refl
 known_account false g = refl
 
 pub emptied : (limits : Limits) (history : List Entry) (t : Bool) (g : Ledger)
-    → (t ≡ true → unheld limits history (length history) ≤ slack limits)
+    → (t ≡ true → HasFewUnheld limits history (length history))
     → Emptied limits history g (if t then record g { found_nothing = true } else g)
 emptied limits history true g few = empties (few refl)
 emptied limits history false g few = stays

@@ -1,12 +1,11 @@
 -- the step of a transfer, alone or in a call, keeps the whole invariant
-use Rattle.std.proofs.Common.{◌≡◌, ◌≢◌, ℕ, ◌<◌, ◌≤◌, Bool, true, false, List, length, refl, sym, ap, ◌∙◌, inl, inr, arith, subst}
+use Rattle.std.proofs.Common.{◌≡◌, ◌≢◌, ℕ, ◌<◌, Bool, true, false, List, length, refl, sym, ap, ◌∙◌, inl, inr, arith, subst}
 use Rattle.std.specs.Prelude.{◌⊎◌}
 use Rattle.std.proofs.Math.Path.{fun_ext}
 use Rattle.std.proofs.lemmas.Bool.{cases_eq}
 use Rattle.word_layout.specs.Sizes.{Sizes, IsShape, transfer_bound, limits_of}
 use Rattle.pool_model.specs.declared.entry.Entry.{Entry}
-use Rattle.pool_model.specs.History.{unheld, grip}
-use Rattle.pool_model.specs.Limits.{slack}
+use Rattle.pool_model.specs.History.{HasFewUnheld, grip}
 use Rattle.transfer_machine.specs.Machine.{action_of}
 use Rattle.pool_machine.specs.Pools.{view_met}
 use Rattle.transfer_machine.specs.Words.{name_of}
@@ -30,6 +29,8 @@ use Rattle.history_invariant.specs.Steps.{with_ledger}
 use Rattle.history_invariant.proofs.Holding.{exchange_holds}
 use Rattle.call_invariant.specs.Uses.{UsesPool}
 use Rattle.call_invariant.proofs.Uses.{uses_stay}
+use Rattle.interleaving_core.specs.EmptyTakes.{TakesHadFew}
+use Rattle.interleaving_core.proofs.EmptyTakes.{few_known}
 use Rattle.interleaving_core.specs.Invariant.{Ghosts, Holds, Meets, DataHolds, KnowsOfNothing, held_in}
 use Rattle.interleaving_core.proofs.Joins.{transfers, in_step, installs_next, supplied}
 use Rattle.interleaving_core.proofs.TransferSteps.{data_stays, known_of, known_entries, known_account, emptied, own_knows, each_ledger}
@@ -43,6 +44,7 @@ pub record Made (sizes : Sizes) (words : Words) (history : List Entry) (ghosts :
     pub same : g.entries ≡ (ghosts.ledgers i).entries
     pub found : has_only_begun v.transfer.next ≡ false → g.found_nothing ≡ (ghosts.ledgers i).found_nothing
     pub uses : UsesPool sizes i x g
+    pub few : TakesHadFew (limits_of sizes) history g x.pool.plan
 
 -- the ledgers afterwards
 abbrev pub ledgers_made : ℕ → Ledger → (ℕ → Bool) → Ledgers → Ledgers
@@ -64,7 +66,7 @@ pub step_made : (sizes : Sizes) (words new : Words) (views after : ProcessViews)
     → IsShape sizes → i < sizes.processes → Holds sizes words views history ghosts
     → Acted sizes (action_of sizes (views i).transfer) words new → MovedProcess i x views after
     → Made sizes words history ghosts i (views i) x g
-    → ((o : ℕ) → o < sizes.processes → found o ≡ true → unheld (limits_of sizes) history (length history) ≤ slack (limits_of sizes))
+    → ((o : ℕ) → o < sizes.processes → found o ≡ true → HasFewUnheld (limits_of sizes) history (length history))
     → ((o : ℕ) → o < sizes.processes → KnowsOfNothing (states_after words (views i).transfer ghosts.states (state_tag new)) o
     (after o).transfer (ledgers_made i g found ghosts.ledgers o))
     → Holds sizes new after history
@@ -103,6 +105,7 @@ step_made sizes words new views after history ghosts i x g found shape li h acte
           made.entries
           (λ o lo. emptied (limits_of sizes) history (found o) (with_ledger i g ghosts.ledgers o) (few o lo));
       empties = knows;
+      few = few_made;
       names = λ o lo. subst (λ (f : ℕ → List ℕ). NamesHeld sizes (f o) (after o).calls.call) (sym same) (names_made o lo (cases_eq o i));
       data_words = λ o lo. subst (λ (f : ℕ → List ℕ). DataHolds sizes new (f o) (ghosts.known o)) (sym same) (data_made o lo);
     }
@@ -111,6 +114,14 @@ step_made sizes words new views after history ghosts i x g found shape li h acte
     pools_made o lo =
         each_ledger (λ k l. UsesPool sizes k (after k) l) i o g ghosts.ledgers (λ e. rw e (rw moved.here made.uses))
         (λ ne. rw (moved.elsewhere o ne) (h.pools o lo))
+
+    few_made : (o : ℕ) → o < sizes.processes
+        → TakesHadFew (limits_of sizes) history (ledgers_made i g found ghosts.ledgers o) (after o).pool.plan
+    few_made o lo =
+        let l = with_ledger i g ghosts.ledgers o in
+        few_known (limits_of sizes) history (found o) l (after o).pool.plan (few o lo) (made.entries.each o lo).places.begun_within
+        (each_ledger (λ k l. TakesHadFew (limits_of sizes) history l (after k).pool.plan) i o g ghosts.ledgers
+        (λ e. rw e (rw moved.here made.few)) (λ ne. rw (moved.elsewhere o ne) (h.few o lo)))
 
     names_made : (o : ℕ) → o < sizes.processes → (o ≡ i) ⊎ (o ≢ i) → NamesHeld sizes (held_in ghosts.ledgers o) (after o).calls.call
     names_made o lo (inl e) = rw e (rw moved.here (rw made.call (h.names i li)))

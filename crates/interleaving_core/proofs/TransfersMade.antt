@@ -6,7 +6,10 @@ use Rattle.word_layout.specs.Packing.{value_of, reply_of}
 use Rattle.word_layout.specs.declared.reply.Reply.TheVariants.{Nothing}
 use Rattle.pool_model.specs.declared.entry.Entry.{Entry}
 use Rattle.transfer_machine.specs.Machine.{action_of}
-use Rattle.pool_machine.specs.Pools.{view_met}
+use Rattle.pool_machine.specs.Pools.{view_met, pending_of}
+use Rattle.transfer_schedule.specs.Numbers.{is_taking}
+use Rattle.word_layout.specs.declared.announced.Wish.{Wish}
+use Rattle.word_layout.specs.declared.announced.Wish.TheVariants.{Take, Give}
 use Rattle.transfer_machine.specs.Tries.{is_take}
 use Rattle.transfer_machine.specs.Words.{name_of}
 use Rattle.pool_machine.specs.declared.call.CallStage.TheVariants.{Moving}
@@ -17,39 +20,18 @@ use Rattle.transfer_invariant.specs.Progress.{has_only_begun}
 use Rattle.batch_invariant.specs.Batches.{ProcessViews, MovedProcess}
 use Rattle.pool_machine.specs.Steps.{call_met_at}
 use Rattle.history_invariant.specs.Steps.{with_ledger}
-use Rattle.history_invariant.proofs.Fitting.{step_kept}
+use Rattle.history_invariant.proofs.Fitting.{step_kept, seen_within}
 use Rattle.history_invariant.proofs.GoingOn.{going_fits, going_sees}
 use Rattle.history_invariant.proofs.Replacing.{replaced_with}
 use Rattle.call_invariant.specs.Ledgers.{ledger_moved}
 use Rattle.call_invariant.proofs.Alone.{transfers_step}
 use Rattle.call_invariant.proofs.Carried.{transfer_steps_carry, enters_nothing}
 use Rattle.call_invariant.proofs.Standing.{shape_fits}
-use Rattle.call_invariant.proofs.Uses.{transfers_used, uses_transfers, calls_used, uses_calls}
+use Rattle.call_invariant.proofs.Uses.{transfers_used, uses_transfers, calls_used, uses_calls, uses_stay}
 use Rattle.interleaving_core.specs.Invariant.{Ghosts, Holds, Meets}
-use Rattle.interleaving_core.proofs.Joins.{in_step, given, scheduled, same_ledgers}
+use Rattle.interleaving_core.proofs.EmptyTakes.{ledger_alone, alone_book, alone_places, alone_fits, call_places_by, few_moved}
+use Rattle.interleaving_core.proofs.Joins.{in_step, given, scheduled, keeps}
 use Rattle.interleaving_core.proofs.InstallsHold.{transfer_step_holds}
-
--- the step of a transfer alone
-pub alone_step_holds : (sizes : Sizes) (words new : Words) (views after : ProcessViews) (history : List Entry) (ghosts : Ghosts) (i : ℕ)
-    → IsShape sizes → i < sizes.processes → Holds sizes words views history ghosts → (views i).calls.way ≡ Alone
-    → Acted sizes (action_of sizes (views i).transfer) words new
-    → MovedProcess i (view_met sizes (views i) (words (name_of (action_of sizes (views i).transfer)))) views after
-    → Meets sizes new after history
-alone_step_holds sizes words new views after history ghosts i shape li h alone acted moved =
-    let v = views i in
-    let word = words (name_of (action_of sizes v.transfer)) in
-    let x = view_met sizes v word in
-    let g = ghosts.ledgers i in
-    let used = transfers_used sizes i v g v.calls.way alone (h.pools i li) in
-    let step = transfers_step sizes i v word g used shape.a_process (given sizes words views history ghosts i li h) in
-    transfer_step_holds sizes words new views after history ghosts i x g shape li h acted moved (record {
-      parts = record { transfer = refl; pool = refl };
-      call = refl;
-      entries = rw (same_ledgers i ghosts.ledgers) h.entries;
-      same = refl;
-      found = λ e. refl;
-      uses = uses_transfers sizes i x g x.calls.way alone step;
-    })
 
 -- a take that is answered with nothing is known to have found nothing
 knows_at_end : (sizes : Sizes) (words : Words) (views : ProcessViews) (history : List Entry) (ghosts : Ghosts) (i : ℕ) → i < sizes.processes
@@ -63,6 +45,52 @@ knows_at_end sizes words views history ghosts i li h e take nothing =
 found_kept : (t a b : Bool) → t ≡ false → a ≡ (if t then false else b) → a ≡ b
 found_kept true a b e h = grind arith
 found_kept false a b e h = h
+
+-- the same, as the plan says that a take is pending
+taking_takes : (wish : Wish) → is_taking (pending_of wish) ≡ true → is_take wish ≡ true
+taking_takes Take e = refl
+taking_takes (Give head) e = grind arith
+
+found_at_end : (sizes : Sizes) (words : Words) (views : ProcessViews) (history : List Entry) (ghosts : Ghosts) (i : ℕ) → IsShape sizes
+    → i < sizes.processes → Holds sizes words views history ghosts
+    → (views i).transfer.next ≡ LoadReply → is_taking (views i).pool.plan.pending ≡ true
+    → reply_of (value_of (words (name_of (action_of sizes (views i).transfer)))) ≡ Nothing → (ghosts.ledgers i).found_nothing ≡ true
+found_at_end sizes words views history ghosts i shape li h e taking nothing =
+    let pending = (keeps sizes words views history ghosts i shape li h).runs.kept.pending (rw e refl) in
+    knows_at_end sizes words views history ghosts i li h e (taking_takes (views i).transfer.wish (rw pending at taking)) nothing
+
+-- the step of a transfer alone
+pub alone_step_holds : (sizes : Sizes) (words new : Words) (views after : ProcessViews) (history : List Entry) (ghosts : Ghosts) (i : ℕ)
+    → IsShape sizes → i < sizes.processes → Holds sizes words views history ghosts → (views i).calls.way ≡ Alone
+    → Acted sizes (action_of sizes (views i).transfer) words new
+    → MovedProcess i (view_met sizes (views i) (words (name_of (action_of sizes (views i).transfer)))) views after
+    → Meets sizes new after history
+alone_step_holds sizes words new views after history ghosts i shape li h alone acted moved =
+    let v = views i in
+    let word = words (name_of (action_of sizes v.transfer)) in
+    let x = view_met sizes v word in
+    let g = ghosts.ledgers i in
+    let taking = is_taking v.pool.plan.pending in
+    let next = ledger_alone v.transfer.next taking g in
+    let same = alone_book v.transfer.next taking g in
+    let places = alone_places v.transfer.next taking g in
+    let used = transfers_used sizes i v g v.calls.way alone (h.pools i li) in
+    let step = transfers_step sizes i v word g used shape.a_process (given sizes words views history ghosts i li h) in
+    let fits = h.entries.each i li in
+    transfer_step_holds sizes words new views after history ghosts i x next shape li h acted moved (record {
+      parts = record { transfer = refl; pool = refl };
+      call = refl;
+      entries =
+          step_kept (limits_of sizes) (transfer_bound sizes) sizes.quantum history ghosts.ledgers (with_ledger i next ghosts.ledgers) i next
+          li h.entries
+          (alone_fits (limits_of sizes) (transfer_bound sizes) sizes.quantum history i v.transfer.next taking g fits used.nothing.account
+          used.nothing.none (seen_within history i g fits.sees)) same.seen (replaced_with i next ghosts.ledgers);
+      same = same.entries;
+      found = places.found;
+      uses = uses_stay sizes i x g next x.calls.way same.account same.entries (uses_transfers sizes i x g x.calls.way alone step);
+      few = few_moved (limits_of sizes) history v.transfer.next word v.pool g next places
+          (found_at_end sizes words views history ghosts i shape li h) (h.few i li);
+    })
 
 -- the transfer step of a call
 pub call_step_holds : (sizes : Sizes) (words new : Words) (views after : ProcessViews) (history : List Entry) (ghosts : Ghosts) (i : ℕ)
@@ -92,4 +120,7 @@ call_step_holds sizes words new views after history ghosts i shape li h calls st
       same = entries;
       found = λ e. found_kept (has_only_begun v.transfer.next) next.found_nothing g.found_nothing e found;
       uses = uses_calls sizes i x next x.calls.way calls carries.calls;
+      few = few_moved (limits_of sizes) history v.transfer.next word v.pool g next
+          (call_places_by (is_taking v.pool.plan.pending) word v.calls.steps v.transfer.next g (ap (λ p. is_taking p.pending) used.plan))
+          (found_at_end sizes words views history ghosts i shape li h) (h.few i li);
     })

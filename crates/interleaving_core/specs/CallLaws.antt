@@ -7,9 +7,8 @@ use Rattle.word_layout.specs.declared.name.WordName.TheVariants.{Data}
 use Rattle.process_sums.specs.Sums.{total}
 use Rattle.pool_model.specs.declared.entry.Entry.{Entry}
 use Rattle.pool_model.specs.declared.entry.Entry.TheVariants.{Dry}
-use Rattle.pool_model.specs.History.{own, held, grip}
+use Rattle.pool_model.specs.History.{own, held, slack, grip}
 use Rattle.pool_model.specs.Legal.{IsLegal, HadFew}
-use Rattle.pool_model.specs.Limits.{slack}
 use Rattle.history_invariant.specs.Fits.{CountsEntries}
 use Rattle.history_invariant.specs.Grips.{times}
 use Rattle.transfer_schedule.specs.declared.pending.Pending.TheVariants.{Idle}
@@ -60,10 +59,10 @@ NoneIsHeldTwice = EveryRun (λ sizes history s. (block : ℕ) → times block (h
 abbrev pub HoldersHold : Type 0
 HoldersHold = EveryRun (λ sizes history s. (i block : ℕ) → (is_holder i (holder_of s block) ≡ true) ↔ Contains (grip (own history i)) block)
 
--- all blocks but the slack are held or in the shared stack
+-- all blocks but the present slack are held or in the shared stack
 abbrev pub FewAreWithheld : Type 0
 FewAreWithheld = EveryRun (λ sizes history s.
-    blocks sizes ≤ length (held history) + sizes.length * length (stack sizes s.words) + slack (limits_of sizes))
+    blocks sizes ≤ length (held history) + sizes.length * length (stack sizes s.words) + slack (limits_of sizes) history (length history))
 
 -- wherever a process stands, it keeps at most five batches of blocks
 abbrev pub EachKeepsFive : Type 0

@@ -22,6 +22,7 @@ use Rattle.chain_invariant.specs.Calls.{NamesHeld}
 use Rattle.call_invariant.specs.Uses.{UsesPool}
 use Rattle.history_invariant.specs.Ledger.{Ledger, Ledgers}
 use Rattle.history_invariant.specs.Holds.{HistoryHolds}
+use Rattle.interleaving_core.specs.EmptyTakes.{TakesHadFew}
 
 -- the values of the data words that a process knows, by block and index
 abbrev pub Known : Type 0
@@ -66,6 +67,7 @@ pub record Holds (sizes : Sizes) (words : Words) (views : ProcessViews) (history
   pub pools : (i : ℕ) → i < sizes.processes → UsesPool sizes i (views i) (ghosts.ledgers i)
   pub entries : HistoryHolds (limits_of sizes) (transfer_bound sizes) sizes.quantum history ghosts.ledgers
   pub empties : (i : ℕ) → i < sizes.processes → KnowsOfNothing (ghosts.states (state_tag words)) i (views i).transfer (ghosts.ledgers i)
+  pub few : (i : ℕ) → i < sizes.processes → TakesHadFew (limits_of sizes) history (ghosts.ledgers i) (views i).pool.plan
   pub names : (i : ℕ) → i < sizes.processes → NamesHeld sizes (held_in ghosts.ledgers i) (views i).calls.call
   pub data_words : (i : ℕ) → i < sizes.processes → DataHolds sizes words (held_in ghosts.ledgers i) (ghosts.known i)
 

@@ -3,9 +3,8 @@ use Rattle.std.specs.Prelude.{◌≡◌, ℕ, ◌+◌, ◌*◌, ◌<◌, ◌≤�
 use Rattle.word_layout.specs.Sizes.{Sizes, IsShape, blocks, limits_of}
 use Rattle.process_sums.specs.Sums.{total}
 use Rattle.pool_model.specs.declared.entry.Entry.{Entry}
-use Rattle.pool_model.specs.History.{held}
+use Rattle.pool_model.specs.History.{held, slack}
 use Rattle.pool_model.specs.Legal.{IsLegal}
-use Rattle.pool_model.specs.Limits.{slack}
 use Rattle.transfer_machine.specs.Words.{stack}
 use Rattle.batch_invariant.specs.Batches.{ProcessViews}
 use Rattle.interleaving_core.specs.Invariant.{MeetsInvariant}
@@ -23,10 +22,10 @@ WhereverMet Fact =
 abbrev pub HistoryIsLegal : Type 0
 HistoryIsLegal = WhereverMet (λ sizes words views history. IsLegal (limits_of sizes) history)
 
--- all blocks but the slack are held or in the shared stack
+-- all blocks but the present slack are held or in the shared stack
 abbrev pub FewAreWithheld : Type 0
 FewAreWithheld = WhereverMet (λ sizes words views history.
-    blocks sizes ≤ length (held history) + sizes.length * length (stack sizes words) + slack (limits_of sizes))
+    blocks sizes ≤ length (held history) + sizes.length * length (stack sizes words) + slack (limits_of sizes) history (length history))
 
 -- a process keeps at most five batches of blocks
 abbrev pub EachKeepsFive : Type 0

@@ -2,12 +2,14 @@ pub mod Steps
 pub mod Moves
 pub mod Runs
 pub mod Turned
+pub mod EmptyTakes
 pub mod Invariant
 pub mod Content
 pub mod TransferLaws
 pub mod Kept
 pub mod CallLaws
 pub mod InvariantLaws
+pub mod StateLaws
 pub mod MovingLaws
 pub mod LabelLaws
 pub mod DataWords

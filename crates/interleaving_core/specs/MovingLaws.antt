@@ -6,9 +6,9 @@ use Rattle.word_layout.specs.declared.announced.Wish.TheVariants.{Take, Give}
 use Rattle.pool_machine.specs.declared.call.Call.{Call}
 use Rattle.pool_machine.specs.declared.call.Call.TheVariants.{Allocate, Free, Read, Write}
 use Rattle.pool_machine.specs.declared.call.CallStage.TheVariants.{Between}
-use Rattle.pool_machine.specs.declared.call.Way.TheVariants.{Alone, Calls}
 use Rattle.transfer_machine.specs.declared.stage.NextStep.TheVariants.{Rest}
 use Rattle.pool_machine.specs.Beginning.{newest}
+use Rattle.pool_machine.specs.declared.call.Way.TheVariants.{Alone, Calls}
 use Rattle.pool_machine.specs.Laws.{most_moves}
 use Rattle.pool_machine.specs.declared.event.Happened.{Happened}
 use Rattle.pool_machine.specs.declared.event.Happened.TheVariants.{Step, Ended, Loaded, Stored, Ignored}
@@ -21,17 +21,19 @@ pub record StandsBetween (sizes : Sizes) (i : ℕ) (s : CoreState) : Type 0 wher
   pub low : i < sizes.processes
   pub between : (view_at s i).calls.stage ≡ Between
   pub way : (view_at s i).calls.way ≢ Alone
-  pub young : (view_at s i).transfer.age < most_age
 
--- there it begins an allocate
+-- there it begins an allocate while its age is below the limit
 abbrev pub AllocatesBegin : Type 0
-AllocatesBegin = EveryRun (λ sizes history s. (i : ℕ) → StandsBetween sizes i s → is_made (Events i Allocate) s ≡ true)
+AllocatesBegin = EveryRun (λ sizes history s. (i : ℕ) → StandsBetween sizes i s → (view_at s i).transfer.age < most_age
+    → is_made (Events i Allocate) s ≡ true)
 
--- and a free, a read and a write of each block that it holds
+-- and so a free of each block that it holds
 abbrev pub FreesBegin : Type 0
-FreesBegin = EveryRun (λ sizes history s. (i block : ℕ) → StandsBetween sizes i s → is_holder i (holder_of s block) ≡ true
+FreesBegin = EveryRun (λ sizes history s. (i block : ℕ) → StandsBetween sizes i s → (view_at s i).transfer.age < most_age
+    → is_holder i (holder_of s block) ≡ true
     → is_made (Events i (Free block)) s ≡ true)
 
+-- a read and a write of such a block it begins at any age
 abbrev pub ReadsBegin : Type 0
 ReadsBegin = EveryRun (λ sizes history s. (i block index : ℕ) → StandsBetween sizes i s → is_holder i (holder_of s block) ≡ true
     → index < sizes.words → is_made (Events i (Read block index)) s ≡ true)

@@ -4,5 +4,6 @@ pub mod calls;
 pub mod invariant;
 pub mod labels;
 pub mod moving;
+pub mod states;
 pub mod steps;
 pub mod transfers;

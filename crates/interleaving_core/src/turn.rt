@@ -7,6 +7,7 @@ ghost use Rattle.transfer_schedule.specs.declared.pending.Pending.TheVariants.{I
 ghost use Rattle.pool_machine.specs.declared.call.CallStage.TheVariants.{Between};
 ghost use Rattle.transfer_machine.specs.declared.stage.NextStep.TheVariants.{Rest};
 ghost use Rattle.pool_machine.specs.Pools.{opening_view, MayBegin};
+ghost use Rattle.pool_machine.specs.Conditions.{IsYoungFor};
 ghost use Rattle.pool_machine.specs.Ready.{CanBegin};
 ghost use Rattle.interleaving_core.specs.Invariant.{IsAmong, IsAmongHolding};
 ghost use Rattle.interleaving_core.specs.Moves.{moving_view, calling_view, may_go_alone, may_go, may_wish, is_holder, holds_for, holders_after};
@@ -173,7 +174,8 @@ fn call_view(
 
 /// Begins a call where the process is in none.
 fn begin_between(view: &mut ProcessView, call: Call)
-    requires { view.old.calls.stage ≡ Between → CanBegin view.old }
+    requires young { view.old.calls.stage ≡ Between → IsYoungFor call view.old }
+    requires can { CanBegin view.old }
     ensures { view.new ≡ calling_view call view.old }
 {
     if view.calls.stage == CallStage::Between {

@@ -1,5 +1,5 @@
 -- when a process may begin a call, or a transfer alone
-use Rattle.std.specs.Prelude.{◌≢◌, ◌<◌, Bool, IsTrue, true, false, ◌&&◌, nat_lt}
+use Rattle.std.specs.Prelude.{◌≡◌, ◌<◌, Bool, IsTrue, true, false, ◌&&◌, nat_lt}
 use Rattle.word_layout.specs.Sizes.{Sizes}
 use Rattle.word_layout.specs.Packing.{most_age}
 use Rattle.pool_machine.specs.declared.call.Call.{Call}
@@ -15,15 +15,34 @@ NamesFit sizes holds (Free block) = IsTrue holds
 NamesFit sizes holds (Read block index) = IsTrue holds × (index < sizes.words)
 NamesFit sizes holds (Write block index value) = IsTrue holds × (index < sizes.words)
 
--- a process may begin a call: it has begun no transfer alone, its age is below the limit, and what the call names fits
+-- a call that may begin a transfer, an allocate or a free, needs an age below the limit; a read and a write begin at any age
+abbrev pub IsYoungFor : Call → ProcessView → Type 0
+IsYoungFor Allocate v = v.transfer.age < most_age
+IsYoungFor (Free block) v = v.transfer.age < most_age
+IsYoungFor (Read block index) v = Unit {0}
+IsYoungFor (Write block index value) v = Unit {0}
+
+-- which ways of using the pool leave a process its calls: all but transfers alone
+abbrev pub may_use_calls : Way → Bool
+may_use_calls Fresh = true
+may_use_calls Alone = false
+may_use_calls Calls = true
+
+-- which leave it transfers alone: all but calls, since it could give its batches away, and then be refused with a full stack
+abbrev pub may_use_transfers : Way → Bool
+may_use_transfers Fresh = true
+may_use_transfers Alone = true
+may_use_transfers Calls = false
+
+-- a process may begin a call: its way leaves it calls, it is young enough, and what the call names fits
 pub record MayCall (sizes : Sizes) (holds : Bool) (call : Call) (v : ProcessView) : Type 0 where
-  pub way : v.calls.way ≢ Alone
-  pub age : v.transfer.age < most_age
+  pub way : may_use_calls v.calls.way ≡ true
+  pub young : IsYoungFor call v
   pub names : NamesFit sizes holds call
 
--- a process may begin a transfer alone where it has begun no call: it could give its batches away, and then be refused with a full stack
+-- a process may begin a transfer alone
 abbrev pub MayMove : ProcessView → Type 0
-MayMove v = v.calls.way ≢ Calls
+MayMove v = may_use_transfers v.calls.way ≡ true
 
 -- what a call names fits, as a test
 abbrev pub names_fit : Sizes → Bool → Call → Bool
@@ -32,21 +51,16 @@ names_fit sizes holds (Free block) = holds
 names_fit sizes holds (Read block index) = holds && nat_lt index sizes.words
 names_fit sizes holds (Write block index value) = holds && nat_lt index sizes.words
 
--- a process that has begun a transfer alone makes no calls
-abbrev pub may_use_calls : Way → Bool
-may_use_calls Fresh = true
-may_use_calls Alone = false
-may_use_calls Calls = true
+-- whether a process is young enough for a call, as a test
+abbrev pub is_young_for : Call → ProcessView → Bool
+is_young_for Allocate v = nat_lt v.transfer.age most_age
+is_young_for (Free block) v = nat_lt v.transfer.age most_age
+is_young_for (Read block index) v = true
+is_young_for (Write block index value) v = true
 
 -- a process may begin a call, as a test
 abbrev pub may_call : Sizes → Bool → Call → ProcessView → Bool
-may_call sizes holds call v = may_use_calls v.calls.way && (nat_lt v.transfer.age most_age && names_fit sizes holds call)
-
--- a process that has begun a call begins no transfer alone
-abbrev pub may_use_transfers : Way → Bool
-may_use_transfers Fresh = true
-may_use_transfers Alone = true
-may_use_transfers Calls = false
+may_call sizes holds call v = may_use_calls v.calls.way && (is_young_for call v && names_fit sizes holds call)
 
 -- a process may begin a transfer alone, as a test
 abbrev pub may_move : ProcessView → Bool

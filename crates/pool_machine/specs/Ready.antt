@@ -1,7 +1,6 @@
 -- the numbers that the next step of a call names are in their ranges
 use Rattle.std.specs.Prelude.{◌≡◌, ◌≢◌, ℕ, ◌^◌, ◌<◌, ◌≤◌, Option, None, Some, List, length}
 use Rattle.word_layout.specs.Sizes.{Sizes, blocks, most_blocks, transfer_bound}
-use Rattle.word_layout.specs.Packing.{most_age}
 use Rattle.word_layout.specs.Names.{table_words}
 use Rattle.transfer_schedule.specs.Numbers as schedule
 use Rattle.transfer_schedule.specs.declared.pending.Pending.TheVariants.{Idle}
@@ -28,10 +27,10 @@ pub record PlanFits (sizes : Sizes) (plan : schedule.Numbers) : Type 0 where
   pub bound : plan.bound ≡ transfer_bound sizes
   pub quantum : plan.quantum ≡ sizes.quantum
 
--- a transfer can begin with a call: none is begun where none is pending, each spare has its head, and the head that is given is a block
+-- the transfer that is due with a call can begin: none is begun where none is pending, each spare has its head, and the head that is
+-- given is a block
 pub record CanBegin (v : ProcessView) : Type 0 where
   pub rest : v.pool.plan.pending ≡ Idle → v.transfer.next ≡ Rest
-  pub age : v.transfer.age < most_age
   pub heads : length v.pool.heads ≡ v.pool.plan.spares
   pub fits : v.pool.plan.spares ≡ 3 → newest v.pool < most_blocks
 

@@ -5,6 +5,7 @@ ghost use Rattle.transfer_schedule.specs.declared.pending.Pending.TheVariants.{I
 ghost use Rattle.transfer_machine.specs.declared.stage.NextStep.TheVariants.{Rest};
 ghost use Rattle.pool_machine.specs.Pools.{MayBegin};
 ghost use Rattle.pool_machine.specs.Beginning.{newest, due, before_call, first_stage, entered, call_begun, alone_begun};
+ghost use Rattle.pool_machine.specs.Conditions.{IsYoungFor};
 ghost use Rattle.pool_machine.specs.Ready.{CanBegin};
 
 use crate::call::{Call, CallStage, CallView, Way};
@@ -35,7 +36,8 @@ fn due(pool: &PoolView) -> Option<Wish>
 
 /// Begins the transfer that is due as a call begins.
 pub fn before_call(view: &mut ProcessView)
-    requires { CanBegin view.old }
+    requires young { view.old.transfer.age < most_age }
+    requires can { CanBegin view.old }
     ensures { view.new ≡ before_call view.old }
 {
     if let Some(wish) = due(&view.pool) {
@@ -46,7 +48,8 @@ pub fn before_call(view: &mut ProcessView)
 /// Begins a call. An allocate or a free begins the transfer that is due; where one is pending then, also one
 /// that waited, the call first makes steps of it. A read or a write is at its own step at once.
 pub fn begin_call(view: &mut ProcessView, call: Call)
-    requires { CanBegin view.old }
+    requires young { IsYoungFor call view.old }
+    requires can { CanBegin view.old }
     ensures { view.new ≡ call_begun call view.old }
 {
     match call {

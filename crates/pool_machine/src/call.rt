@@ -1,5 +1,6 @@
 // The calls of a process.
 ghost use Rattle.std.specs.Prelude.{◌≡◌};
+ghost use Rattle.pool_machine.specs.Conditions.{may_use_calls, may_use_transfers};
 ghost use Rattle.pool_machine.specs.Pools.{opening_calls};
 
 /// What a process calls for.
@@ -24,6 +25,28 @@ pub enum Way {
     Alone,
     /// It has begun a call.
     Calls,
+}
+
+impl Way {
+    /// Whether a process that has used its pool so may begin a call.
+    pub fn may_use_calls(self) -> bool
+        ensures { result ≡ may_use_calls self }
+    {
+        match self {
+            Way::Fresh | Way::Calls => true,
+            Way::Alone => false,
+        }
+    }
+
+    /// Whether a process that has used its pool so may begin a transfer outside any call.
+    pub fn may_use_transfers(self) -> bool
+        ensures { result ≡ may_use_transfers self }
+    {
+        match self {
+            Way::Fresh | Way::Alone => true,
+            Way::Calls => false,
+        }
+    }
 }
 
 /// Where a process stands in its call.

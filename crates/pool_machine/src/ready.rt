@@ -13,15 +13,15 @@ use crate::step::call_action;
 use crate::view::{PoolView, ProcessView};
 use transfer_machine::NextStep;
 use transfer_schedule::{Pending, Source, Target};
-use word_layout::{Announced, Reply, Shape, Tagged};
+use word_layout::{Reply, Shape, Tagged};
 
-/// Whether a transfer can begin with a call.
+/// Whether the transfer that is due with a call can begin, as far as its numbers go. [`crate::may_call`] asks for
+/// the age.
 pub fn can_begin(view: &ProcessView) -> bool
     ensures { IsTrue result ↔ CanBegin view.now }
 {
     let spares = view.pool.plan.spares();
     (view.pool.plan.pending() != Pending::Idle || view.transfer.next == NextStep::Rest)
-        && view.transfer.age < Announced::MOST_AGE
         && view.pool.heads.len() == spares as usize
         && (spares != 3 || newest(&view.pool) < Shape::MOST_BLOCKS)
 }

@@ -55,7 +55,7 @@ met_answers : (sizes : Sizes) (v : TransferView) (word : ℕ) (s : StackState) (
     → (next ≡ LoadReply → value_of word ≡ s.reply i) → AnswerStays s i (met_at sizes v word next)
 met_answers sizes v word s i Rest e h reply = h
 met_answers sizes v word s i Announce e h reply = in_transfer s i (met_at sizes v word Announce) refl
-met_answers sizes v word s i (Try second step) e h reply = 
+met_answers sizes v word s i (Try second step) e h reply =
     in_transfer s i (met_at sizes v word (Try second step)) (try_announced sizes v word second step)
 met_answers sizes v word s i LoadFinalState e h reply = in_transfer s i (met_at sizes v word LoadFinalState) refl
 met_answers sizes v word s i LoadReply e h reply = λ none. ap reply_of (reply refl)

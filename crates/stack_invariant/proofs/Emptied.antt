@@ -1,5 +1,6 @@
 -- a take that is answered with nothing was applied to an empty content
-use Rattle.std.proofs.Common.{◌≡◌, ◌≢◌, ℕ, zero, suc, ◌+◌, ◌-◌, ◌<◌, ◌≤◌, ◌==◌, Bool, true, false, refl, sym, ap, ◌∙◌, subst, inl, inr, arith}
+use Rattle.std.proofs.Common.{◌≡◌, ◌≢◌, ℕ, zero, suc, ◌+◌, ◌-◌, ◌<◌, ◌≤◌, ◌==◌, Bool, true, false, refl, sym, ap, ◌∙◌, subst, inl, inr}
+use Rattle.std.proofs.Common.{arith}
 use Rattle.std.specs.Prelude.{if◌then◌else◌}
 use Rattle.std.proofs.lemmas.Bool.{cases_eq}
 use Rattle.std.proofs.lemmas.Bool.Decides.{nat_tests}
@@ -12,14 +13,17 @@ use Rattle.word_layout.proofs.Packed.{reply_of-reply_value}
 use Rattle.transfer_machine.specs.States.{StackState, put, with_transfer, with_wish, answer_to, next_of}
 use Rattle.transfer_machine.specs.Tries.{is_pending, is_take, is_odd_transfer, announced_wish}
 use Rattle.transfer_machine.proofs.NextStates.{put_here, put_away}
-use Rattle.transfer_invariant.specs.Memory.{Words, States, state_tag}
+use Rattle.transfer_invariant.specs.Memory.{Words, Views, States, state_tag}
 use Rattle.transfer_invariant.specs.OpeningState.{opening_state}
+use Rattle.transfer_invariant.specs.Progress.{has_announced}
 use Rattle.slot_invariant.proofs.Opened.{opening_slot_low}
 use Rattle.draft_invariant.specs.Heads.{WishIsBlock}
 use Rattle.draft_invariant.proofs.NextState.{either_reply, next_applied}
 use Rattle.draft_invariant.proofs.Wishes.{wish_of_block}
+use Rattle.stack_invariant.specs.Emptied.{MetNothing}
 use Rattle.stack_invariant.specs.Following.{Follows, StatesFollow}
 use Rattle.stack_invariant.specs.Laws.{StatesAreBlocks, EmptyTakesMetNothing}
+use Rattle.stack_invariant.specs.Stack.{StackHolds}
 use Rattle.stack_invariant.proofs.NextReplies.{reply_waits}
 
 -- a content of heads of blocks
@@ -34,7 +38,8 @@ given_block sizes head place s block h lt = elim (cases_eq place s.height) [
   | inr ne ↦ rw (put_away s.height head place s.content ne) (h place (omega arith))
 ]
 
-wished_blocks : (sizes : Sizes) (wish : Wish) (s : StackState) → WishIsBlock sizes wish → IsOfBlocks sizes s → IsOfBlocks sizes (with_wish wish s)
+wished_blocks : (sizes : Sizes) (wish : Wish) (s : StackState) → WishIsBlock sizes wish → IsOfBlocks sizes s
+    → IsOfBlocks sizes (with_wish wish s)
 wished_blocks sizes Take s block h place lt = h place (omega arith)
 wished_blocks sizes (Give head) s block h place lt = given_block sizes head place s block h lt
 
@@ -164,29 +169,40 @@ rises : (p : Bool) (before after age : ℕ) → after ≡ (if p then before + 1 
 rises true before after age e not now = (refl, sym e ∙ now)
 rises false before after age e not now = absurd (not (sym e ∙ now))
 
+raised : (sizes : Sizes) (s t : StackState) (i age : ℕ) (f : Follows sizes s t) → i < sizes.processes → s.applied i ≢ age
+    → t.applied i ≡ age
+    → (is_pending (f.announcements i) (s.reply i) ≡ true) × (s.applied i + 1 ≡ age)
+raised sizes s t i age f li not now =
+    rises (is_pending (f.announcements i) (s.reply i)) (s.applied i) (t.applied i) age
+    (f.next.applied i li ∙ next_applied sizes.processes f.announcements s i li) not now
+
+-- and where it answered with nothing, it met nothing
+met_empty : (sizes : Sizes) (s t : StackState) (i : ℕ) (f : Follows sizes s t) → IsShape sizes → i < sizes.processes → IsOfBlocks sizes s
+    → is_pending (f.announcements i) (s.reply i) ≡ true → reply_of (t.reply i) ≡ Nothing
+    → FindsEmpty (announced_wish (f.announcements i)) (next_of i f.announcements s)
+met_empty sizes s t i f shape li of_blocks pending says =
+    found_empty f.announcements s sizes.processes i li
+    (λ k le place lt. below (next_blocks sizes f.announcements s k f.heads of_blocks place lt) shape.few_blocks) pending
+    (ap reply_of (sym (f.next.reply i li)) ∙ says)
+  where
+    below : {a b : ℕ} → a < b → b ≤ most_blocks → a < most_blocks
+    below lt le = omega (arith, lt, le)
+
 none_applied : (sizes : Sizes) (states : States) (i age : ℕ) → states 1 ≡ opening_state sizes → 1 ≤ age → (states 1).applied i ≢ age
 unfolding opening_state
 none_applied sizes states i age opened some e = let zero_is : 0 ≡ age = rw opened at e in omega (arith, some, zero_is)
 
-pub empty_takes_met_nothing : EmptyTakesMetNothing
-empty_takes_met_nothing sizes words views states i shape li h announced applied says =
-    let v = views i in
-    let last = state_tag words in
-    let counted = (h.transfers.tags.order i li).counted announced in
-    let whole : last - 1 + 1 ≡ last = omega (arith, h.follow.some) in
-    let a = rw whole at (applying states (last - 1) i v.age (none_applied sizes states i v.age h.follow.opened counted) (rw whole applied)) in
-    let s = states a.before in
+met_nothing : (sizes : Sizes) (words : Words) (views : Views) (states : States) (i : ℕ) → IsShape sizes → i < sizes.processes
+    → StackHolds sizes words views states → has_announced (views i).next ≡ true
+    → Applying states (state_tag words) i (views i).age → reply_of ((states (state_tag words)).reply i) ≡ Nothing
+    → MetNothing sizes words states i (views i)
+met_nothing sizes words views states i shape li h announced a says =
     let follows = h.follow.each a.before a.some a.earlier in
-    let met = next_applied sizes.processes follows.announcements s i li in
-    let (pending, not_yet) = rises (is_pending (follows.announcements i) (s.reply i)) (s.applied i) _ v.age
-    (follows.next.applied i li ∙ met) a.not_yet a.now in
     let settled = (h.helping.settled i li).in_states announced (a.before + 1) (omega (arith, a.earlier)) a.now in
-    let told : reply_of ((next_of sizes.processes follows.announcements s).reply i) ≡ Nothing =
-    ap reply_of (sym (follows.next.reply i li) ∙ settled) ∙ says in
-    let now = states_are_blocks sizes words views states a.before in
-    let found = found_empty follows.announcements s sizes.processes i li
-    (λ k le place lt. below (next_blocks sizes follows.announcements s k follows.heads
-    (λ here low. now here shape h a.some (omega (arith, a.earlier)) low) place lt) shape.few_blocks) pending told in
+    let (pending, not_yet) = raised sizes (states a.before) (states (a.before + 1)) i (views i).age follows li a.not_yet a.now in
+    let found = met_empty sizes (states a.before) (states (a.before + 1)) i follows shape li
+    (λ place lt. states_are_blocks sizes words views states a.before place shape h a.some (omega (arith, a.earlier)) lt) pending
+    (ap reply_of settled ∙ says) in
     record {
       before = a.before;
       some = a.some;
@@ -198,6 +214,17 @@ empty_takes_met_nothing sizes words views states i shape li h announced applied 
       take = found.take;
       empty = found.empty;
     }
+
+pub empty_takes_met_nothing : EmptyTakesMetNothing
+empty_takes_met_nothing sizes words views states i shape li h announced applied says =
+    met_nothing sizes words views states i shape li h announced first says
   where
-    below : {a b : ℕ} → a < b → b ≤ most_blocks → a < most_blocks
-    below lt le = omega (arith, lt, le)
+    counted : 1 ≤ (views i).age
+    counted = (h.transfers.tags.order i li).counted announced
+
+    whole : state_tag words - 1 + 1 ≡ state_tag words
+    whole = omega (arith, h.follow.some)
+
+    first : Applying states (state_tag words) i (views i).age
+    first = rw whole at (applying states (state_tag words - 1) i (views i).age
+        (none_applied sizes states i (views i).age h.follow.opened counted) (rw whole applied))

@@ -96,7 +96,8 @@ pub record Hits (v : TransferView) (m : Words) (s : NextStep) : Type 0 where
   pub here : s ≡ Try second ExchangeState
   pub same : m State ≡ v.loaded.state
 
-hitting_in_try : (v : TransferView) (m : Words) (second : Bool) (step : TryStep) → Hits v m (Try second step) ⊎ HitsNot v m (Try second step)
+hitting_in_try : (v : TransferView) (m : Words) (second : Bool) (step : TryStep)
+    → Hits v m (Try second step) ⊎ HitsNot v m (Try second step)
 hitting_in_try v m second LoadState = inr (λ other e same. cc)
 hitting_in_try v m second (LoadRecordWord index) = inr (λ other e same. cc)
 hitting_in_try v m second (LoadCoveredSlot offset) = inr (λ other e same. cc)

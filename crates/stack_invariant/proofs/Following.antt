@@ -53,8 +53,8 @@ follow_grow sizes old new states next e follows h =
     newest : (m : ℕ) → m ≡ state_tag old
         → Follows sizes (with_state (state_tag old + 1) next states m) (with_state (state_tag old + 1) next states (m + 1))
     newest m is =
-        rw is (rw (with_state_below (state_tag old) next states (state_tag old) (omega arith), with_state_here (state_tag old + 1) next states)
-        follows)
+        let last = with_state_below (state_tag old) next states (state_tag old) (omega arith) in
+        rw is (rw (last, with_state_here (state_tag old + 1) next states) follows)
 
 -- a state that is installed follows
 pub installed_follows : (sizes : Sizes) (words : Words) (views : Views) (states : States) (i : ℕ) (second : Bool) → IsShape sizes

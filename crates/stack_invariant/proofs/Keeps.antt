@@ -70,7 +70,8 @@ steps_keep_stack sizes words new views after states i shape li h s acted moved =
       helping = steps_keep_helping sizes words new views after states i shape li t h.helping fits replies wish acted moved;
       drafts = steps_keep sizes words new views after states i shape li t h.drafts premises acted moved;
       follow = follow_kept sizes words new views states i shape li h acted;
-      loads = moved_each (LoadsFit sizes) sizes.processes views after i (met_of sizes (views i) (words (name_of (action_of sizes (views i)))))
+      loads =
+          moved_each (LoadsFit sizes) sizes.processes views after i (met_of sizes (views i) (words (name_of (action_of sizes (views i)))))
           h.loads moved (loads_met sizes words views states i shape li h s);
       answers = answers_kept sizes words new views after states i shape li h acted moved;
     }

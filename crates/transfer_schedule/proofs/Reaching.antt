@@ -3,14 +3,20 @@ use Rattle.std.proofs.Common.{◌≡◌, ◌≢◌, ℕ, ◌+◌, ◌-◌, ◌*�
 use Rattle.std.proofs.lemmas.Bool.{cases_eq}
 use Rattle.std.proofs.lemmas.Bool.Decides.{nat_tests}
 use Rattle.transfer_schedule.specs.declared.own_step.Source.TheVariants.{Nothing}
-use Rattle.transfer_schedule.specs.Numbers.{Numbers, AreSizes, is_idle, after_choice, after_steps, after_end, after_took_one, after_gave_one, source_of, stock}
+use Rattle.transfer_schedule.specs.Numbers.{Numbers, AreSizes, is_idle, is_giving, after_choice, after_steps, after_end, after_took_one}
+use Rattle.transfer_schedule.specs.Numbers.{after_gave_one, source_of, stock}
 use Rattle.transfer_schedule.specs.Table.{InTable}
-use Rattle.transfer_schedule.specs.Account.{CallPhase, Between, Moving, Own, Account, after_move, Follows, begins, continues, rests, moves, ends, gets, refuses, frees, Reached, opens, follows}
-use Rattle.transfer_schedule.specs.Laws.{HasSizes, RestsWithFour, WithholdsFive, IsSound, EndsInTime, CountsSteps, BeginsShort, RefusesSoon}
+use Rattle.transfer_schedule.specs.Account.{CallPhase, Between, Moving, Own, Account, after_move, Follows, begins, continues, rests}
+use Rattle.transfer_schedule.specs.Account.{moves, ends, gets, refuses, frees, Reached, opens, follows}
+use Rattle.transfer_schedule.specs.Laws.{HasSizes, RestsWithFour, WithholdsFive, IsSound, EndsInTime, GivesLeaveBatch, CountsSteps}
+use Rattle.transfer_schedule.specs.Laws.{BeginsShort, RefusesSoon}
 use Rattle.transfer_schedule.proofs.Products.{times_two, times_three, quantum_some}
-use Rattle.transfer_schedule.proofs.Operations.{no_steps, end_steps, choice_busy, choice_sizes, end_sizes, took_sizes, gave_sizes, took_nothing, busy_not_idle, not_idle_busy}
+use Rattle.transfer_schedule.proofs.Operations.{no_steps, end_steps, choice_busy, choice_sizes, end_sizes, took_sizes, gave_sizes}
+use Rattle.transfer_schedule.proofs.Operations.{took_nothing, busy_not_idle, not_idle_busy}
 use Rattle.transfer_schedule.proofs.Stock.{end_stock, took_stock, gave_stock}
-use Rattle.transfer_schedule.proofs.Standing.{Standing, Ready, opening_stands, choice_stands, choice_ready, steps_stand, steps_ready, end_ready, took_stands, gave_stands, young, young_ready, nothing_dry, standing_spares, ready_spares}
+use Rattle.transfer_schedule.proofs.Standing.{Standing, Ready, opening_stands, choice_stands, choice_ready, steps_stand, steps_ready}
+use Rattle.transfer_schedule.proofs.Standing.{end_ready, took_stands, gave_stands, young, young_ready, nothing_dry, standing_spares}
+use Rattle.transfer_schedule.proofs.Standing.{ready_spares}
 use Rattle.transfer_schedule.proofs.Spared.{Spared, spared_standing, spared_ready, spared_table, spared_rests, spared_withholds}
 
 -- the facts of an account whose call has made transfer steps
@@ -227,6 +233,15 @@ pub stands_in_time : (a : Account) → Stands a → EndsInTime a
 stands_in_time a s = by_phase EndsInTime a s
     (λ made t busy. omega (arith, young a.plan made a.entries a.begun a.ended t (not_idle_busy a.plan.pending busy)))
     (λ r busy. omega (arith, young_ready a.plan a.entries a.begun a.ended r (not_idle_busy a.plan.pending busy)))
+
+pub stands_gives : (a : Account) → Stands a → GivesLeaveBatch a
+stands_gives a s = by_phase GivesLeaveBatch a s
+    (λ made t giving. omega (
+      arith,
+      t.give_stock (ap is_giving giving),
+      young a.plan made a.entries a.begun a.ended t (ap is_idle giving),
+    ))
+    (λ r giving. omega (arith, r.give_stock (ap is_giving giving), young_ready a.plan a.entries a.begun a.ended r (ap is_idle giving)))
 
 pub stands_counts : (a : Account) → Stands a → CountsSteps a
 stands_counts a s = record {

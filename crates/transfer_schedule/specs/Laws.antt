@@ -32,6 +32,10 @@ pub record IsSound (a : Account) : Type 0 where
 abbrev pub EndsInTime : Account → Type 0
 EndsInTime a = a.plan.pending ≢ Idle → a.entries < a.begun + a.plan.length
 
+-- while a give is pending more than a batch is left besides
+abbrev pub GivesLeaveBatch : Account → Type 0
+GivesLeaveBatch a = a.plan.pending ≡ Giving → a.plan.length < stock a.plan
+
 -- in its transfer steps a call has a transfer pending, which has made a whole quantum in each call before
 pub record CountsSteps (a : Account) : Type 0 where
   pub pending : (made : ℕ) → a.phase ≡ Moving made → a.plan.pending ≢ Idle

@@ -7,7 +7,8 @@ ghost use Rattle.std.specs.Prelude.{ℕ};
 ghost use Rattle.transfer_schedule.specs.Numbers.{Numbers, AreSizes};
 ghost use Rattle.transfer_schedule.specs.Table.{InTable};
 ghost use Rattle.transfer_schedule.specs.Account.{Account, Reached, EveryReached};
-ghost use Rattle.transfer_schedule.specs.Laws.{HasSizes, RestsWithFour, WithholdsFive, IsSound, EndsInTime, CountsSteps, BeginsShort, RefusesSoon};
+ghost use Rattle.transfer_schedule.specs.Laws.{HasSizes, RestsWithFour, WithholdsFive, IsSound, EndsInTime, GivesLeaveBatch};
+ghost use Rattle.transfer_schedule.specs.Laws.{CountsSteps, BeginsShort, RefusesSoon};
 ghost use Rattle.transfer_schedule.specs.Alone.{EveryAlone};
 
 /// Of a process that makes calls: what it keeps at every moment, and why it is ever short of blocks.
@@ -17,6 +18,7 @@ pub fn of_accounts()
     ensures rests { EveryReached (λ a. RestsWithFour a.plan) }
     ensures withholds { EveryReached (λ a. WithholdsFive a.plan) }
     ensures ends { EveryReached EndsInTime }
+    ensures gives { EveryReached GivesLeaveBatch }
     ensures counts { EveryReached CountsSteps }
     ensures sound { EveryReached IsSound }
     ensures begins { EveryReached BeginsShort }

@@ -15,7 +15,7 @@ mod plan;
 #[cfg(test)]
 mod tests;
 
-pub use call::{PlannedAnswer, OwnStep, PlannedCall};
+pub use call::{OwnStep, PlannedAnswer, PlannedCall};
 pub use own_step::{Source, Target};
 pub use pending::Pending;
 pub use plan::Plan;

@@ -5,7 +5,7 @@ ghost use Rattle.transfer_schedule.specs.Beginning.{MayBegin, may_begin, few_spa
 ghost use Rattle.transfer_schedule.specs.Table.{InTable};
 ghost use Rattle.transfer_schedule.specs.Calls.{Fits, ready_for, after_call, own_answer, FitAll, after_calls, EndWithin, EndsEmpty, EachMoment, RefusesOnlyDry};
 
-use crate::call::{PlannedAnswer, OwnStep, PlannedCall};
+use crate::call::{OwnStep, PlannedAnswer, PlannedCall};
 use crate::own_step::{Source, Target};
 use crate::pending::Pending;
 use std::marker::Model;

@@ -1,7 +1,7 @@
 // Plans of the default shape, through a few hundred calls each.
 ghost use Rattle.std.specs.Prelude.{◌≡◌, ◌+◌, ◌*◌, ◌≤◌};
 
-use crate::{PlannedAnswer, OwnStep, Pending, Plan, PlannedCall, Source, Target};
+use crate::{OwnStep, Pending, Plan, PlannedAnswer, PlannedCall, Source, Target};
 use std::process::Abort;
 
 /// The most transfer steps of a call.

@@ -1,4 +1,5 @@
-use Rattle.transfer_schedule.proofs.Reaching.{reached_stands, reached_sizes, stands_table, stands_rests, stands_withholds, stands_in_time, stands_counts, stands_sound, stands_begins, stands_refuses}
+use Rattle.transfer_schedule.proofs.Reaching.{reached_stands, reached_sizes, stands_table, stands_rests, stands_withholds, stands_in_time}
+use Rattle.transfer_schedule.proofs.Reaching.{stands_gives, stands_counts, stands_sound, stands_begins, stands_refuses}
 use Rattle.transfer_schedule.proofs.laws.of_accounts.Goals as goal
 
 pub returns-clause-sizes : goal.returns-clause-sizes
@@ -15,6 +16,9 @@ returns-clause-withholds c = λ l t q a sizes r. stands_withholds a (reached_sta
 
 pub returns-clause-ends : goal.returns-clause-ends
 returns-clause-ends c = λ l t q a sizes r. stands_in_time a (reached_stands l t q a sizes r)
+
+pub returns-clause-gives : goal.returns-clause-gives
+returns-clause-gives c = λ l t q a sizes r. stands_gives a (reached_stands l t q a sizes r)
 
 pub returns-clause-counts : goal.returns-clause-counts
 returns-clause-counts c = λ l t q a sizes r. stands_counts a (reached_stands l t q a sizes r)

@@ -1,0 +1,14 @@
+pub mod Numbered
+pub mod Seen
+pub mod Data
+pub mod Due
+pub mod Entries
+pub mod Turns
+pub mod Stored
+pub mod Steps
+pub mod Places
+pub mod Ready
+pub mod Seating
+pub mod Joins
+pub mod Settled
+pub mod Opened
