@@ -55,7 +55,8 @@ filled_now refused blocks done entries pool slot block next same below mine hold
 }
 
 -- what a slot has after another, or it itself, was written
-after_set : (slots : List (Option ℕ)) (slot other : ℕ) (new found : Option ℕ) → slot < length slots → block_in (set slots slot new) other ≡ found
+after_set : (slots : List (Option ℕ)) (slot other : ℕ) (new found : Option ℕ) → slot < length slots
+    → block_in (set slots slot new) other ≡ found
     → ((other ≡ slot) × (new ≡ found)) ⊎ ((other ≢ slot) × (block_in slots other ≡ found))
 after_set slots slot other new found within e =
     ⊎_elim
@@ -170,8 +171,8 @@ holds_dry i refused blocks done entries pool slots slot names next holds =
     }
 
 -- once a slot is left, each slot without a block was refused or left
-left_empty : (refused : List Bool) (blocks : List ℕ) (done : List Step) (entries : List Entry) (pool : Plain) (slots : List (Option ℕ)) (slot : ℕ)
-    → slot < length slots → (is_refused refused slot ≡ true) ⊎ Contains (done ++ Leave slot ∷ []) (Leave slot)
+left_empty : (refused : List Bool) (blocks : List ℕ) (done : List Step) (entries : List Entry) (pool : Plain) (slots : List (Option ℕ))
+    (slot : ℕ) → slot < length slots → (is_refused refused slot ≡ true) ⊎ Contains (done ++ Leave slot ∷ []) (Leave slot)
     → HoldsBlocks refused blocks done entries pool slots
     → (other : ℕ) → other < length refused → block_in (set slots slot None) other ≡ None
     → (is_refused refused other ≡ true) ⊎ Contains (done ++ Leave slot ∷ []) (Leave other)
@@ -179,7 +180,8 @@ left_empty refused blocks done entries pool slots slot within own holds other lo
     ⊎_elim
     (λ (q : (other ≡ slot) × (None ≡ None)). rw q.0 own)
     (λ (q : (other ≢ slot) × (block_in slots other ≡ None)).
-    empty_on refused refused blocks blocks done (Leave slot) other (keeps_all refused blocks (length refused)) low (holds.empty other low q.1))
+    empty_on refused refused blocks blocks done (Leave slot) other (keeps_all refused blocks (length refused)) low
+    (holds.empty other low q.1))
     (after_set slots slot other None None within e)
 
 pub holds_back : (i : ℕ) (refused : List Bool) (blocks : List ℕ) (done : List Step) (entries : List Entry) (pool new : Plain) (slots : List (Option ℕ)) (slot block : ℕ)
