@@ -7,7 +7,6 @@ use Rattle.word_layout.specs.Packing.{FitsWish}
 use Rattle.word_layout.specs.declared.announced.Wish.{Wish}
 use Rattle.transfer_schedule.specs.declared.pending.Pending.TheVariants.{Idle}
 use Rattle.transfer_machine.specs.declared.stage.NextStep.TheVariants.{Rest}
-use Rattle.pool_machine.specs.Conditions.{may_call}
 use Rattle.pool_machine.specs.Pools.{MayBegin}
 use Rattle.pool_machine.specs.Beginning.{call_begun}
 use Rattle.pool_machine.specs.Ready.{CanBegin, CanActCall}
@@ -29,14 +28,13 @@ use Rattle.pool_table.specs.Steps.{Among, CanStep}
 use Rattle.pool_table.proofs.Steps.{next_step_allowed}
 use Rattle.pool_table.proofs.Turns.{seat_of}
 
--- a process between two calls can begin one
-pub seat_can_begin : (v : SeatView) (call : Call) → Among v → v.of_process ≡ true → v.mind.view.calls.stage ≡ Between
-    → may_call v.sizes true call v.mind.view ≡ true → CanBegin v.mind.view
-seat_can_begin v call among e =
+-- the transfer that is due with a call can begin
+pub seat_can_begin : (v : SeatView) → Among v → v.of_process ≡ true → CanBegin v.mind.view
+seat_can_begin v among e =
     let s = seat_of among.words among.views among.number v among.held among.seated e in
-    let can = call_can_begin v.sizes (word_at v.sizes among.words) (views_of among.held.minds) among.held.history (number_of v.mind) call true
+    let can = call_can_begin v.sizes (word_at v.sizes among.words) (views_of among.held.minds) among.held.history (number_of v.mind)
     s.holds.shape s.low s.holds.meets in
-    subst (λ (mind : Mind). mind.view.calls.stage ≡ Between → may_call v.sizes true call mind.view ≡ true → CanBegin mind.view) s.here can
+    subst (λ (mind : Mind). CanBegin mind.view) s.here can
 
 -- a process at rest has nothing pending
 pub seat_is_idle : (v : SeatView) → Among v → v.of_process ≡ true → v.mind.view.transfer.next ≡ Rest
