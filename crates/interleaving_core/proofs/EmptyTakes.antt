@@ -281,8 +281,8 @@ none_before : (history : List Entry) (i place : ℕ) (ledger : Ledger) → SeesB
     → length (own (take place history) i) ≡ 0
 none_before history i place ledger sees none =
     let later = place + length ledger.seen in
-    let all = own_of_longer history i later ledger sees (omega arith) in
-    omega (arith, own_rises i place later history (omega arith), ap length (all ∙ none))
+    let all = own_of_longer history ledger.seen i later (sees.own_seen ∙ sym sees.own_entries) sees.beginning (omega arith) in
+    omega (arith, own_rises i place later history (omega arith), ap length (all ∙ sees.own_entries ∙ none))
 
 -- so it fits the history with any places
 pub alone_fits : (limits : Limits) (bound quantum : ℕ) (history : List Entry) (i : ℕ) (next : NextStep) (taking : Bool) (ledger : Ledger)
