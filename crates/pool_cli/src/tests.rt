@@ -4,6 +4,7 @@ use crate::run;
 use pool_io::{MemoryFiles, MemorySink, OpenGate};
 use pool_model::NoMemory;
 use std::alloc::{AllocError, Global};
+use std::str;
 use std::test::Fail;
 use std::thread::Threads;
 
@@ -27,18 +28,38 @@ const COLUMNS: [&str; 10] = [
     "news", "frees", "big", "failed", "stray", "twice", "refused", "peak", "left", "cut",
 ];
 
-// What a run answered and wrote.
+// What a run answered, and its sinks after it.
 #[derive(Debug, Drop)]
 struct Outcome {
     status: u8,
-    out: String,
-    err: String,
+    out: MemorySink,
+    err: MemorySink,
 }
 
 impl Outcome {
+    // The status, and what the output and the error sink took.
     fn parts(&self) -> (u8, &str, &str) {
-        (self.status, self.out.as_str(), self.err.as_str())
+        (self.status, text_of(&self.out), text_of(&self.err))
     }
+}
+
+// What a sink took.
+fn text_of(sink: &MemorySink) -> &str {
+    str::from_utf8(sink.bytes.as_slice()).unwrap_or("no text")
+}
+
+// A file with this name and these bytes.
+fn file_of(alloc: Global, name: &str, bytes: &[u8]) -> Result<(String, Vec<u8>), AllocError> {
+    Ok((String::from_str(alloc, name)?, bytes.to_vec(alloc)?))
+}
+
+// Files with these names and bytes.
+fn owned(alloc: Global, files: &[(&str, &[u8])]) -> Result<Vec<(String, Vec<u8>)>, AllocError> {
+    let mut owned = Vec::new(alloc);
+    for (name, bytes) in files {
+        owned.push(file_of(alloc, name, bytes)?)?;
+    }
+    Ok(owned)
 }
 
 // Files of which one call fails.
@@ -50,11 +71,8 @@ fn failing_files(
 ) -> Result<MemoryFiles, AllocError>
     ensures { IfOk result (λ files. files.opens ≡ 0) }
 {
-    let mut owned = Vec::new(alloc);
-    for (name, bytes) in files {
-        owned.push((String::from_str(alloc, name)?, bytes.to_vec(alloc)?))?;
-    }
-    Ok(MemoryFiles::new(owned, vec![in alloc; failing]?, most))
+    let failing = vec![in alloc; failing]?;
+    Ok(MemoryFiles::new(owned(alloc, files)?, failing, most))
 }
 
 // Files of which none fails and each is read at once.
@@ -106,8 +124,8 @@ fn run_with<R: Threads + Sync>(
     );
     Ok(Outcome {
         status: ended.status,
-        out: String::from_utf8(out.bytes)?,
-        err: String::from_utf8(err.bytes)?,
+        out,
+        err,
     })
 }
 
@@ -157,324 +175,361 @@ fn trace_of(alloc: Global, allocations: u64, lines: &[u8]) -> Result<Vec<u8>, Al
     Ok(trace)
 }
 
+// The answer of a run on these words with files of which none fails, and how many were opened.
+fn answer<R: Threads + Sync>(
+    rt: &R,
+    alloc: Global,
+    line: &str,
+    files: &[(&str, &[u8])],
+) -> Result<(Outcome, u64), Fail> {
+    let mut files = files_of(alloc, files)?;
+    let outcome = run_line(rt, alloc, line, &mut files)?;
+    Ok((outcome, files.opens))
+}
+
 #[test]
 fn first_report(rt: HostRuntime) -> Result<(), Fail> {
-    let mut files = files_of(rt.alloc(), &[("f", FIRST_TRACE)])?;
-    let outcome = run_line(&rt, rt.alloc(), "pooltrace play f", &mut files)?;
+    let (outcome, _) = answer(&rt, rt.alloc(), "pooltrace play f", &[("f", FIRST_TRACE)])?;
     assert_eq!(rt; outcome.parts(), (0, FIRST_REPORT, ""));
     Ok(())
 }
 
+// A run on a file of so many allocations and of these lines, and the numbers of its line in the report.
+struct Reported {
+    name: &'static str,
+    line: &'static str,
+    allocations: u64,
+    lines: &'static [u8],
+    numbers: &'static str,
+}
+
+static REPORTED: [Reported; 13] = [
+    Reported {
+        name: "empty file",
+        line: "pooltrace play f",
+        allocations: 0,
+        lines: b"",
+        numbers: ZEROS,
+    },
+    Reported {
+        name: "last piece that is skipped",
+        line: "pooltrace play f",
+        allocations: 1,
+        lines: b"= En",
+        numbers: "1 0 0 0 0 0 0 1 1 0",
+    },
+    Reported {
+        name: "last piece that is cut",
+        line: "pooltrace play f",
+        allocations: 1,
+        lines: b"En",
+        numbers: "1 0 0 0 0 0 0 1 1 1",
+    },
+    Reported {
+        name: "killed program",
+        line: "pooltrace play f",
+        allocations: 0,
+        lines: b"= Start\n@ a.out:[0x401136] + 0x10 0x8\n@ a.out:[0x40",
+        numbers: "1 0 0 0 0 0 0 1 1 1",
+    },
+    Reported {
+        name: "resize",
+        line: "pooltrace play f",
+        allocations: 0,
+        lines: RESIZE,
+        numbers: "2 1 0 0 0 0 0 1 1 0",
+    },
+    Reported {
+        name: "failures",
+        line: "pooltrace play f",
+        allocations: 0,
+        lines: b"+ (nil) 0x40\n! 0x10 0x80\n",
+        numbers: "0 0 0 2 0 0 0 0 0 0",
+    },
+    Reported {
+        name: "boundary of the size",
+        line: "pooltrace play f",
+        allocations: 0,
+        lines: b"+ 0x10 0\n+ 0x20 0x40\n+ 0x30 0x41\n- 0x30\n",
+        numbers: "2 0 1 0 0 0 0 2 2 0",
+    },
+    Reported {
+        name: "stray and twice",
+        line: "pooltrace play f",
+        allocations: 0,
+        lines: b"- 0x99\n+ 0x10 0x8\n+ 0x10 0x8\n",
+        numbers: "1 0 0 0 1 1 0 1 1 0",
+    },
+    Reported {
+        name: "a caller's text of signs",
+        line: "pooltrace play f",
+        allocations: 0,
+        lines: b"@ + - 0x10\n+ 0x10 0x8\n",
+        numbers: "1 0 0 0 1 0 0 1 1 0",
+    },
+    Reported {
+        name: "a caller's text that is no UTF-8",
+        line: "pooltrace play f",
+        allocations: 0,
+        lines: b"@\xff + 0x10 0x8\n",
+        numbers: "1 0 0 0 0 0 0 1 1 0",
+    },
+    Reported {
+        name: "one refused of forty-one",
+        line: "pooltrace play --batches 10 f",
+        allocations: 41,
+        lines: b"",
+        numbers: "41 0 0 0 0 0 1 40 40 0",
+    },
+    Reported {
+        name: "refused and released",
+        line: "pooltrace play --batches 2 f",
+        allocations: 9,
+        lines: b"- 0x90\n- 0x10\n+ 0xa0 0x8\n",
+        numbers: "10 1 0 0 0 0 1 8 8 0",
+    },
+    Reported {
+        name: "one refused of sixty-three",
+        line: "pooltrace play --batches 2 --quantum 1 f",
+        allocations: 63,
+        lines: b"",
+        numbers: "63 0 0 0 0 0 1 62 62 0",
+    },
+];
+
 #[test]
 fn reports_of_one_file(rt: HostRuntime) -> Result<(), Fail> {
     let alloc = rt.alloc();
-    let cases: [(&str, &str, u64, &[u8], &str); 13] = [
-        ("empty file", "pooltrace play f", 0, b"", ZEROS),
-        (
-            "last piece that is skipped",
-            "pooltrace play f",
-            1,
-            b"= En",
-            "1 0 0 0 0 0 0 1 1 0",
-        ),
-        (
-            "last piece that is cut",
-            "pooltrace play f",
-            1,
-            b"En",
-            "1 0 0 0 0 0 0 1 1 1",
-        ),
-        (
-            "killed program",
-            "pooltrace play f",
-            0,
-            b"= Start\n@ a.out:[0x401136] + 0x10 0x8\n@ a.out:[0x40",
-            "1 0 0 0 0 0 0 1 1 1",
-        ),
-        (
-            "resize",
-            "pooltrace play f",
-            0,
-            RESIZE,
-            "2 1 0 0 0 0 0 1 1 0",
-        ),
-        (
-            "failures",
-            "pooltrace play f",
-            0,
-            b"+ (nil) 0x40\n! 0x10 0x80\n",
-            "0 0 0 2 0 0 0 0 0 0",
-        ),
-        (
-            "boundary of the size",
-            "pooltrace play f",
-            0,
-            b"+ 0x10 0\n+ 0x20 0x40\n+ 0x30 0x41\n- 0x30\n",
-            "2 0 1 0 0 0 0 2 2 0",
-        ),
-        (
-            "stray and twice",
-            "pooltrace play f",
-            0,
-            b"- 0x99\n+ 0x10 0x8\n+ 0x10 0x8\n",
-            "1 0 0 0 1 1 0 1 1 0",
-        ),
-        (
-            "a caller's text of signs",
-            "pooltrace play f",
-            0,
-            b"@ + - 0x10\n+ 0x10 0x8\n",
-            "1 0 0 0 1 0 0 1 1 0",
-        ),
-        (
-            "a caller's text that is no UTF-8",
-            "pooltrace play f",
-            0,
-            b"@\xff + 0x10 0x8\n",
-            "1 0 0 0 0 0 0 1 1 0",
-        ),
-        (
-            "one refused of forty-one",
-            "pooltrace play --batches 10 f",
-            41,
-            b"",
-            "41 0 0 0 0 0 1 40 40 0",
-        ),
-        (
-            "refused and released",
-            "pooltrace play --batches 2 f",
-            9,
-            b"- 0x90\n- 0x10\n+ 0xa0 0x8\n",
-            "10 1 0 0 0 0 1 8 8 0",
-        ),
-        (
-            "one refused of sixty-three",
-            "pooltrace play --batches 2 --quantum 1 f",
-            63,
-            b"",
-            "63 0 0 0 0 0 1 62 62 0",
-        ),
-    ];
-    for (name, line, allocations, lines, numbers) in &cases {
-        let trace = trace_of(alloc, *allocations, lines)?;
-        let mut files = files_of(alloc, &[("f", trace.as_slice())])?;
-        let outcome = run_line(&rt, alloc, line, &mut files)?;
-        let text = report(alloc, &[numbers], numbers)?;
-        assert_eq!(rt; outcome.parts(), (0, text.as_str(), ""), "{name}");
+    for case in REPORTED.iter() {
+        let trace = trace_of(alloc, case.allocations, case.lines)?;
+        let (outcome, _) = answer(&rt, rt.alloc(), case.line, &[("f", trace.as_slice())])?;
+        let text = report(alloc, &[case.numbers], case.numbers)?;
+        assert_eq!(rt; outcome.parts(), (0, text.as_str(), ""), "{}", case.name);
     }
     Ok(())
 }
 
 #[test]
 fn report_of_two_files(rt: HostRuntime) -> Result<(), Fail> {
-    let alloc = rt.alloc();
     let text = report(
-        alloc,
+        rt.alloc(),
         &["2 1 0 0 0 0 0 1 1 0", "2 1 0 0 0 0 0 1 1 0"],
         "4 2 0 0 0 0 0 2 2 0",
     )?;
     for line in ["pooltrace play f g", "pooltrace play f f"] {
-        let mut files = files_of(alloc, &[("f", RESIZE), ("g", RESIZE)])?;
-        let outcome = run_line(&rt, alloc, line, &mut files)?;
+        let (outcome, opens) = answer(&rt, rt.alloc(), line, &[("f", RESIZE), ("g", RESIZE)])?;
         assert_eq!(rt; outcome.parts(), (0, text.as_str(), ""), "{line}");
-        assert_eq!(rt; files.opens, 2, "{line}");
+        assert_eq!(rt; opens, 2, "{line}");
     }
     Ok(())
 }
+
+// Words, and how many writes the output and the error sink then get.
+static WRITES: [(&str, u64, u64); 4] = [
+    ("pooltrace play f", 2, 0),
+    ("pooltrace play f f f", 4, 0),
+    ("pooltrace play g", 0, 1),
+    ("pooltrace", 0, 1),
+];
 
 #[test]
 fn each_line_is_one_write(rt: HostRuntime) -> Result<(), Fail> {
-    let alloc = rt.alloc();
-    for (line, outs, errs) in [
-        ("pooltrace play f", 2, 0),
-        ("pooltrace play f f f", 4, 0),
-        ("pooltrace play g", 0, 1),
-        ("pooltrace", 0, 1),
-    ] {
-        let words = words_of(alloc, line)?;
-        let mut files = files_of(alloc, &[("f", FIRST_TRACE), ("g", b"bad\n")])?;
-        let mut out = failing_sink(alloc, AMPLE, AMPLE, NEVER)?;
-        let mut err = failing_sink(alloc, AMPLE, AMPLE, NEVER)?;
-        run(
+    for (line, outs, errs) in WRITES.iter() {
+        let (outcome, _) = answer(
             &rt,
-            alloc,
-            words.as_slice(),
-            &mut files,
-            &mut out,
-            &mut err,
-            &OpenGate,
+            rt.alloc(),
+            line,
+            &[("f", FIRST_TRACE), ("g", b"bad\n")],
+        )?;
+        assert_eq!(rt;
+            (outcome.out.calls, outcome.err.calls),
+            (*outs, *errs),
+            "{line}"
         );
-        assert_eq!(rt; (out.calls, err.calls), (outs, errs), "{line}");
     }
     Ok(())
 }
+
+// Words that open no file, the status, and the line on the error sink.
+static REFUSED: [(&str, u8, &str); 10] = [
+    ("pooltrace", 2, "pooltrace: words\n"),
+    ("pooltrace plays f", 2, "pooltrace: words\n"),
+    ("pooltrace play", 2, "pooltrace: words\n"),
+    ("pooltrace play --batches x f", 2, "pooltrace: words\n"),
+    (
+        "pooltrace play --size 1 --size 2 f",
+        2,
+        "pooltrace: words\n",
+    ),
+    (
+        "pooltrace play f f f f f f f f f f f f f f f f f f f f f f f f f f f f f f f f f",
+        3,
+        "pooltrace: shape 2\n",
+    ),
+    ("pooltrace play --batches 0 f", 3, "pooltrace: shape 3\n"),
+    ("pooltrace play --batches 1 f", 3, "pooltrace: shape 3\n"),
+    (
+        "pooltrace play --quantum 3 --batches 1 f",
+        3,
+        "pooltrace: shape 3\n",
+    ),
+    ("pooltrace play --quantum 3 f", 3, "pooltrace: shape 6\n"),
+];
 
 #[test]
 fn faulty_words_and_refused_shapes_open_no_file(rt: HostRuntime) -> Result<(), Fail> {
-    let alloc = rt.alloc();
-    let mut many = String::from_str(alloc, "pooltrace play")?;
-    for _ in 0..33 {
-        many.push_str(" f")?;
-    }
-    for (line, status, err) in [
-        ("pooltrace", 2, "pooltrace: words\n"),
-        ("pooltrace plays f", 2, "pooltrace: words\n"),
-        ("pooltrace play", 2, "pooltrace: words\n"),
-        ("pooltrace play --batches x f", 2, "pooltrace: words\n"),
-        (
-            "pooltrace play --size 1 --size 2 f",
-            2,
-            "pooltrace: words\n",
-        ),
-        (many.as_str(), 3, "pooltrace: shape 2\n"),
-        ("pooltrace play --batches 0 f", 3, "pooltrace: shape 3\n"),
-        ("pooltrace play --batches 1 f", 3, "pooltrace: shape 3\n"),
-        (
-            "pooltrace play --quantum 3 --batches 1 f",
-            3,
-            "pooltrace: shape 3\n",
-        ),
-        ("pooltrace play --quantum 3 f", 3, "pooltrace: shape 6\n"),
-    ] {
-        let mut files = files_of(alloc, &[("f", FIRST_TRACE)])?;
-        let outcome = run_line(&rt, alloc, line, &mut files)?;
-        assert_eq!(rt; outcome.parts(), (status, "", err), "{line}");
-        assert_eq!(rt; files.opens, 0, "{line}");
+    for (line, status, err) in REFUSED.iter() {
+        let (outcome, opens) = answer(&rt, rt.alloc(), line, &[("f", FIRST_TRACE)])?;
+        assert_eq!(rt; outcome.parts(), (*status, "", *err), "{line}");
+        assert_eq!(rt; opens, 0, "{line}");
     }
     Ok(())
 }
 
+// Traces, and the number of their first bad line.
+static BAD_LINES: [(&[u8], u64); 8] = [
+    (b"= Start\n+ 0x 0x8\n", 2),
+    (b"a + 0x10 0x8\n", 1),
+    (b"+ 0X10 0x8\n", 1),
+    (b"+ 0x10 8\n", 1),
+    (b"+ 0x11111111111111111 0x8\n", 1),
+    (b"@ - 0x10 0x8\n", 1),
+    (b"\xff\n", 1),
+    (b"+ 0x10 0x8\r\n", 1),
+];
+
 #[test]
 fn bad_lines(rt: HostRuntime) -> Result<(), Fail> {
-    let alloc = rt.alloc();
-    let cases: [(&[u8], u64); 8] = [
-        (b"= Start\n+ 0x 0x8\n", 2),
-        (b"a + 0x10 0x8\n", 1),
-        (b"+ 0X10 0x8\n", 1),
-        (b"+ 0x10 8\n", 1),
-        (b"+ 0x11111111111111111 0x8\n", 1),
-        (b"@ - 0x10 0x8\n", 1),
-        (b"\xff\n", 1),
-        (b"+ 0x10 0x8\r\n", 1),
-    ];
-    for (trace, line) in &cases {
-        let mut files = files_of(alloc, &[("f", trace)])?;
-        let outcome = run_line(&rt, alloc, "pooltrace play f", &mut files)?;
-        let err = format!(in alloc; "pooltrace: file 1 line {line}\n")?;
+    for (trace, line) in BAD_LINES.iter() {
+        let (outcome, _) = answer(&rt, rt.alloc(), "pooltrace play f", &[("f", trace)])?;
+        let err = format!(in rt.alloc(); "pooltrace: file 1 line {line}\n")?;
         assert_eq!(rt; outcome.parts(), (6, "", err.as_str()), "{trace:?}");
     }
     Ok(())
+}
+
+// Words, the call of the files that fails, the status, the line on the error sink, and how many calls there were.
+static FAILING_CALLS: [(&str, u64, u8, &str, u64); 12] = [
+    ("pooltrace play e", 0, 4, "pooltrace: file 1 read\n", 1),
+    ("pooltrace play e", 1, 4, "pooltrace: file 1 read\n", 2),
+    ("pooltrace play e", 2, 4, "pooltrace: file 1 read\n", 3),
+    ("pooltrace play e", 3, 4, "pooltrace: file 1 read\n", 4),
+    ("pooltrace play e", 4, 4, "pooltrace: file 1 read\n", 5),
+    ("pooltrace play e", 5, 4, "pooltrace: file 1 read\n", 6),
+    ("pooltrace play e", 6, 4, "pooltrace: file 1 read\n", 7),
+    ("pooltrace play e", 7, 4, "pooltrace: file 1 read\n", 8),
+    ("pooltrace play e", 8, 0, "", 8),
+    ("pooltrace play e e2", 8, 4, "pooltrace: file 2 read\n", 9),
+    ("pooltrace play f", 3, 4, "pooltrace: file 1 read\n", 4),
+    (
+        "pooltrace play unknown",
+        NEVER,
+        4,
+        "pooltrace: file 1 read\n",
+        1,
+    ),
+];
+
+// The answer of a run on files of which each read gives one byte and this call fails, and how many calls there were.
+fn answer_failing<R: Threads + Sync>(
+    rt: &R,
+    alloc: Global,
+    line: &str,
+    failing: u64,
+) -> Result<(Outcome, u64), Fail> {
+    let named = [("e", EMPTY_TRACE), ("e2", EMPTY_TRACE), ("f", FIRST_TRACE)];
+    let mut files = failing_files(alloc, &named, 1, failing)?;
+    let outcome = run_line(rt, alloc, line, &mut files)?;
+    Ok((outcome, files.calls))
 }
 
 #[test]
 fn one_failing_call_of_the_files(rt: HostRuntime) -> Result<(), Fail> {
     let alloc = rt.alloc();
     let zeros = report(alloc, &[ZEROS], ZEROS)?;
-    let zeros = zeros.as_str();
-    for (line, failing, status, out, err, calls) in [
-        ("pooltrace play e", 0, 4, "", "pooltrace: file 1 read\n", 1),
-        ("pooltrace play e", 1, 4, "", "pooltrace: file 1 read\n", 2),
-        ("pooltrace play e", 2, 4, "", "pooltrace: file 1 read\n", 3),
-        ("pooltrace play e", 3, 4, "", "pooltrace: file 1 read\n", 4),
-        ("pooltrace play e", 4, 4, "", "pooltrace: file 1 read\n", 5),
-        ("pooltrace play e", 5, 4, "", "pooltrace: file 1 read\n", 6),
-        ("pooltrace play e", 6, 4, "", "pooltrace: file 1 read\n", 7),
-        ("pooltrace play e", 7, 4, "", "pooltrace: file 1 read\n", 8),
-        ("pooltrace play e", 8, 0, zeros, "", 8),
-        (
-            "pooltrace play e e2",
-            8,
-            4,
-            "",
-            "pooltrace: file 2 read\n",
-            9,
-        ),
-        ("pooltrace play f", 3, 4, "", "pooltrace: file 1 read\n", 4),
-        (
-            "pooltrace play unknown",
-            NEVER,
-            4,
-            "",
-            "pooltrace: file 1 read\n",
-            1,
-        ),
-    ] {
-        let named = [("e", EMPTY_TRACE), ("e2", EMPTY_TRACE), ("f", FIRST_TRACE)];
-        let mut files = failing_files(alloc, &named, 1, failing)?;
-        let outcome = run_line(&rt, alloc, line, &mut files)?;
-        assert_eq!(rt; outcome.parts(), (status, out, err), "{line}: {failing}");
-        assert_eq!(rt; files.calls, calls, "{line}: {failing}");
+    for (line, failing, status, err, calls) in FAILING_CALLS.iter() {
+        let (outcome, made) = answer_failing(&rt, alloc, line, *failing)?;
+        let out = if *status == 0 { zeros.as_str() } else { "" };
+        assert_eq!(rt; outcome.parts(), (*status, out, *err), "{line}: {failing}");
+        assert_eq!(rt; made, *calls, "{line}: {failing}");
     }
     Ok(())
 }
 
+// How a sink takes bytes: its room, how many a write takes at most, and which write fails; and what it then has.
+type Writing = (usize, usize, u64, &'static str);
+
+static FAILING_WRITES: [Writing; 3] = [
+    (AMPLE, AMPLE, 0, ""),
+    (AMPLE, 1, 5, "1: ne"),
+    (0, 1, NEVER, ""),
+];
+
 #[test]
 fn one_failing_write(rt: HostRuntime) -> Result<(), Fail> {
     let alloc = rt.alloc();
-    for (room, most, failing, out) in [
-        (AMPLE, AMPLE, 0, ""),
-        (AMPLE, 1, 5, "1: ne"),
-        (0, 1, NEVER, ""),
-    ] {
+    for (room, most, failing, out) in FAILING_WRITES.iter() {
         let mut files = files_of(alloc, &[("e", EMPTY_TRACE)])?;
-        let sink = failing_sink(alloc, room, most, failing)?;
+        let sink = failing_sink(alloc, *room, *most, *failing)?;
         let err = failing_sink(alloc, AMPLE, AMPLE, NEVER)?;
         let outcome = run_with(&rt, alloc, "pooltrace play e", &mut files, sink, err)?;
         assert_eq!(rt;
             outcome.parts(),
-            (7, out, "pooltrace: write\n"),
+            (7, *out, "pooltrace: write\n"),
             "{room} {most} {failing}"
         );
     }
     Ok(())
 }
 
+static FAILING_ERRORS: [Writing; 4] = [
+    (AMPLE, AMPLE, 0, ""),
+    (AMPLE, 1, 5, "poolt"),
+    (0, 1, NEVER, ""),
+    (4, AMPLE, NEVER, "pool"),
+];
+
 #[test]
 fn a_failing_error_sink_changes_no_status(rt: HostRuntime) -> Result<(), Fail> {
     let alloc = rt.alloc();
-    for (room, most, failing, err) in [
-        (AMPLE, AMPLE, 0, ""),
-        (AMPLE, 1, 5, "poolt"),
-        (0, 1, NEVER, ""),
-        (4, AMPLE, NEVER, "pool"),
-    ] {
+    for (room, most, failing, err) in FAILING_ERRORS.iter() {
         let mut files = failing_files(alloc, &[("e", EMPTY_TRACE)], 1, 3)?;
         let out = failing_sink(alloc, AMPLE, AMPLE, NEVER)?;
-        let sink = failing_sink(alloc, room, most, failing)?;
+        let sink = failing_sink(alloc, *room, *most, *failing)?;
         let outcome = run_with(&rt, alloc, "pooltrace play e", &mut files, out, sink)?;
-        assert_eq!(rt; outcome.parts(), (4, "", err), "{room} {most} {failing}");
+        assert_eq!(rt; outcome.parts(), (4, "", *err), "{room} {most} {failing}");
     }
     Ok(())
 }
 
+// Words, how many bytes 10 the file has, the status, and the line on the error sink.
+static LARGE: [(&str, usize, u8, &str); 4] = [
+    ("pooltrace play f", 1 << 24, 0, ""),
+    (
+        "pooltrace play f",
+        (1 << 24) + 1,
+        5,
+        "pooltrace: file 1 long\n",
+    ),
+    ("pooltrace play f f f f", 1 << 24, 0, ""),
+    (
+        "pooltrace play f f f f f",
+        1 << 24,
+        5,
+        "pooltrace: file 5 long\n",
+    ),
+];
+
 #[test]
 fn large_files(rt: HostRuntime) -> Result<(), Fail> {
     let alloc = rt.alloc();
-    let one = report(alloc, &[ZEROS], ZEROS)?;
-    let four = report(alloc, &[ZEROS; 4], ZEROS)?;
-    let most = 1 << 24;
-    for (line, bytes, status, out, err) in [
-        ("pooltrace play f", most, 0, one.as_str(), ""),
-        (
-            "pooltrace play f",
-            most + 1,
-            5,
-            "",
-            "pooltrace: file 1 long\n",
-        ),
-        ("pooltrace play f f f f", most, 0, four.as_str(), ""),
-        (
-            "pooltrace play f f f f f",
-            most,
-            5,
-            "",
-            "pooltrace: file 5 long\n",
-        ),
-    ] {
-        let lines = vec![in alloc; b'\n'; bytes]?;
-        let mut files = files_of(alloc, &[("f", lines.as_slice())])?;
-        let outcome = run_line(&rt, alloc, line, &mut files)?;
-        assert_eq!(rt; outcome.parts(), (status, out, err), "{line}: {bytes}");
+    for (line, bytes, status, err) in LARGE.iter() {
+        let lines = vec![in alloc; b'\n'; *bytes]?;
+        let (outcome, opens) = answer(&rt, rt.alloc(), line, &[("f", lines.as_slice())])?;
+        let zeros = [ZEROS; 5];
+        let text = report(alloc, &zeros[..opens.min(5) as usize], ZEROS)?;
+        let out = if *status == 0 { text.as_str() } else { "" };
+        assert_eq!(rt; outcome.parts(), (*status, out, *err), "{line}: {bytes}");
     }
     Ok(())
 }
