@@ -1,32 +1,24 @@
 -- a take that an exchange of the state answers with nothing: few blocks are unheld then
-use Rattle.std.proofs.Common.{◌≡◌, ℕ, zero, suc, ◌+◌, ◌-◌, ◌*◌, ◌<◌, ◌≤◌, ◌==◌, Bool, true, false, List, length, refl, sym, ap, ◌∙◌, inl}
-use Rattle.std.proofs.Common.{inr, arith}
-use Rattle.std.specs.Prelude.{if◌then◌else◌}
-use Rattle.std.proofs.lemmas.Bool.{cases_eq}
-use Rattle.std.proofs.lemmas.Bool.Decides.{nat_tests}
+use Rattle.std.proofs.Common.{◌≡◌, ℕ, ◌+◌, ◌*◌, ◌<◌, ◌≤◌, true, List, length, refl}
+use Rattle.std.proofs.Common.{arith}
 use Rattle.word_layout.specs.Sizes.{Sizes, IsShape, blocks, transfer_bound, limits_of, most_blocks}
-use Rattle.word_layout.specs.Packing.{reply_of, reply_value}
-use Rattle.word_layout.specs.declared.announced.Wish.{Wish}
-use Rattle.word_layout.specs.declared.announced.Wish.TheVariants.{Take, Give}
-use Rattle.word_layout.specs.declared.reply.Reply.TheVariants.{Nothing, Took}
-use Rattle.word_layout.proofs.Packed.{reply_of-reply_value}
+use Rattle.word_layout.specs.Packing.{reply_of}
+use Rattle.word_layout.specs.declared.reply.Reply.TheVariants.{Nothing}
 use Rattle.process_sums.proofs.Sums.{total_le}
 use Rattle.pool_model.specs.declared.entry.Entry.{Entry}
 use Rattle.pool_model.specs.History.{held, HasFewUnheld}
 use Rattle.transfer_schedule.specs.Numbers.{withheld}
-use Rattle.transfer_machine.specs.States.{StackState, put, with_transfer, answer_to, next_of}
-use Rattle.transfer_machine.specs.Tries.{is_pending, is_take, is_odd_transfer, announced_wish}
+use Rattle.transfer_machine.specs.States.{StackState, next_of}
+use Rattle.transfer_machine.specs.Tries.{is_pending}
 use Rattle.transfer_invariant.specs.Memory.{Words, state_tag}
 use Rattle.batch_invariant.specs.Batches.{ProcessViews}
 use Rattle.batch_invariant.specs.Premises.{PendingIsPresent}
-use Rattle.batch_invariant.proofs.Applied.{put_here}
 use Rattle.chain_invariant.specs.Chains.{ChainsHold}
 use Rattle.chain_invariant.specs.Laws.{kept_blocks}
 use Rattle.chain_invariant.proofs.Counts.{blocks_counted, content_low}
 use Rattle.chain_invariant.proofs.Moves.{next_chains}
 use Rattle.history_invariant.proofs.Holding.{held_shared}
 use Rattle.call_invariant.proofs.Uses.{empty_stack_leaves_few}
-use Rattle.draft_invariant.proofs.NextState.{either_reply}
 use Rattle.chain_invariant.proofs.Gives.{some_long}
 use Rattle.stack_invariant.proofs.Emptied.{found_empty}
 use Rattle.interleaving_core.specs.Invariant.{Ghosts, Holds, held_in}

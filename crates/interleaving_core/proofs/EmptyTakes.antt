@@ -23,7 +23,7 @@ use Rattle.transfer_schedule.specs.Numbers as schedule
 use Rattle.transfer_schedule.specs.declared.pending.Pending.TheVariants.{Idle}
 use Rattle.transfer_machine.specs.declared.stage.NextStep.{NextStep}
 use Rattle.transfer_machine.specs.declared.stage.NextStep.TheVariants.{Rest, Announce, Try, LoadFinalState, LoadReply}
-use Rattle.pool_machine.specs.Beginning.{due, before_call, begun_if_due, call_begun}
+use Rattle.pool_machine.specs.Beginning.{due, begun_if_due, call_begun}
 use Rattle.pool_machine.specs.OwnSteps.{allocated, freed, next_block, pool_own_met}
 use Rattle.pool_machine.specs.Pools.{view_begun, pool_met_at, pool_ended, step_counted}
 use Rattle.pool_machine.specs.declared.call.Call.{Call}
@@ -36,7 +36,6 @@ use Rattle.history_invariant.specs.Ledger.{Ledger}
 use Rattle.history_invariant.proofs.Fitting.{own_rises}
 use Rattle.history_invariant.proofs.Holding.{few_now}
 use Rattle.history_invariant.proofs.Seeing.{own_of_longer}
-use Rattle.call_invariant.specs.InCalls.{NothingEntered}
 use Rattle.call_invariant.specs.Ledgers.{ledger_begun, ledger_moved_at, found_by}
 use Rattle.interleaving_core.specs.EmptyTakes.{TakesHadFew}
 use Rattle.interleaving_core.proofs.OwnParts.{ledger_allocated, ledger_by_call}

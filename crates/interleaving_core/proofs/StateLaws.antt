@@ -1,5 +1,5 @@
 -- the laws of states, of takes that found nothing, and of what views loaded
-use Rattle.std.proofs.Common.{◌≡◌, ◌≢◌, ℕ, ◌+◌, ◌-◌, ◌*◌, ◌<◌, ◌≤◌, ◌==◌, Bool, true, false, List, refl, sym, ap, ◌∙◌, subst, inl, inr}
+use Rattle.std.proofs.Common.{◌≡◌, ℕ, ◌+◌, ◌*◌, ◌<◌, ◌≤◌, ◌==◌, Bool, true, false, List, refl, sym, ap, ◌∙◌, subst, inl, inr}
 use Rattle.std.proofs.Common.{arith}
 use Rattle.std.specs.Prelude.{◌↔◌, if◌then◌else◌, not}
 use Rattle.std.proofs.lemmas.Bool.{cases_eq}
@@ -7,8 +7,6 @@ use Rattle.std.proofs.lemmas.Bool.Decides.{nat_tests}
 use Rattle.word_layout.specs.Sizes.{Sizes, IsShape, transfer_bound}
 use Rattle.word_layout.specs.Names.{word_at}
 use Rattle.word_layout.specs.Packing.{reply_of}
-use Rattle.word_layout.specs.declared.reply.Reply.{Reply}
-use Rattle.word_layout.specs.declared.reply.Reply.TheVariants.{Nothing}
 use Rattle.pool_model.specs.declared.entry.Entry.{Entry}
 use Rattle.transfer_schedule.specs.Numbers.{Numbers, is_giving, stock, kept, source_of}
 use Rattle.transfer_schedule.specs.declared.pending.Pending.{Pending}
@@ -20,7 +18,6 @@ use Rattle.transfer_schedule.proofs.Stock.{nothing_stock}
 use Rattle.pool_machine.specs.declared.call.Way.{Way}
 use Rattle.pool_machine.specs.declared.call.Way.TheVariants.{Fresh, Alone, Calls}
 use Rattle.pool_machine.specs.declared.view.ProcessView.{ProcessView}
-use Rattle.transfer_invariant.specs.Memory.{States, state_tag}
 use Rattle.batch_invariant.specs.Batches.{ProcessViews}
 use Rattle.stack_invariant.specs.Gives.{present}
 use Rattle.stack_invariant.proofs.Content.{words_show}

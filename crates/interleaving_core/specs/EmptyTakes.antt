@@ -1,5 +1,5 @@
 -- takes that found nothing: few blocks were unheld since they were announced
-use Rattle.std.specs.Prelude.{◌≡◌, Bool, true, List}
+use Rattle.std.specs.Prelude.{◌≡◌, true, List}
 use Rattle.pool_model.specs.declared.entry.Entry.{Entry}
 use Rattle.pool_model.specs.Limits.{Limits}
 use Rattle.transfer_schedule.specs.Numbers.{Numbers}

@@ -1,5 +1,5 @@
 -- what follows of the states of the stack, of takes that found nothing, and of what views loaded, wherever the invariant is met
-use Rattle.std.specs.Prelude.{◌≡◌, ◌↔◌, ℕ, ◌+◌, ◌<◌, ◌≤◌, Bool, true, false, List}
+use Rattle.std.specs.Prelude.{◌≡◌, ◌↔◌, ℕ, ◌+◌, ◌<◌, ◌≤◌, true, false, List}
 use Rattle.word_layout.specs.Sizes.{Sizes, blocks, transfer_bound, limits_of}
 use Rattle.word_layout.specs.Names.{word_at}
 use Rattle.word_layout.specs.Packing.{reply_of}
@@ -14,7 +14,6 @@ use Rattle.pool_machine.specs.declared.view.ProcessView.{ProcessView}
 use Rattle.transfer_invariant.specs.Memory.{States, state_tag}
 use Rattle.transfer_invariant.specs.Progress.{has_announced}
 use Rattle.helping_invariant.specs.Parts.{has_tried}
-use Rattle.batch_invariant.specs.Batches.{ProcessViews}
 use Rattle.stack_invariant.specs.Emptied.{MetNothing}
 use Rattle.stack_invariant.specs.Following.{StatesFollow}
 use Rattle.stack_invariant.specs.Loads.{LoadsFit}
