@@ -191,44 +191,51 @@ mod tests {
         Ok(())
     }
 
+    /// Seeds and numbers of calls.
+    static SEEDS: [(u64, u32); 6] = [
+        (0, 1),
+        (0, 5_000),
+        (1, 1_000),
+        (2, 5_000),
+        (0x5851_f42d_4c95_7f2d, 5_000),
+        (u64::MAX, 5_000),
+    ];
+
     #[test]
     fn made_traces_are_those_of_a_slow_program(rt: HostRuntime) -> Result<(), Fail> {
-        let cases = [
-            (0, 1),
-            (0, 5_000),
-            (1, 1_000),
-            (2, 5_000),
-            (0x5851_f42d_4c95_7f2d, 5_000),
-            (u64::MAX, 5_000),
-        ];
-        for (seed, calls) in cases {
-            assert!(rt; calls <= MOST_CALLS);
-            let trace = make_trace(rt.alloc(), seed, calls)?;
-            let operations = slow_operations(rt.alloc(), seed, calls)?;
+        for (seed, calls) in SEEDS.iter() {
+            assert!(rt; *calls <= MOST_CALLS);
+            let trace = make_trace(rt.alloc(), *seed, *calls)?;
+            let operations = slow_operations(rt.alloc(), *seed, *calls)?;
             let same = trace.operations.as_slice() == operations.as_slice();
             assert!(rt; same, "seed {seed}, {calls} calls");
         }
         Ok(())
     }
 
+    /// Seeds, and what the scripts of their 100,000 calls place, find too large and leave.
+    static SCRIPTS: [(u64, u32, u64, usize); 4] = [
+        (1, 45_125, 4_935, 45_014),
+        (2, 45_132, 4_870, 45_129),
+        (3, 45_156, 4_922, 45_017),
+        (4, 45_214, 4_883, 45_042),
+    ];
+
+    /// How many steps leave a slot.
+    fn leaves_of(steps: &[Step]) -> usize {
+        steps
+            .iter()
+            .filter(|step| matches!(step, Step::Leave { .. }))
+            .count()
+    }
+
     #[test]
     fn scripts_of_long_made_traces(rt: HostRuntime) -> Result<(), Fail> {
-        let cases = [
-            (1, 45_125, 4_935, 45_014),
-            (2, 45_132, 4_870, 45_129),
-            (3, 45_156, 4_922, 45_017),
-            (4, 45_214, 4_883, 45_042),
-        ];
-        for (seed, news, big, leaves) in cases {
-            let trace = make_trace(rt.alloc(), seed, 100_000)?;
+        for (seed, news, big, leaves) in SCRIPTS.iter() {
+            let trace = make_trace(rt.alloc(), *seed, 100_000)?;
             let made = script(rt.alloc(), &trace, 64)?;
-            let left = made
-                .steps
-                .as_slice()
-                .iter()
-                .filter(|step| matches!(step, Step::Leave { .. }))
-                .count();
-            let same = made.news == news && made.big == big && left == leaves;
+            let left = leaves_of(made.steps.as_slice());
+            let same = made.news == *news && made.big == *big && left == *leaves;
             let clean = made.failed == 0 && made.stray == 0 && made.twice == 0 && made.cut == 0;
             assert!(rt;
                 same && clean,

@@ -152,87 +152,85 @@ mod tests {
         check_piecewise(rt, text, room, u64::MAX, expected)
     }
 
+    const BLOCK: Operation = New {
+        address: 16,
+        size: 8,
+    };
+
+    const RELEASE: Operation = Release { address: 16 };
+
+    const MOVED: Operation = New {
+        address: 32,
+        size: 16,
+    };
+
+    const NOTHING: Operation = New {
+        address: 0,
+        size: 0,
+    };
+
+    const NOWHERE: Operation = New {
+        address: 0,
+        size: 8,
+    };
+
+    const LAST: Operation = New {
+        address: u64::MAX,
+        size: 0xabcdef,
+    };
+
+    /// Texts, their operations, and whether they are cut.
+    static TEXTS: [(&[u8], &[Operation], bool); 12] = [
+        (b"", &[], false),
+        (b"\n  \n= Start\n=\n = x + 0x10 0x8\n", &[], false),
+        (
+            b"@ ./a.out:[0x401136] + 0x10 0x8\n@ ./a.out:[0x401146] - 0x10\n",
+            &[BLOCK, RELEASE],
+            false,
+        ),
+        (
+            b"+ 0x10 0x8\n< 0x10\n> 0x20 0x10\n",
+            &[BLOCK, RELEASE, MOVED],
+            false,
+        ),
+        (b"+ (nil) 0\n! 0x10 0x80\n", &[NOTHING, Failed], false),
+        (b"@ + - 0x10\n", &[RELEASE], false),
+        (b" @\xff  + 0x0000000000000010   0x8 \n", &[BLOCK], false),
+        (b"+ 0xFfFfffffffffffff 0xABCDEF\n", &[LAST], false),
+        (b"= Start\n+ 0x10 0x8\n@ a.out:[0x40", &[BLOCK], true),
+        (b"+ 0x10 0x8\n- 0x10", &[BLOCK, RELEASE], false),
+        (b"+ 0x10 0x8\n= En", &[BLOCK], false),
+        (b"> (nil) 0x8\n", &[NOWHERE], false),
+    ];
+
     #[test]
     fn lines_and_the_last_piece(rt: HostRuntime) -> Result<(), Fail> {
-        let block = New {
-            address: 16,
-            size: 8,
-        };
-        let release = Release { address: 16 };
-        let moved = New {
-            address: 32,
-            size: 16,
-        };
-        let cases: [(&[u8], &[Operation], bool); 12] = [
-            (b"", &[], false),
-            (b"\n  \n= Start\n=\n = x + 0x10 0x8\n", &[], false),
-            (
-                b"@ ./a.out:[0x401136] + 0x10 0x8\n@ ./a.out:[0x401146] - 0x10\n",
-                &[block, release],
-                false,
-            ),
-            (
-                b"+ 0x10 0x8\n< 0x10\n> 0x20 0x10\n",
-                &[block, release, moved],
-                false,
-            ),
-            (
-                b"+ (nil) 0\n! 0x10 0x80\n",
-                &[
-                    New {
-                        address: 0,
-                        size: 0,
-                    },
-                    Failed,
-                ],
-                false,
-            ),
-            (b"@ + - 0x10\n", &[release], false),
-            (b" @\xff  + 0x0000000000000010   0x8 \n", &[block], false),
-            (
-                b"+ 0xFfFfffffffffffff 0xABCDEF\n",
-                &[New {
-                    address: u64::MAX,
-                    size: 0xabcdef,
-                }],
-                false,
-            ),
-            (b"= Start\n+ 0x10 0x8\n@ a.out:[0x40", &[block], true),
-            (b"+ 0x10 0x8\n- 0x10", &[block, release], false),
-            (b"+ 0x10 0x8\n= En", &[block], false),
-            (
-                b"> (nil) 0x8\n",
-                &[New {
-                    address: 0,
-                    size: 8,
-                }],
-                false,
-            ),
-        ];
-        for (text, operations, cut) in cases {
-            check(&rt, text, MOST_BYTES, Ok((operations, cut)))?;
+        for (text, operations, cut) in TEXTS.iter() {
+            check(&rt, text, MOST_BYTES, Ok((operations, *cut)))?;
         }
         Ok(())
     }
 
+    /// Texts, and the number of their first bad line.
+    static BAD_LINES: [(&[u8], u64); 12] = [
+        (b"a + 0x10 0x8\n", 1),
+        (b"+ 0X10 0x8\n", 1),
+        (b"+ 0x10 8\n", 1),
+        (b"+ 0x11111111111111111 0x8\n", 1),
+        (b"@ - 0x10 0x8\n", 1),
+        (b"= Start\n+ 0x 0x8\n", 2),
+        (b"+ 0x10 0x8\r\n", 1),
+        (b"\xff\n", 1),
+        (b"\n- 0x10\n+\n- 0x10\n", 3),
+        (b"- 0\n", 1),
+        (b"+\t0x10 0x8\n", 1),
+        (b"+\n\n-\n", 1),
+    ];
+
     #[test]
     fn bad_lines(rt: HostRuntime) -> Result<(), Fail> {
-        let cases: [(&[u8], u64); 12] = [
-            (b"a + 0x10 0x8\n", 1),
-            (b"+ 0X10 0x8\n", 1),
-            (b"+ 0x10 8\n", 1),
-            (b"+ 0x11111111111111111 0x8\n", 1),
-            (b"@ - 0x10 0x8\n", 1),
-            (b"= Start\n+ 0x 0x8\n", 2),
-            (b"+ 0x10 0x8\r\n", 1),
-            (b"\xff\n", 1),
-            (b"\n- 0x10\n+\n- 0x10\n", 3),
-            (b"- 0\n", 1),
-            (b"+\t0x10 0x8\n", 1),
-            (b"+\n\n-\n", 1),
-        ];
-        for (text, line) in cases {
-            check(&rt, text, MOST_BYTES, Err(TraceFault::BadLine(line)))?;
+        for (text, line) in BAD_LINES.iter() {
+            check(&rt, text, MOST_BYTES, Err(TraceFault::BadLine(*line)))?;
         }
         Ok(())
     }
@@ -258,17 +256,13 @@ mod tests {
         let mut operations = Vec::new(alloc);
         for _ in 0..20_000 {
             text.extend_from_slice(b"+ 0x10 0x8\n- 0x10\n")?;
-            operations.push(New {
-                address: 16,
-                size: 8,
-            })?;
-            operations.push(Release { address: 16 })?;
+            operations.push(BLOCK)?;
+            operations.push(RELEASE)?;
         }
         check(&rt, &text, MOST_BYTES, Ok((&operations, false)))?;
         let mut long = Vec::from_slice(alloc, b"@")?;
         long.resize(200_000, b'x')?;
         long.extend_from_slice(b" - 0x10\n- 0x10")?;
-        let twice = [Release { address: 16 }, Release { address: 16 }];
-        check(&rt, &long, MOST_BYTES, Ok((&twice, false)))
+        check(&rt, &long, MOST_BYTES, Ok((&[RELEASE, RELEASE], false)))
     }
 }

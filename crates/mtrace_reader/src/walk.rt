@@ -124,16 +124,81 @@ mod tests {
     use crate::trace::{Operation, OperationList, Trace};
     use std::alloc::Global;
     use std::hash::{FoldHasher, Hasher};
+    use std::process::Abort;
     use std::test::Fail;
 
-    #[derive(Drop)]
-    struct Case<'a> {
-        name: &'a str,
-        operations: &'a [Operation],
+    /// A line of a trace: its sign, its address and its size.
+    type Line = (char, u64, u64);
+
+    /// A trace, and its script.
+    struct Case {
+        name: &'static str,
+        lines: &'static [Line],
         cut: bool,
-        steps: &'a [Step],
+        steps: &'static [Step],
         numbers: [u64; 6],
     }
+
+    static CASES: [Case; 7] = [
+        Case {
+            name: "first report",
+            lines: &[('+', 0x4052a0, 0x20), ('-', 0x4052a0, 0)],
+            cut: false,
+            steps: &[Step::Place { slot: 0 }, Step::Leave { slot: 0 }],
+            numbers: [1, 0, 0, 0, 0, 0],
+        },
+        Case {
+            name: "empty file",
+            lines: &[],
+            cut: false,
+            steps: &[],
+            numbers: [0; 6],
+        },
+        Case {
+            name: "killed program",
+            lines: &[('+', 0x10, 0x8)],
+            cut: true,
+            steps: &[Step::Place { slot: 0 }],
+            numbers: [1, 0, 0, 0, 0, 1],
+        },
+        Case {
+            name: "resize",
+            lines: &[('+', 0x10, 0x8), ('-', 0x10, 0), ('+', 0x20, 0x10)],
+            cut: false,
+            steps: &[
+                Step::Place { slot: 0 },
+                Step::Leave { slot: 0 },
+                Step::Place { slot: 1 },
+            ],
+            numbers: [2, 0, 0, 0, 0, 0],
+        },
+        Case {
+            name: "failures",
+            lines: &[('+', 0, 0x40), ('!', 0x10, 0x80)],
+            cut: false,
+            steps: &[],
+            numbers: [0, 0, 2, 0, 0, 0],
+        },
+        Case {
+            name: "boundary of the size",
+            lines: &[
+                ('+', 0x10, 0),
+                ('+', 0x20, 0x40),
+                ('+', 0x30, 0x41),
+                ('-', 0x30, 0),
+            ],
+            cut: false,
+            steps: &[Step::Place { slot: 0 }, Step::Place { slot: 1 }],
+            numbers: [2, 1, 0, 0, 0, 0],
+        },
+        Case {
+            name: "stray and twice",
+            lines: &[('-', 0x99, 0), ('+', 0x10, 0x8), ('+', 0x10, 0x8)],
+            cut: false,
+            steps: &[Step::Place { slot: 0 }],
+            numbers: [1, 0, 0, 1, 1, 0],
+        },
+    ];
 
     // In the order of a report: news, big, failed, stray, twice, cut.
     fn numbers_of(script: &Script) -> [u64; 6] {
@@ -147,89 +212,35 @@ mod tests {
         ]
     }
 
-    fn new(address: u64, size: u64) -> Operation {
-        Operation::New { address, size }
+    /// The operation of a line.
+    fn operation((sign, address, size): Line) -> Operation {
+        match sign {
+            '+' => Operation::New { address, size },
+            '-' => Operation::Release { address },
+            _ => Operation::Failed,
+        }
     }
 
-    fn release(address: u64) -> Operation {
-        Operation::Release { address }
-    }
-
-    fn place(slot: u32) -> Step {
-        Step::Place { slot }
-    }
-
-    fn leave(slot: u32) -> Step {
-        Step::Leave { slot }
+    /// The trace of these operations.
+    fn trace_of(rt: &impl Abort, operations: Vec<Operation>, cut: bool) -> Trace
+        ensures { length result.operations < 2 ^ 32 }
+    {
+        assert!(rt; operations.len() < 1 << 20);
+        Trace {
+            operations: OperationList::new(operations),
+            cut,
+            bytes: 0,
+        }
     }
 
     #[test]
     fn scripts_of_small_traces(rt: HostRuntime) -> Result<(), Fail> {
-        let cases = [
-            Case {
-                name: "first report",
-                operations: &[new(0x4052a0, 0x20), release(0x4052a0)],
-                cut: false,
-                steps: &[place(0), leave(0)],
-                numbers: [1, 0, 0, 0, 0, 0],
-            },
-            Case {
-                name: "empty file",
-                operations: &[],
-                cut: false,
-                steps: &[],
-                numbers: [0; 6],
-            },
-            Case {
-                name: "killed program",
-                operations: &[new(0x10, 0x8)],
-                cut: true,
-                steps: &[place(0)],
-                numbers: [1, 0, 0, 0, 0, 1],
-            },
-            Case {
-                name: "resize",
-                operations: &[new(0x10, 0x8), release(0x10), new(0x20, 0x10)],
-                cut: false,
-                steps: &[place(0), leave(0), place(1)],
-                numbers: [2, 0, 0, 0, 0, 0],
-            },
-            Case {
-                name: "failures",
-                operations: &[new(0, 0x40), Operation::Failed],
-                cut: false,
-                steps: &[],
-                numbers: [0, 0, 2, 0, 0, 0],
-            },
-            Case {
-                name: "boundary of the size",
-                operations: &[
-                    new(0x10, 0),
-                    new(0x20, 0x40),
-                    new(0x30, 0x41),
-                    release(0x30),
-                ],
-                cut: false,
-                steps: &[place(0), place(1)],
-                numbers: [2, 1, 0, 0, 0, 0],
-            },
-            Case {
-                name: "stray and twice",
-                operations: &[release(0x99), new(0x10, 0x8), new(0x10, 0x8)],
-                cut: false,
-                steps: &[place(0)],
-                numbers: [1, 0, 0, 1, 1, 0],
-            },
-        ];
-        for case in &cases {
-            let operations = Vec::from_slice(rt.alloc(), case.operations)?;
-            assert!(rt; operations.len() < 100);
-            let trace = Trace {
-                operations: OperationList::new(operations),
-                cut: case.cut,
-                bytes: 0,
-            };
-            let made = script(rt.alloc(), &trace, 64)?;
+        for case in CASES.iter() {
+            let mut operations = Vec::new(rt.alloc());
+            for line in case.lines {
+                operations.push(operation(*line))?;
+            }
+            let made = script(rt.alloc(), &trace_of(&rt, operations, case.cut), 64)?;
             let same = made.steps.as_slice() == case.steps && numbers_of(&made) == case.numbers;
             assert!(rt; same, "{}: {made:?}", case.name);
         }
@@ -255,18 +266,12 @@ mod tests {
         let addresses = colliding(alloc)?;
         let mut operations = Vec::new(alloc);
         for address in &addresses {
-            operations.push(new(*address, 8))?;
+            operations.push(operation(('+', *address, 8)))?;
         }
         for address in &addresses {
-            operations.push(release(*address))?;
+            operations.push(operation(('-', *address, 0)))?;
         }
-        assert!(rt; operations.len() < 1 << 20);
-        let trace = Trace {
-            operations: OperationList::new(operations),
-            cut: false,
-            bytes: 0,
-        };
-        let made = script(alloc, &trace, 64)?;
+        let made = script(alloc, &trace_of(&rt, operations, false), 64)?;
         let count = addresses.len();
         let same = made.news as usize == count && made.twice == 0 && made.stray == 0;
         assert!(rt;
