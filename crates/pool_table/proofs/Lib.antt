@@ -7,3 +7,4 @@ pub mod Turns
 pub mod Stored
 pub mod Steps
 pub mod Places
+pub mod Transfers

@@ -147,6 +147,14 @@ module _ (sizes : Sizes) (a : About) (number : ℕ) (v x : SeatView) (action : A
             ∙ entries_go_on held.history entries n learned.views v.mind.seen long mine sees);
         reads = λ block index value acts knows. sym word_is_met
             ∙ (ap (met_word v.sizes learned.words) acts ∙ known.value block index value knows);
+        stood = λ name acts. record {
+          words = learned.words;
+          views = learned.views;
+          place = number;
+          held = held;
+          seated = learned.seated;
+          found = sym (ap (met_word v.sizes learned.words) acts) ∙ word_is_met;
+        };
         can_meet = subst (CanMeetNext v.sizes w) word_is_met (can_meet_by v.sizes learned.words w (is_alone w.calls.way) refl allowed);
         among = after_is_among Holds (turned a) number (place sizes (name_of action)) (left_by action) v met x learned;
       }
@@ -172,6 +180,7 @@ store_tells sizes a v x name stored met shape is s =
       seen = subst (λ list. SeenAfter list v.mind.seen x.mind.seen) entries s.seen;
       entries = s.entries ∙ ap (λ list. entries_in v.mind ++ list) entries;
       reads = λ block index value acts knows. absurd (stored_not_loaded (sym stores ∙ acts));
+      stood = λ other acts. absurd (stored_not_loaded (sym stores ∙ acts));
       can_meet = any.can;
       among = s.among;
     }

@@ -1,7 +1,11 @@
 -- one step of a seat: what it asks, and what it tells
 use Rattle.std.specs.Prelude.{◌≡◌, ℕ, ◌+◌, true, false, Some, List, [], ◌∷◌, ◌++◌, length, take}
+use mathlib.Core.Option.{some}
+use lib.ListN.{get_elem?}
 use Rattle.word_rule.specs.Moves.{IsAmong}
 use Rattle.word_layout.specs.Sizes.{Sizes}
+use Rattle.word_layout.specs.Names.{word_at}
+use Rattle.word_layout.specs.declared.name.WordName.{WordName}
 use Rattle.word_layout.specs.declared.name.WordName.TheVariants.{Data}
 use Rattle.pool_model.specs.declared.entry.Entry.{Entry}
 use Rattle.transfer_machine.specs.declared.action.Action.TheVariants.{Load}
@@ -45,6 +49,15 @@ abbrev pub SeenAfter : List Entry → List Entry → List Entry → Type 0
 SeenAfter [] old new = new ≡ old
 SeenAfter (entry ∷ more) old new = SeesMore old new (entry ∷ more)
 
+-- a load found the word where it stood: there are words and views that meet the rule, this view among them, with that word there
+pub record Stood (v : SeatView) (name : WordName) (word : ℕ) : Type 0 where
+  pub words : List ℕ
+  pub views : List SeatView
+  pub place : ℕ
+  pub held : Holds words views
+  pub seated : get_elem? views place ≡ some v
+  pub found : word_at v.sizes words name ≡ word
+
 -- the seat made a step about this, which met this word; of its view only the mind moved
 pub record Stepped (about : About) (before : SeatView) (word : ℕ) (after : SeatView) : Type 0 where
   pub stays : after ≡ record before { mind = after.mind }
@@ -60,6 +73,8 @@ pub record Stepped (about : About) (before : SeatView) (word : ℕ) (after : Sea
   -- a load of a data word that its process knows answers that value
   pub reads : (block index value : ℕ) → next_action before.sizes (turning about before.mind.view) ≡ Load (Data block index)
       → known_in before.mind.known block index ≡ Some value → word ≡ value
+  -- and a load found its word in the table
+  pub stood : (name : WordName) → next_action before.sizes (turning about before.mind.view) ≡ Load name → Stood before name word
   -- what the code needs of the word
   pub can_meet : CanMeetNext before.sizes (turning about before.mind.view) word
   -- the new view is one that meets the rule

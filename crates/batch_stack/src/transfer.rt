@@ -1,0 +1,132 @@
+// One process's transfers, step by step.
+ghost use Rattle.std.specs.Prelude.{◌≡◌, ◌+◌, ◌<◌, ◌^◌, MatchResult};
+ghost use Rattle.word_layout.specs.Names.{table_words};
+ghost use Rattle.word_layout.specs.Sizes.{blocks};
+ghost use Rattle.word_layout.specs.declared.announced.Wish.TheVariants.{Take, Give};
+ghost use Rattle.word_table.specs.Seats.{SameSeat};
+ghost use Rattle.transfer_machine.specs.declared.stage.NextStep.TheVariants.{Rest};
+ghost use Rattle.pool_table.specs.Steps.{CanStep};
+ghost use Rattle.pool_table.specs.Transfers.{Agrees, about_of};
+ghost use Rattle.batch_stack.specs.Running.{Running, MadeStep, ComesNearer, opened, wishing};
+
+use crate::progress::{Progress, progress_at};
+use pool_machine::Call;
+use pool_model::NoMemory;
+use pool_table::{About, PoolSeat, PoolTable, act};
+use std::alloc::Global;
+use std::marker::Model;
+use step_counter::{Ledger, Steps};
+use transfer_machine::TransferView;
+use word_layout::{Shape, Wish};
+
+/// The transfers of one process, one after the other.
+///
+/// Clauses see the shape's numbers and the machine's part of a transfer.
+#[derive(Drop)]
+pub struct Transfer {
+    shape: Shape,
+    view: TransferView,
+}
+
+impl Model for Transfer {
+    ghost use Rattle.batch_stack.specs.Running.{Running};
+
+    ghost Value = { Running };
+
+    ghost view = { λ transfer. record { sizes = transfer.shape; part = transfer.view } };
+}
+
+impl Transfer {
+    /// The transfers of this process of the shape; none is begun. All that its steps use has its room here.
+    pub fn open(alloc: Global, shape: &Shape, process: u32) -> Result<Transfer, NoMemory>
+        requires process { process < shape.now.processes }
+        ensures { MatchResult result (λ transfer. transfer ≡ opened shape.now process) (λ _. ⊥) }
+    {
+        prove!(shape.processes() <= 32);
+        // The view has its room in itself.
+        let _ = alloc;
+        Ok(Transfer {
+            shape: *shape,
+            view: TransferView::open(process),
+        })
+    }
+
+    /// Begins a take.
+    pub fn begin_take(&mut self)
+        requires rest { self.old.part.next ≡ Rest }
+        ensures { self.new ≡ wishing Take self.old }
+    {
+        self.view.begin(Wish::Take);
+    }
+
+    /// Begins a give of the batch with this head.
+    pub fn begin_give(&mut self, head: u32)
+        requires rest { self.old.part.next ≡ Rest }
+        requires head { head < blocks self.old.sizes }
+        ensures { self.new ≡ wishing (Give head) self.old }
+    {
+        self.view.begin(Wish::Give(head));
+    }
+
+    /// Makes the next step of the transfer, in this call or alone, and answers how far it is: one atomic step of one
+    /// word, one tick, and one move of the seat. The first step begins the call, or the transfer alone.
+    ///
+    /// The condition is that the seat's process makes this transfer, and its next step is one of it.
+    pub fn step<L: Ledger>(
+        &mut self,
+        table: &PoolTable,
+        seat: &mut PoolSeat,
+        call: Option<Call>,
+        steps: &mut Steps<L>,
+    ) -> Progress
+        requires seat { seat.old.table ≡ table.now }
+        requires words { table.now.words ≡ table_words self.old.sizes }
+        requires steps { steps.old + 1 < 2 ^ 64 }
+        requires can { CanStep self.old.sizes (about_of call self.old.part.wish) seat.old.view }
+        requires agrees { Agrees (about_of call self.old.part.wish) seat.old.view self.old.part }
+        ensures sizes { self.new.sizes ≡ self.old.sizes }
+        ensures seat { SameSeat seat.old seat.new }
+        ensures steps { steps.new ≡ steps.old + 1 }
+        ensures step { MadeStep self.old.sizes (about_of call self.old.part.wish) seat.old.view self.old.part seat.new.view self.new.part result }
+        ensures nearer { ComesNearer self.old.sizes self.old.part self.new.part result }
+    {
+        let about = about_of(call, self.view.wish);
+        step_part(&mut self.view, &self.shape, &about, table, seat, steps)
+    }
+}
+
+/// Makes the next step of a process's part of the transfers.
+fn step_part<L: Ledger>(
+    view: &mut TransferView,
+    shape: &Shape,
+    about: &About,
+    table: &PoolTable,
+    seat: &mut PoolSeat,
+    steps: &mut Steps<L>,
+) -> Progress
+    requires seat { seat.old.table ≡ table.now }
+    requires words { table.now.words ≡ table_words shape.now }
+    requires steps { steps.old + 1 < 2 ^ 64 }
+    requires can { CanStep shape.now about.now seat.old.view }
+    requires agrees { Agrees about.now seat.old.view view.old }
+    ensures seat { SameSeat seat.old seat.new }
+    ensures steps { steps.new ≡ steps.old + 1 }
+    ensures step { MadeStep shape.now about.now seat.old.view view.old seat.new.view view.new result }
+    ensures nearer { ComesNearer shape.now view.old view.new result }
+{
+    let next = view.next;
+    let action = view.action(shape);
+    let word = act(about, action, shape, table, seat, steps);
+    view.meet(shape, word);
+    progress_at(next, word)
+}
+
+/// What a step is about: the call that is given, or else a transfer alone.
+fn about_of(call: Option<Call>, wish: Wish) -> About
+    ensures { result ≡ about_of call wish }
+{
+    match call {
+        Some(call) => About::InCall { call },
+        None => About::Alone { wish },
+    }
+}
