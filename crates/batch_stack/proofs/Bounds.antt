@@ -1,5 +1,5 @@
 -- a running transfer comes nearer to its bound with each step
-use Rattle.std.proofs.Common.{◌≡◌, ◌≢◌, ℕ, ◌+◌, ◌≤◌, Bool, true, false, refl, sym, ap, ◌∙◌, subst, arith}
+use Rattle.std.proofs.Common.{◌≡◌, ◌≢◌, ℕ, ◌+◌, ◌≤◌, Bool, true, false, List, refl, sym, ap, ◌∙◌, subst, arith}
 use Rattle.word_layout.specs.Sizes.{Sizes, transfer_bound}
 use Rattle.word_layout.specs.Names.{word_at}
 use Rattle.word_layout.specs.Packing.{value_of, reply_of}
@@ -22,7 +22,7 @@ use Rattle.pool_table.specs.Views.{SeatView}
 use Rattle.pool_table.specs.Turns.{turning}
 use Rattle.pool_table.specs.Steps.{CanStep}
 use Rattle.pool_table.specs.Transfers.{Agrees}
-use Rattle.pool_table.proofs.Transfers.{DueThere, due_there, transfer_is_going}
+use Rattle.pool_table.proofs.Transfers.{DueOn, due_there, transfer_is_going}
 use Rattle.batch_stack.specs.declared.progress.Progress.{Progress}
 use Rattle.batch_stack.specs.declared.progress.Progress.TheVariants.{Going, Took, Empty, Gave}
 use Rattle.batch_stack.specs.Running.{ComesNearer, ended_as, progress_at}
@@ -32,11 +32,11 @@ pub record PartFits (sizes : Sizes) (t : TransferView) : Type 0 where
   pub index : IndexFits sizes t
   pub few : OverlayIsFew sizes t
 
-due_fits : (sizes : Sizes) (v : ProcessView) → DueThere sizes v → PartFits sizes v.transfer
-due_fits sizes v d =
+due_fits : (sizes : Sizes) (table_words : List ℕ) (v : ProcessView) → DueOn sizes table_words v → PartFits sizes v.transfer
+due_fits sizes table_words v d =
     let table = d.due.table in
     let (ghosts, holds) = table.meets in
-    let words = word_at sizes d.words in
+    let words = word_at sizes table_words in
     let fits : PartFits sizes (d.views d.process).transfer = record {
       index = (keeps sizes words d.views d.history ghosts d.process table.shape table.low holds).runs.index;
       few = (given sizes words d.views d.history ghosts d.process table.low holds).few;
@@ -45,7 +45,7 @@ due_fits sizes v d =
 
 pub part_fits : (sizes : Sizes) (a : About) (v : SeatView) (t : TransferView) → CanStep sizes a v → Agrees a v t → PartFits sizes t
 part_fits sizes a v t c agrees =
-    subst (λ z. PartFits z t) c.shape (subst (PartFits v.sizes) agrees.same (due_fits v.sizes (turning a v.mind.view) (due_there sizes a v c)))
+    subst (λ z. PartFits z t) c.shape (subst (PartFits v.sizes) agrees.same (due_fits v.sizes c.among.words (turning a v.mind.view) (due_there sizes a v c)))
 
 -- a transfer that goes on after a step isn't at rest
 ends_somehow : (r : Reply) → ended_as r ≡ Going → ⊥

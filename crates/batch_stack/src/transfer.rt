@@ -12,7 +12,7 @@ ghost use Rattle.batch_stack.specs.Running.{Running, MadeStep, ComesNearer, open
 use crate::progress::{Progress, progress_at};
 use pool_machine::Call;
 use pool_model::NoMemory;
-use pool_table::{About, PoolSeat, PoolTable, act};
+use pool_table::{About, PoolSeat, PoolTable, about_of, act};
 use std::alloc::Global;
 use std::marker::Model;
 use step_counter::{Ledger, Steps};
@@ -119,14 +119,4 @@ fn step_part<L: Ledger>(
     let word = act(about, action, shape, table, seat, steps);
     view.meet(shape, word);
     progress_at(next, word)
-}
-
-/// What a step is about: the call that is given, or else a transfer alone.
-fn about_of(call: Option<Call>, wish: Wish) -> About
-    ensures { result ≡ about_of call wish }
-{
-    match call {
-        Some(call) => About::InCall { call },
-        None => About::Alone { wish },
-    }
 }

@@ -101,15 +101,17 @@ each_stepped seats zero mind minds (w ∷ views) v at e same low once each =
     let n = number_of mind in
     let is : w ≡ v = some-injective w v at in
     let own = count_of_own n v e (sym same) in
-    let there : count_in n (minds_of w) ≡ count_in n (minds_of v) = ap (λ z. count_in n (minds_of z)) is in
-    (own_moved seats mind minds v e low (omega (arith, own, there)) (subst (λ z. EachMind (IsSeated seats minds) (minds_of z)) is each.0),
-    others_stay seats n mind minds views (omega (arith, own, there)) each.1)
+    let there : count_in n (minds_of w) ≡ count_in n (minds_of v) = ap (λ z. count_in n (minds_of z)) is in (
+      own_moved seats mind minds v e low (omega (arith, own, there)) (subst (λ z. EachMind (IsSeated seats minds) (minds_of z)) is each.0),
+      others_stay seats n mind minds views (omega (arith, own, there)) each.1,
+    )
 each_stepped seats (suc place) mind minds (w ∷ views) v at e same low once each =
     let n = number_of mind in
     let there = count_at n place views v at in
-    let own = count_of_own n v e (sym same) in
-    (others_stay_in seats n mind minds (minds_of w) (omega (arith, there, own)) each.0,
-    each_stepped seats place mind minds views v at e same low (omega (arith, there, own)) each.1)
+    let own = count_of_own n v e (sym same) in (
+      others_stay_in seats n mind minds (minds_of w) (omega (arith, there, own)) each.0,
+      each_stepped seats place mind minds views v at e same low (omega (arith, there, own)) each.1,
+    )
 
 -- a step of a seat: the mind of its process becomes another of the same process
 pub step_keeps_numbered : (sizes : Sizes) (minds : Minds) (views : List SeatView) (place : ℕ) (v : SeatView) (mind : Mind)
@@ -124,8 +126,14 @@ step_keeps_numbered sizes minds views place v mind numbered at e same =
       seats = numbered.seats;
       few = numbered.few;
       each = each_stepped numbered.seats place mind minds views v at e same low (numbered.once n low) numbered.each;
-      once = λ o lo. omega (arith, numbered.once o lo, count_set o place views v new at, ap (count_in o) (own_mind_first v e),
-          ap (count_in o) (own_mind_first new e), ap (λ k. one_if (k == o)) same);
+      once = λ o lo. omega (
+        arith,
+        numbered.once o lo,
+        count_set o place views v new at,
+        ap (count_in o) (own_mind_first v e),
+        ap (count_in o) (own_mind_first new e),
+        ap (λ k. one_if (k == o)) same,
+      );
       unmade = λ o le. moved_elsewhere n o mind minds (λ is. omega arith) ∙ numbered.unmade o le;
       counted = λ j w b process zeroth. ⊎_elim
           (λ (is : (j ≡ place) × (new ≡ w)). ap (λ (z : SeatView). z.made) (sym is.1)

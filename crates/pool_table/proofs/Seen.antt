@@ -47,13 +47,13 @@ longest_in_reaches : (seats n : ℕ) (minds : Minds) (list : List Mind) → Each
 longest_in_reaches seats n minds [] each has = absurd (omega arith)
 longest_in_reaches seats n minds (mind ∷ list) each has = elim (cases_eq (number_of mind) n) [
   | inl e ↦
-    let is : minds n ≡ mind = ap minds (sym e) ∙ each.0.1 in
-    let le = longer_left mind.seen (longest_in list) in
-    omega (arith, le, ap (λ (z : Mind). length z.seen) is)
+      let is : minds n ≡ mind = ap minds (sym e) ∙ each.0.1 in
+      let le = longer_left mind.seen (longest_in list) in
+      omega (arith, le, ap (λ (z : Mind). length z.seen) is)
   | inr ne ↦
-    let le = longest_in_reaches seats n minds list each.1 (omega (arith, counts_not (number_of mind) n ne)) in
-    let more = longer_right mind.seen (longest_in list) in
-    omega arith
+      let le = longest_in_reaches seats n minds list each.1 (omega (arith, counts_not (number_of mind) n ne)) in
+      let more = longer_right mind.seen (longest_in list) in
+      omega arith
 ]
 
 pub longest_reaches : (seats n : ℕ) (minds : Minds) (views : List SeatView) → EachSeat (IsSeated seats minds) views
@@ -61,13 +61,13 @@ pub longest_reaches : (seats n : ℕ) (minds : Minds) (views : List SeatView) �
 longest_reaches seats n minds [] each has = absurd (omega arith)
 longest_reaches seats n minds (v ∷ views) each has = elim (cases_eq (count_in n (minds_of v)) 0) [
   | inl none ↦
-    let le = longest_reaches seats n minds views each.1 (omega (arith, none)) in
-    let more = longer_right (longest_in (minds_of v)) (longest views) in
-    omega arith
+      let le = longest_reaches seats n minds views each.1 (omega (arith, none)) in
+      let more = longer_right (longest_in (minds_of v)) (longest views) in
+      omega arith
   | inr there ↦
-    let le = longest_in_reaches seats n minds (minds_of v) each.0 (omega arith) in
-    let more = longer_left (longest_in (minds_of v)) (longest views) in
-    omega arith
+      let le = longest_in_reaches seats n minds (minds_of v) each.0 (omega arith) in
+      let more = longer_left (longest_in (minds_of v)) (longest views) in
+      omega arith
 ]
 
 -- and it is a beginning of the history, as what each has seen is
@@ -93,14 +93,14 @@ longest_is_history sizes words minds views history numbered holds =
     elim (cases_eq (length history) 0) [
       | inl none ↦ whole_is history (longest views) begins (omega arith)
       | inr more ↦
-        let sees = holds.whole_seen (omega arith) in
-        elim (cases_lt sees.process numbered.seats) [
-          | inl low ↦
-            let once = numbered.once sees.process low in
-            let le = longest_reaches numbered.seats sees.process minds views numbered.each (omega arith) in
-            whole_is history (longest views) begins (omega (arith, le, ap length sees.all))
-          | inr ge ↦
-            let nothing = ap (λ (z : Mind). length z.seen) (numbered.unmade sees.process ge) in
-            absurd (omega (arith, more, ap length sees.all, nothing))
-        ]
+          let sees = holds.whole_seen (omega arith) in
+          elim (cases_lt sees.process numbered.seats) [
+            | inl low ↦
+                let once = numbered.once sees.process low in
+                let le = longest_reaches numbered.seats sees.process minds views numbered.each (omega arith) in
+                whole_is history (longest views) begins (omega (arith, le, ap length sees.all))
+            | inr ge ↦
+                let nothing = ap (λ (z : Mind). length z.seen) (numbered.unmade sees.process ge) in
+                absurd (omega (arith, more, ap length sees.all, nothing))
+          ]
     ]

@@ -1,6 +1,8 @@
 -- a step of a seat is the step of its process's transfer
 use Rattle.std.proofs.Common.{◌≡◌, ◌≢◌, ℕ, Bool, true, false, List, refl, sym, ap, ◌∙◌, subst, arith}
 use Rattle.std.specs.Prelude.{if◌then◌else◌}
+use mathlib.Core.Option.{some}
+use lib.ListN.{get_elem?}
 use Rattle.word_layout.specs.Sizes.{Sizes}
 use Rattle.word_layout.specs.Names.{word_at}
 use Rattle.word_layout.specs.declared.name.WordName.{WordName}
@@ -21,7 +23,7 @@ use Rattle.interleaving_core.proofs.Holds.{StepAllowed, step_allowed}
 use Rattle.pool_table.specs.declared.about.About.{About}
 use Rattle.pool_table.specs.Minds.{number_of}
 use Rattle.pool_table.specs.Views.{SeatView}
-use Rattle.pool_table.specs.Rule.{views_of}
+use Rattle.pool_table.specs.Rule.{Holds, views_of}
 use Rattle.pool_table.specs.Turns.{turning, MayTurn}
 use Rattle.pool_table.specs.Steps.{CanStep, CanMeetNext, Stepped}
 use Rattle.pool_table.specs.Transfers.{Agrees}
@@ -57,45 +59,45 @@ meets : (sizes : Sizes) (w : ProcessView) (word : ℕ) (alone : Bool) → is_alo
 meets sizes w word true e moves h = h.meet e
 meets sizes w word false e moves h = (subst (CanMeetCallAt sizes w word) (in_moving_call w e moves) (h.call e)).meet
 
--- words and views of all processes that meet the invariant, in which this one's next step is due
-pub record DueThere (sizes : Sizes) (v : ProcessView) : Type 0 where
-  pub words : List ℕ
+-- views of all processes with which these words meet the invariant, and in which this one's next step is due
+pub record DueOn (sizes : Sizes) (words : List ℕ) (v : ProcessView) : Type 0 where
   pub views : ProcessViews
   pub history : List Entry
   pub process : ℕ
   pub due : StepIsDue sizes words views history process
   pub here : views process ≡ v
 
--- there are such ones wherever a seat can make a step
-pub due_there : (sizes : Sizes) (a : About) (v : SeatView) → CanStep sizes a v → DueThere v.sizes (turning a v.mind.view)
-due_there sizes a v c =
+-- there are such ones wherever the rule holds with a seat that can make a step
+pub due_on : (sizes : Sizes) (a : About) (v : SeatView) (words : List ℕ) (views : List SeatView) (place : ℕ) → CanStep sizes a v
+    → Holds words views → get_elem? views place ≡ some v → DueOn v.sizes words (turning a v.mind.view)
+due_on sizes a v words views place c h at =
     let w = turning a v.mind.view in
-    let n = number_of v.mind in
     let may : MayTurn v.sizes a v.mind = subst (λ z. MayTurn z a v.mind) (sym c.shape) c.may in
-    let minds = begun_minds n w c.among.held.minds in
     record {
-      words = c.among.words;
-      views = views_of minds;
-      history = c.among.held.history;
-      process = n;
-      due = seat_step_due c.among.words c.among.views c.among.number v a c.among.held c.among.seated c.of_process may;
-      here = begun_here n w c.among.held.minds;
+      views = views_of (begun_minds (number_of v.mind) w h.minds);
+      history = h.history;
+      process = number_of v.mind;
+      due = seat_step_due words views place v a h at c.of_process may;
+      here = begun_here (number_of v.mind) w h.minds;
     }
 
+pub due_there : (sizes : Sizes) (a : About) (v : SeatView) (c : CanStep sizes a v) → DueOn v.sizes c.among.words (turning a v.mind.view)
+due_there sizes a v c = due_on sizes a v c.among.words c.among.views c.among.number c c.among.held c.among.seated
+
 -- so that step is allowed
-due_allowed : (sizes : Sizes) (v : ProcessView) (d : DueThere sizes v) → StepAllowed sizes (word_at sizes d.words) v
-due_allowed sizes v d =
-    subst (StepAllowed sizes (word_at sizes d.words)) d.here
-    (step_allowed sizes (word_at sizes d.words) d.views d.history d.process d.due.table.shape d.due.table.low d.due.table.meets d.due.busy)
+due_allowed : (sizes : Sizes) (words : List ℕ) (v : ProcessView) → DueOn sizes words v → StepAllowed sizes (word_at sizes words) v
+due_allowed sizes words v d =
+    subst (StepAllowed sizes (word_at sizes words)) d.here
+    (step_allowed sizes (word_at sizes words) d.views d.history d.process d.due.table.shape d.due.table.low d.due.table.meets d.due.busy)
 
 step_due : (sizes : Sizes) (a : About) (v : SeatView) (c : CanStep sizes a v)
-    → StepAllowed v.sizes (word_at v.sizes (due_there sizes a v c).words) (turning a v.mind.view)
-step_due sizes a v c = due_allowed v.sizes (turning a v.mind.view) (due_there sizes a v c)
+    → StepAllowed v.sizes (word_at v.sizes c.among.words) (turning a v.mind.view)
+step_due sizes a v c = due_allowed v.sizes c.among.words (turning a v.mind.view) (due_there sizes a v c)
 
 pub transfer_can_act : (sizes : Sizes) (a : About) (v : SeatView) (t : TransferView) → CanStep sizes a v → Agrees a v t → CanAct sizes t
 transfer_can_act sizes a v t c agrees =
     let w = turning a v.mind.view in
-    let words = word_at v.sizes (due_there sizes a v c).words in
+    let words = word_at v.sizes c.among.words in
     let allowed = can v.sizes words w (is_alone w.calls.way) refl agrees.moves (step_due sizes a v c) in
     subst (λ z. CanAct z t) c.shape (subst (CanAct v.sizes) agrees.same allowed)
 
@@ -108,7 +110,7 @@ going sizes words w false e moves allowed = (subst (CanActCallAt sizes w) (in_mo
 pub transfer_is_going : (sizes : Sizes) (a : About) (v : SeatView) (t : TransferView) → CanStep sizes a v → Agrees a v t → t.next ≢ Rest
 transfer_is_going sizes a v t c agrees =
     let w = turning a v.mind.view in
-    let words = word_at v.sizes (due_there sizes a v c).words in
+    let words = word_at v.sizes c.among.words in
     let goes = going v.sizes words w (is_alone w.calls.way) refl agrees.moves (step_due sizes a v c) in
     subst (λ (u : TransferView). u.next ≢ Rest) agrees.same goes
 

@@ -9,9 +9,11 @@
 mod about;
 mod acting;
 mod facts;
+mod moving;
 mod rule;
 
 pub use about::About;
 pub use acting::act;
 pub use facts::SeatFacts;
+pub use moving::about_of;
 pub use rule::{PoolRule, PoolSeat, PoolTable};
