@@ -19,7 +19,7 @@ use Rattle.pool_table.specs.Turns.{turning, turned}
 use Rattle.pool_table.specs.Views.{SeatView}
 use Rattle.pool_table.specs.Steps.{CanStep, Stepped}
 use Rattle.pool_table.specs.Transfers.{Agrees, transfer_about}
-use Rattle.pool_table.proofs.Places.{keeps_at, store_tells_at}
+use Rattle.pool_table.proofs.Places.{keeps_at, tells_at}
 use Rattle.pool_table.proofs.Transfers.{due_there, transfer_can_act, transfer_acts_next, transfer_steps}
 use Rattle.announce.specs.Stored.{IsToAnnounce, Announces, HasAnnounced, announcement}
 
@@ -85,7 +85,7 @@ pub announce_tells : (a : About) (number_of_seat : ℕ) (v x : SeatView) (proces
 announce_tells a number_of_seat v x process number word met wish c s e learned =
     let t = transfer_about a v in
     let stored = announcement number wish in
-    let tells = store_tells_at v.sizes a number_of_seat (1 + process) v x (Announcement process) word met
+    let tells : Stepped a v word x = tells_at v.sizes a number_of_seat (1 + process) v x (Store (Announcement process) word) met
     (announcement_placed v.sizes process) c (announce_is_next a v process number word wish s e) learned in
     let stepped : Stepped a v stored x = subst (λ w. Stepped a v w x) e tells in
     let mirrors = transfer_steps v.sizes a v x t (met_of v.sizes t stored) stored c (own_agrees a v process number wish s) stepped refl in

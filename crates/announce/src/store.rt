@@ -1,12 +1,11 @@
 // The store of the own announcement.
 ghost use Rattle.std.specs.Prelude.{◌≡◌, ◌+◌, ◌<◌, ◌≤◌, ◌^◌, length};
 ghost use Rattle.word_layout.specs.Names.{table_words};
-ghost use Rattle.word_layout.specs.Packing.{announced_word};
 ghost use Rattle.word_layout.specs.declared.announced.Wish.TheVariants.{Take, Give};
 ghost use Rattle.word_table.specs.Seats.{SameSeat};
 ghost use Rattle.pool_table.specs.Steps.{CanStep};
 ghost use Rattle.pool_table.specs.Transfers.{about_of};
-ghost use Rattle.announce.specs.Stored.{Announces, HasAnnounced};
+ghost use Rattle.announce.specs.Stored.{Announces, HasAnnounced, announcement};
 
 use pool_machine::Call;
 use pool_table::{About, PoolSeat, PoolTable, about_of};
@@ -58,7 +57,8 @@ pub fn announce_give<L: Ledger>(
     announce(&about, process, number, Wish::Give(head), table, seat, steps);
 }
 
-/// Announces the wish of the seat's process, which is to be its transfer of this number: one atomic step.
+/// Announces the wish of the seat's process, which is to be its transfer of this number: one atomic step. It
+/// answers the word that it stored.
 #[inline(always)]
 pub fn announce<L: Ledger>(
     about: &About,
@@ -68,7 +68,7 @@ pub fn announce<L: Ledger>(
     table: &PoolTable,
     seat: &mut PoolSeat,
     steps: &mut Steps<L>,
-)
+) -> u64
     requires seat { seat.old.table ≡ table.now }
     requires words { table.now.words ≡ table_words seat.old.view.sizes }
     requires steps { steps.old + 1 < 2 ^ 64 }
@@ -76,9 +76,11 @@ pub fn announce<L: Ledger>(
     requires announces { Announces about.now seat.old.view process number wish }
     ensures seat { SameSeat seat.old seat.new }
     ensures steps { steps.new ≡ steps.old + 1 }
+    ensures word { result ≡ announcement number wish }
     ensures announced { HasAnnounced about.now seat.old.view number wish seat.new.view }
 {
     let word = Announced { number, wish }.pack();
     // The announcements come right after the state.
     table.store_with(seat, 1 + process, word, about, steps);
+    word
 }

@@ -1,5 +1,5 @@
 -- a running transfer: what its steps make of it and of the seat, and how it is answered
-use Rattle.std.specs.Prelude.{◌≡◌, ℕ, ◌+◌, ◌≤◌}
+use Rattle.std.specs.Prelude.{◌≡◌, ℕ, ◌+◌, ◌≤◌, Bool}
 use Rattle.word_layout.specs.Sizes.{Sizes, transfer_bound}
 use Rattle.word_layout.specs.Packing.{value_of, reply_of}
 use Rattle.word_layout.specs.declared.announced.Wish.{Wish}
@@ -9,6 +9,7 @@ use Rattle.transfer_machine.specs.Machine.{met_of, begun}
 use Rattle.transfer_machine.specs.Opening.{opening_transfer}
 use Rattle.transfer_machine.specs.declared.stage.NextStep.{NextStep}
 use Rattle.transfer_machine.specs.declared.stage.NextStep.TheVariants.{Rest, Announce, Try, LoadFinalState, LoadReply}
+use Rattle.transfer_machine.specs.declared.stage.TryStep.{TryStep}
 use Rattle.transfer_machine.specs.declared.transfer.TransferView.{TransferView}
 use Rattle.pool_invariant.specs.StepCount.{steps_before}
 use Rattle.pool_table.specs.declared.about.About.{About}
@@ -43,6 +44,10 @@ progress_at Announce word = Going
 progress_at (Try second step) word = Going
 progress_at LoadFinalState word = Going
 progress_at LoadReply word = ended_as (reply_of (value_of word))
+
+-- the next step of a transfer is this one of one of its tries
+abbrev pub IsInTry : TransferView → TryStep → Type 0
+IsInTry t step = (second : Bool) × (t.next ≡ Try second step)
 
 -- the seat and its transfer made the machine's next step together, on this word, and the answer is by it
 pub record MadeStepOn (sizes : Sizes) (about : About) (v : SeatView) (t : TransferView) (x : SeatView) (u : TransferView)

@@ -5,10 +5,11 @@ ghost use Rattle.word_layout.specs.Sizes.{blocks};
 ghost use Rattle.word_layout.specs.declared.announced.Wish.TheVariants.{Take, Give};
 ghost use Rattle.word_table.specs.Seats.{SameSeat};
 ghost use Rattle.transfer_machine.specs.declared.stage.NextStep.TheVariants.{Rest};
-ghost use Rattle.pool_table.specs.Steps.{CanStep};
+ghost use Rattle.pool_table.specs.Steps.{CanStep, Stepped};
 ghost use Rattle.pool_table.specs.Transfers.{Agrees, about_of};
-ghost use Rattle.batch_stack.specs.Running.{Running, MadeStep, ComesNearer, opened, wishing};
+ghost use Rattle.batch_stack.specs.Running.{Running, MadeStep, ComesNearer, IsInTry, opened, wishing};
 
+use announce::{announce, load_announcement};
 use crate::progress::{Progress, progress_at};
 use pool_machine::Call;
 use pool_model::NoMemory;
@@ -16,7 +17,8 @@ use pool_table::{About, PoolSeat, PoolTable, about_of, act};
 use std::alloc::Global;
 use std::marker::Model;
 use step_counter::{Ledger, Steps};
-use transfer_machine::TransferView;
+use transfer_machine::{NextStep, TransferView, TryStep};
+use versioned_records::{load_record_word, store_record_word};
 use word_layout::{Shape, Wish};
 
 /// The transfers of one process, one after the other.
@@ -95,7 +97,7 @@ impl Transfer {
     }
 }
 
-/// Makes the next step of a process's part of the transfers.
+/// Makes the next step of a process's part of the transfers, and answers how far it is.
 fn step_part<L: Ledger>(
     view: &mut TransferView,
     shape: &Shape,
@@ -115,8 +117,84 @@ fn step_part<L: Ledger>(
     ensures nearer { ComesNearer shape.now view.old view.new result }
 {
     let next = view.next;
-    let action = view.action(shape);
-    let word = act(about, action, shape, table, seat, steps);
+    let word = make_step(view, shape, about, table, seat, steps);
     view.meet(shape, word);
     progress_at(next, word)
+}
+
+/// Makes that step on its word, and answers the word that it met; of a store, the one that it left.
+fn make_step<L: Ledger>(
+    view: &TransferView,
+    shape: &Shape,
+    about: &About,
+    table: &PoolTable,
+    seat: &mut PoolSeat,
+    steps: &mut Steps<L>,
+) -> u64
+    requires seat { seat.old.table ≡ table.now }
+    requires words { table.now.words ≡ table_words shape.now }
+    requires steps { steps.old + 1 < 2 ^ 64 }
+    requires can { CanStep shape.now about.now seat.old.view }
+    requires agrees { Agrees about.now seat.old.view view.now }
+    ensures seat { SameSeat seat.old seat.new }
+    ensures steps { steps.new ≡ steps.old + 1 }
+    ensures step { Stepped about.now seat.old.view result seat.new.view }
+{
+    match view.next {
+        NextStep::Announce => announce(
+            about,
+            view.number,
+            view.age + 1,
+            view.wish,
+            table,
+            seat,
+            steps,
+        ),
+        NextStep::Try { step, .. } => make_try_step(view, step, shape, about, table, seat, steps),
+        NextStep::Rest | NextStep::LoadFinalState | NextStep::LoadReply => {
+            act(about, view.action(shape), shape, table, seat, steps)
+        }
+    }
+}
+
+/// The same of a step of a try.
+fn make_try_step<L: Ledger>(
+    view: &TransferView,
+    step: TryStep,
+    shape: &Shape,
+    about: &About,
+    table: &PoolTable,
+    seat: &mut PoolSeat,
+    steps: &mut Steps<L>,
+) -> u64
+    requires seat { seat.old.table ≡ table.now }
+    requires words { table.now.words ≡ table_words shape.now }
+    requires steps { steps.old + 1 < 2 ^ 64 }
+    requires can { CanStep shape.now about.now seat.old.view }
+    requires agrees { Agrees about.now seat.old.view view.now }
+    requires step { IsInTry view.now step }
+    ensures seat { SameSeat seat.old seat.new }
+    ensures steps { steps.new ≡ steps.old + 1 }
+    ensures step { Stepped about.now seat.old.view result seat.new.view }
+{
+    let loaded = &view.loaded;
+    match step {
+        TryStep::LoadRecordWord { index } => {
+            let (tag, row) = (loaded.tag(), loaded.row());
+            load_record_word(shape, about, tag, row, index, table, seat, steps).word
+        }
+        TryStep::LoadAnnouncement { process } => {
+            load_announcement(shape, about, process, table, seat, steps)
+        }
+        TryStep::StoreRecordWord { index } => {
+            let value = view.draft.value(shape.processes(), index);
+            let (tag, row) = (loaded.tag() + 1, view.next_record);
+            store_record_word(shape, about, tag, row, index, value, table, seat, steps).word
+        }
+        TryStep::LoadState
+        | TryStep::LoadCoveredSlot { .. }
+        | TryStep::ExchangeSlot { .. }
+        | TryStep::LoadPoppedSlot { .. }
+        | TryStep::ExchangeState => act(about, view.action(shape), shape, table, seat, steps),
+    }
 }

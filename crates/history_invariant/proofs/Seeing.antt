@@ -26,27 +26,25 @@ own_parts i place history =
     ∙ filter-append (λ e. process_of e == i) (take place history) (drop place history)
 
 -- a longer beginning of the history has all entries of the process too
-own_of_longer : (history : List Entry) (i place : ℕ) (ledger : Ledger)
-    → SeesBeginning history i ledger
-    → length ledger.seen ≤ place
-    → own (take place history) i ≡ ledger.entries
-own_of_longer history i place ledger s le =
+pub own_of_longer : (history seen : List Entry) (i place : ℕ) → own seen i ≡ own history i → take (length seen) history ≡ seen → length seen ≤ place
+    → own (take place history) i ≡ own history i
+own_of_longer history seen i place has_own begins le =
     sym (no_more (own (take place history) i) (own (drop place history) i) (own history i) (own_parts i place history)
     (omega (
       arith,
-      own_rises i (length ledger.seen) place history le,
-      ap (λ entries. length (own entries i)) s.beginning,
-      ap length s.own_seen,
-      ap length s.own_entries,
+      own_rises i (length seen) place history le,
+      ap (λ entries. length (own entries i)) begins,
+      ap length has_own,
     )))
-    ∙ s.own_entries
 
 -- a process is told what another one has seen
 join_sees : (history : List Entry) (i other : ℕ) (mine theirs : Ledger) → SeesBeginning history i mine → SeesBeginning history other theirs
     → length mine.seen ≤ length theirs.seen → SeesBeginning history i (record mine { seen = theirs.seen })
 join_sees history i other mine theirs s t le = record {
   own_entries = s.own_entries;
-  own_seen = ap (λ entries. own entries i) (sym t.beginning) ∙ own_of_longer history i (length theirs.seen) mine s le;
+  own_seen =
+      ap (λ entries. own entries i) (sym t.beginning)
+      ∙ (own_of_longer history mine.seen i (length theirs.seen) (s.own_seen ∙ sym s.own_entries) s.beginning le ∙ s.own_entries);
   beginning = t.beginning;
 }
 

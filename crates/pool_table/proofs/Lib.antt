@@ -7,4 +7,9 @@ pub mod Turns
 pub mod Stored
 pub mod Steps
 pub mod Places
+pub mod Ready
+pub mod Seating
+pub mod Joins
+pub mod Settled
+pub mod Opened
 pub mod Transfers

@@ -3,17 +3,15 @@ use Rattle.std.proofs.Common.{◌≡◌, ℕ, sym, subst}
 use Rattle.word_rule.specs.Moves.{Keeps, Learned}
 use Rattle.word_layout.specs.Sizes.{Sizes}
 use Rattle.word_layout.specs.Names.{place}
-use Rattle.word_layout.specs.declared.name.WordName.{WordName}
 use Rattle.transfer_machine.specs.Words.{name_of, left_by}
 use Rattle.transfer_machine.specs.declared.action.Action.{Action}
-use Rattle.transfer_machine.specs.declared.action.Action.TheVariants.{Store}
 use Rattle.interleaving_core.specs.Steps.{next_action}
 use Rattle.pool_table.specs.declared.about.About.{About}
 use Rattle.pool_table.specs.Views.{SeatView}
 use Rattle.pool_table.specs.Rule.{Holds}
 use Rattle.pool_table.specs.Turns.{turning, turned}
-use Rattle.pool_table.specs.Steps.{CanStep, Stepped}
-use Rattle.pool_table.proofs.Steps.{action_keeps, action_tells, store_tells}
+use Rattle.pool_table.specs.Steps.{CanStep, answered, Stepped}
+use Rattle.pool_table.proofs.Steps.{action_keeps, action_tells}
 
 pub keeps_at : (sizes : Sizes) (a : About) (number at : ℕ) (v : SeatView) (action : Action) → at ≡ place sizes (name_of action)
     → CanStep sizes a v → action ≡ next_action sizes (turning a v.mind.view) → Keeps Holds number v at (left_by action) (turned a)
@@ -22,13 +20,7 @@ keeps_at sizes a number at v action placed can is =
 
 pub tells_at : (sizes : Sizes) (a : About) (number at : ℕ) (v x : SeatView) (action : Action) (met : ℕ)
     → at ≡ place sizes (name_of action) → CanStep sizes a v → action ≡ next_action sizes (turning a v.mind.view)
-    → Learned Holds (turned a) number at (left_by action) v met x → Stepped a v met x
+    → Learned Holds (turned a) number at (left_by action) v met x → Stepped a v (answered action met) x
 tells_at sizes a number at v x action met placed can is learned =
     action_tells sizes a number v x action met can is
     (subst (λ n. Learned Holds (turned a) number n (left_by action) v met x) placed learned)
-
-pub store_tells_at : (sizes : Sizes) (a : About) (number at : ℕ) (v x : SeatView) (name : WordName) (stored met : ℕ)
-    → at ≡ place sizes name → CanStep sizes a v → Store name stored ≡ next_action sizes (turning a v.mind.view)
-    → Learned Holds (turned a) number at (left_by (Store name stored)) v met x → Stepped a v stored x
-store_tells_at sizes a number at v x name stored met placed can is learned =
-    store_tells sizes a v x name stored met can.shape is (tells_at sizes a number at v x (Store name stored) met placed can is learned)

@@ -1,12 +1,11 @@
 -- what a store makes of its process's view is the same whatever word was there
-use Rattle.std.proofs.Common.{◌≡◌, ℕ, Bool, true, false, refl, sym, ap, ◌∙◌, subst, arith}
+use Rattle.std.proofs.Common.{◌≡◌, ℕ, Bool, true, false, refl, sym, ap, ◌∙◌}
 use Rattle.std.specs.Prelude.{Option, None, Some}
 use Rattle.std.proofs.lemmas.Bool.{false≢true}
 use Rattle.word_layout.specs.Sizes.{Sizes}
 use Rattle.word_layout.specs.declared.name.WordName.{WordName}
 use Rattle.transfer_machine.specs.Machine.{try_action, action_at, action_of, met_in_try, met_at, CanMeetInTry, CanMeetAt}
-use Rattle.transfer_machine.specs.declared.action.Action.{Action}
-use Rattle.transfer_machine.specs.declared.action.Action.TheVariants.{Load, Store}
+use Rattle.transfer_machine.specs.declared.action.Action.TheVariants.{Store}
 use Rattle.transfer_machine.specs.declared.stage.NextStep.{NextStep}
 use Rattle.transfer_machine.specs.declared.stage.NextStep.TheVariants.{Rest, Announce, Try, LoadFinalState, LoadReply}
 use Rattle.transfer_machine.specs.declared.stage.TryStep.{TryStep}

@@ -1,5 +1,5 @@
 -- every step of every seat keeps the rule
-use Rattle.std.proofs.Common.{◌≡◌, ◌≢◌, ℕ, ◌+◌, ◌<◌, ◌==◌, true, List, ◌++◌, length, set, refl, sym, ap, ◌∙◌, subst, inl, inr, arith}
+use Rattle.std.proofs.Common.{◌≡◌, ◌≢◌, ℕ, ◌<◌, true, List, ◌++◌, set, refl, sym, ap, ◌∙◌, subst, inl, inr, arith}
 use Rattle.std.specs.Prelude.{slice_set}
 use Rattle.std.proofs.lemmas.Bool.{cases_eq}
 use mathlib.Core.Option.{some}
@@ -22,9 +22,9 @@ use Rattle.pool_table.specs.declared.about.About.TheVariants as about
 use Rattle.pool_table.specs.Minds.{Mind, number_of, known_in, SeesOwn}
 use Rattle.pool_table.specs.Views.{SeatView, longest}
 use Rattle.pool_table.specs.Rule.{Minds, views_of, MindsHold, Numbered, Holds}
-use Rattle.pool_table.specs.Turns.{turning, words_known_after, mind_stepped, mind_after, turned, MayTurn}
+use Rattle.pool_table.specs.Turns.{turning, mind_stepped, mind_after, turned, MayTurn}
 use Rattle.pool_table.proofs.Data.{own_data_after, other_data_after}
-use Rattle.pool_table.proofs.Due.{views_move_on, with_view, begun_minds, mind_number, step_is_due, begun_here}
+use Rattle.pool_table.proofs.Due.{views_move_on, with_view, begun_minds, step_is_due, begun_here}
 use Rattle.pool_table.proofs.Entries.{sees_own_after, sees_on, one_sees_all_after}
 use Rattle.pool_table.proofs.Numbered.{moved, moved_here, moved_elsewhere, own_mind_is_seated, step_keeps_numbered}
 use Rattle.pool_table.proofs.Seen.{longest_is_history}
@@ -54,7 +54,8 @@ module _ (sizes : Sizes) (words : List ℕ) (minds : Minds) (history : List Entr
       (λ o mind. DataHolds sizes (word_at sizes (words_after sizes words v)) (grip (own (history_after sizes words v history) o))
       (known_in mind.known))
       sizes.processes i (mind_stepped sizes words views v (minds i)) minds (rw here at mine)
-      (λ o lo ne. let theirs = other_data_after sizes words begun history i o (known_in (minds o).known) due lo ne (holds.data_words o lo) in
+      (λ o lo ne.
+      let theirs = other_data_after sizes words begun history i o (known_in (minds o).known) due lo ne (holds.data_words o lo) in
       rw here at theirs)
 
   pub minds_stepped : MindsHold sizes (words_after sizes words v) (moved i (mind_stepped sizes words views v (minds i)) minds)
@@ -85,7 +86,8 @@ mind_after_is (about.Alone wish) sizes words views mind = refl
 mind_after_is (about.InCall call) sizes words views mind = refl
 
 -- what the rule says of a seat's process: its mind is the one that the rule has for its number
-pub record IsSeat (sizes : Sizes) (words : List ℕ) (minds : Minds) (history : List Entry) (views : List SeatView) (v : SeatView) : Type 0 where
+pub record IsSeat (sizes : Sizes) (words : List ℕ) (minds : Minds) (history : List Entry) (views : List SeatView) (v : SeatView) : Type 0
+  where
   pub holds : MindsHold sizes words minds history
   pub numbered : Numbered sizes minds views
   pub here : minds (number_of v.mind) ≡ v.mind

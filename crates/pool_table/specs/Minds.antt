@@ -18,7 +18,7 @@ abbrev pub known_in : List KnownWord → Known
 known_in [] = λ b k. None
 known_in (word ∷ more) = λ b k. if b == word.block && (k == word.index) then Some word.value else known_in more b k
 
--- what is known of a process: the machine's view, what it has seen of the one history, the data words that it knows, and how many steps it made
+-- what is known of a process: the machine's view, what it has seen of the one history, the data words that it knows, its number of steps
 pub record Mind : Type 0 where
   pub view : ProcessView
   pub seen : List Entry

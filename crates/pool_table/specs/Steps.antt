@@ -1,25 +1,25 @@
 -- one step of a seat: what it asks, and what it tells
-use Rattle.std.specs.Prelude.{◌≡◌, ℕ, ◌+◌, true, false, Some, List, [], ◌∷◌, ◌++◌, length, take}
+use Rattle.std.specs.Prelude.{◌≡◌, ℕ, ◌+◌, true, false, Some, List, [], ◌∷◌, ◌++◌, length, take, slice_set}
 use mathlib.Core.Option.{some}
 use lib.ListN.{get_elem?}
 use Rattle.word_rule.specs.Moves.{IsAmong}
 use Rattle.word_layout.specs.Sizes.{Sizes}
-use Rattle.word_layout.specs.Names.{word_at}
-use Rattle.word_layout.specs.declared.name.WordName.{WordName}
 use Rattle.word_layout.specs.declared.name.WordName.TheVariants.{Data}
 use Rattle.pool_model.specs.declared.entry.Entry.{Entry}
-use Rattle.transfer_machine.specs.declared.action.Action.TheVariants.{Load}
+use Rattle.transfer_machine.specs.declared.action.Action.{Action}
+use Rattle.transfer_machine.specs.declared.action.Action.TheVariants.{Load, Store, Exchange}
 use Rattle.transfer_machine.specs.Machine.{CanMeet}
 use Rattle.pool_machine.specs.Pools.{CanMeetPool}
 use Rattle.pool_machine.specs.Ready.{CanMeetCall}
 use Rattle.pool_machine.specs.declared.view.ProcessView.{ProcessView}
 use Rattle.interleaving_core.specs.Runs.{entries_of}
+use Rattle.interleaving_core.specs.StepLaws.{word_met, words_after}
 use Rattle.interleaving_core.specs.Steps.{is_alone, next_action, next_met, next_answer}
 use Rattle.pool_table.specs.declared.about.About.{About}
 use Rattle.pool_table.specs.Minds.{number_of, known_in, entries_in}
 use Rattle.pool_table.specs.Views.{SeatView}
 use Rattle.pool_table.specs.Rule.{Holds}
-use Rattle.pool_table.specs.Turns.{turning, words_known_after, MayTurn}
+use Rattle.pool_table.specs.Turns.{turning, turned, words_known_after, MayTurn}
 
 -- there are words and views that meet the rule, this view among them
 abbrev pub Among : SeatView → Type 0
@@ -49,16 +49,25 @@ abbrev pub SeenAfter : List Entry → List Entry → List Entry → Type 0
 SeenAfter [] old new = new ≡ old
 SeenAfter (entry ∷ more) old new = SeesMore old new (entry ∷ more)
 
--- a load found the word where it stood: there are words and views that meet the rule, this view among them, with that word there
-pub record Stood (v : SeatView) (name : WordName) (word : ℕ) : Type 0 where
+-- what a step answers that met this word: a store the word that it left
+abbrev pub answered : Action → ℕ → ℕ
+answered (Load name) met = met
+answered (Store name word) met = word
+answered (Exchange name old new) met = met
+
+-- a step about this as it was made: on words that met the rule with the old view, and meet it afterwards with the new one
+pub record MadeOn (about : About) (before : SeatView) (word : ℕ) (after : SeatView) : Type 0 where
   pub words : List ℕ
   pub views : List SeatView
-  pub place : ℕ
+  pub number : ℕ
   pub held : Holds words views
-  pub seated : get_elem? views place ≡ some v
-  pub found : word_at v.sizes words name ≡ word
+  pub seated : get_elem? views number ≡ some before
+  pub answers : word ≡ answered (next_action before.sizes (turning about before.mind.view))
+      (word_met before.sizes words (turning about before.mind.view))
+  pub learned : after ≡ turned about words views before
+  pub kept : Holds (words_after before.sizes words (turning about before.mind.view)) (slice_set views number after)
 
--- the seat made a step about this, which met this word; of its view only the mind moved
+-- the seat made a step about this, which answered this word; of its view only the mind moved
 pub record Stepped (about : About) (before : SeatView) (word : ℕ) (after : SeatView) : Type 0 where
   pub stays : after ≡ record before { mind = after.mind }
   -- its process is the same, whatever it began
@@ -73,9 +82,8 @@ pub record Stepped (about : About) (before : SeatView) (word : ℕ) (after : Sea
   -- a load of a data word that its process knows answers that value
   pub reads : (block index value : ℕ) → next_action before.sizes (turning about before.mind.view) ≡ Load (Data block index)
       → known_in before.mind.known block index ≡ Some value → word ≡ value
-  -- and a load found its word in the table
-  pub stood : (name : WordName) → next_action before.sizes (turning about before.mind.view) ≡ Load name → Stood before name word
   -- what the code needs of the word
   pub can_meet : CanMeetNext before.sizes (turning about before.mind.view) word
-  -- the new view is one that meets the rule
+  -- the words and the other views as they were, and so the new view is among some that meet the rule
+  pub made : MadeOn about before word after
   pub among : Among after

@@ -21,7 +21,13 @@ spent = record { sizes = no_sizes; of_process = false; mind = opening_mind no_si
 
 -- the seat of a process at the opening
 abbrev pub seat_of_process : Sizes → ℕ → ℕ → SeatView
-seat_of_process sizes process seats = record { sizes = sizes; of_process = true; mind = opening_mind sizes process; made = seats; taken = [] }
+seat_of_process sizes process seats = record {
+  sizes = sizes;
+  of_process = true;
+  mind = opening_mind sizes process;
+  made = seats;
+  taken = [];
+}
 
 -- the first seat is that of process 0
 abbrev pub first_seat : Sizes → SeatView

@@ -9,11 +9,16 @@
 mod about;
 mod acting;
 mod facts;
+pub mod laws;
 mod moving;
+mod opening;
 mod rule;
+mod seats;
 
 pub use about::About;
 pub use acting::act;
 pub use facts::SeatFacts;
 pub use moving::about_of;
+pub use opening::open_table;
 pub use rule::{PoolRule, PoolSeat, PoolTable};
+pub use seats::{join_seats, next_seat};

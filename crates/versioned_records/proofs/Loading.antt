@@ -11,6 +11,7 @@ use Rattle.word_layout.specs.Packing.{tag_of, value_of}
 use Rattle.word_layout.specs.declared.name.WordName.TheVariants.{State, RecordWord}
 use Rattle.transfer_machine.specs.Loads.{loaded_tag, loaded_record, record_value, overlay_length}
 use Rattle.transfer_machine.specs.Machine.{action_at, action_of, met_at, met_of, record_word_loaded, CanActAt}
+use Rattle.transfer_machine.specs.Words.{met_word}
 use Rattle.transfer_machine.specs.declared.action.Action.TheVariants.{Load}
 use Rattle.transfer_machine.specs.declared.loaded.Loaded.{Loaded}
 use Rattle.transfer_machine.specs.declared.stage.TryStep.TheVariants.{LoadAnnouncement, LoadCoveredSlot}
@@ -19,13 +20,14 @@ use Rattle.transfer_invariant.specs.Memory.{Words, States, state_tag, current_re
 use Rattle.transfer_invariant.specs.Progress.{has_loaded, has_loaded_state, loaded_words, loaded_in_try}
 use Rattle.transfer_invariant.specs.Records.{CurrentRecord, LoadedState}
 use Rattle.pool_machine.specs.declared.view.ProcessView.{ProcessView}
+use Rattle.interleaving_core.specs.StepLaws.{word_met}
 use Rattle.interleaving_core.specs.Steps.{next_action}
 use Rattle.pool_table.specs.declared.about.About.{About}
 use Rattle.pool_table.specs.Minds.{Mind}
 use Rattle.pool_table.specs.Rule.{Holds}
 use Rattle.pool_table.specs.Turns.{turning}
 use Rattle.pool_table.specs.Views.{SeatView}
-use Rattle.pool_table.specs.Steps.{CanStep, Stood, Stepped}
+use Rattle.pool_table.specs.Steps.{CanStep, Stepped, answered}
 use Rattle.pool_table.specs.Transfers.{Agrees, transfer_about}
 use Rattle.pool_table.proofs.Transfers.{DueOn, due_on, transfer_can_act, transfer_acts_next, transfer_steps}
 use Rattle.pool_table.proofs.Turns.{seat_of}
@@ -167,28 +169,31 @@ all_has_state x tag e all = record {
 -- the load of a record word, as it happened
 module _ (sizes : Sizes) (a : About) (v x : SeatView) (tag row index word : ℕ) (c : CanStep sizes a v)
     (l : LoadsWord a v tag row index) (s : Stepped a v word x) where
-  stood : Stood v (RecordWord row index) word
-  stood = s.stood (RecordWord row index) (sym (load_is_next v.sizes a v tag row index l))
+  found : word_at v.sizes s.made.words (RecordWord row index) ≡ word
+  found =
+      let acts = sym (load_is_next v.sizes a v tag row index l) in
+      let met = word_met v.sizes s.made.words (turning a v.mind.view) in
+      sym (s.made.answers ∙ (ap (λ action. answered action met) acts ∙ ap (met_word v.sizes s.made.words) acts))
 
-  due : DueOn v.sizes stood.words (turning a v.mind.view)
-  due = due_on sizes a v stood.words stood.views stood.place c stood.held stood.seated
+  due : DueOn v.sizes s.made.words (turning a v.mind.view)
+  due = due_on sizes a v s.made.words s.made.views s.made.number c s.made.held s.made.seated
 
   within : index < record_words v.sizes
   within = subst (λ z. index < record_words z) (sym c.shape) (load_within sizes a v tag row index c l)
 
   pub tag_never_lower : tag ≤ tag_of word
-  tag_never_lower = stood_low v.sizes stood.words (turning a v.mind.view) tag row index word due l.loads within stood.found
+  tag_never_lower = stood_low v.sizes s.made.words (turning a v.mind.view) tag row index word due l.loads within found
 
   pub moved_on : read_step sizes tag index word ≡ Moved → HadMovedOn v tag
   moved_on e =
       let above = moved_tests (nat_lt tag (tag_of word)) (index + 1 == record_words sizes) e in
       record {
-        words = stood.words;
-        views = stood.views;
-        place = stood.place;
-        held = stood.held;
-        seated = stood.seated;
-        above = stood_past v.sizes stood.words (turning a v.mind.view) tag row index word due l.loads within stood.found
+        words = s.made.words;
+        views = s.made.views;
+        place = s.made.number;
+        held = s.made.held;
+        seated = s.made.seated;
+        above = stood_past v.sizes s.made.words (turning a v.mind.view) tag row index word due l.loads within found
             (grind (arith, nat_tests));
       }
 

@@ -8,13 +8,13 @@ use Rattle.transfer_machine.specs.Loads.{loaded_tag}
 use Rattle.transfer_machine.specs.Machine.{action_at, action_of, CanActAt, CanStore}
 use Rattle.transfer_machine.specs.declared.action.Action.TheVariants.{Store}
 use Rattle.transfer_machine.specs.declared.transfer.TransferView.{TransferView}
+use Rattle.interleaving_core.specs.StepLaws.{word_met}
 use Rattle.interleaving_core.specs.Steps.{next_action}
 use Rattle.pool_table.specs.declared.about.About.{About}
 use Rattle.pool_table.specs.Turns.{turning}
 use Rattle.pool_table.specs.Views.{SeatView}
-use Rattle.pool_table.specs.Steps.{CanStep, Stepped}
+use Rattle.pool_table.specs.Steps.{CanStep, Stepped, answered}
 use Rattle.pool_table.specs.Transfers.{Agrees, transfer_about}
-use Rattle.pool_table.proofs.Steps.{store_tells}
 use Rattle.pool_table.proofs.Transfers.{transfer_can_act, transfer_acts_next}
 use Rattle.versioned_records.specs.Stores.{IsToStore, StoresWord}
 
@@ -52,8 +52,10 @@ store_fits sizes a v tag row index value c s =
     }
 
 -- the step left that word
-pub store_leaves : (sizes : Sizes) (a : About) (v x : SeatView) (tag row index value met : ℕ) → CanStep sizes a v
-    → StoresWord sizes a v tag row index value → Stepped a v met x → Stepped a v (tagged tag value) x
-store_leaves sizes a v x tag row index value met c s stepped =
-    store_tells sizes a v x (RecordWord row index) (tagged tag value) met c.shape
-    (store_is_next sizes a v tag row index value (tagged tag value) s refl) stepped
+pub store_leaves : (sizes : Sizes) (a : About) (v x : SeatView) (tag row index value word answer : ℕ) → CanStep sizes a v
+    → StoresWord sizes a v tag row index value → word ≡ tagged tag value → Stepped a v answer x → Stepped a v word x
+store_leaves sizes a v x tag row index value word answer c s e stepped =
+    let acts : next_action v.sizes (turning a v.mind.view) ≡ Store (RecordWord row index) word =
+    ap (λ z. next_action z (turning a v.mind.view)) c.shape ∙ sym (store_is_next sizes a v tag row index value word s e) in
+    let met = word_met v.sizes stepped.made.words (turning a v.mind.view) in
+    subst (λ w. Stepped a v w x) (stepped.made.answers ∙ ap (λ action. answered action met) acts) stepped

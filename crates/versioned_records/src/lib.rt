@@ -11,4 +11,4 @@ mod store;
 
 pub use load::{LoadedWord, ReadStep, load_record_word};
 pub use pool_table::{PoolSeat, PoolTable};
-pub use store::{WriteStep, store_record_word};
+pub use store::{StoredWord, WriteStep, store_record_word};

@@ -20,6 +20,13 @@ pub enum WriteStep {
     Written,
 }
 
+/// A record word that was stored, and how far its record is written.
+#[derive(Clone, Copy, Debug)]
+pub struct StoredWord {
+    pub word: u64,
+    pub write: WriteStep,
+}
+
 /// Stores a word of the next record of the seat's process, with this tag and this value: one atomic step.
 #[inline(always)]
 pub fn store_record_word<L: Ledger>(
@@ -32,7 +39,7 @@ pub fn store_record_word<L: Ledger>(
     table: &PoolTable,
     seat: &mut PoolSeat,
     steps: &mut Steps<L>,
-) -> WriteStep
+) -> StoredWord
     requires seat { seat.old.table ≡ table.now }
     requires words { table.now.words ≡ table_words shape.now }
     requires steps { steps.old + 1 < 2 ^ 64 }
@@ -40,13 +47,17 @@ pub fn store_record_word<L: Ledger>(
     requires stores { StoresWord shape.now about.now seat.old.view tag row index value }
     ensures seat { SameSeat seat.old seat.new }
     ensures steps { steps.new ≡ steps.old + 1 }
-    ensures step { Stepped about.now seat.old.view (tagged tag value) seat.new.view }
-    ensures written { result ≡ write_step shape.now index }
+    ensures word { result.word ≡ tagged tag value }
+    ensures step { Stepped about.now seat.old.view result.word seat.new.view }
+    ensures written { result.write ≡ write_step shape.now index }
 {
     let name = WordName::RecordWord { row, index };
     let word = Tagged::pack(tag, value);
     act(about, Action::Store { name, word }, shape, table, seat, steps);
-    write_step(shape, index)
+    StoredWord {
+        word,
+        write: write_step(shape, index),
+    }
 }
 
 /// How far the writing is once that word was stored.

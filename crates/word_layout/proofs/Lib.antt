@@ -3,3 +3,4 @@ pub mod Limits
 pub mod Packed
 pub mod Placed
 pub mod Refusals
+pub mod Starts

@@ -1,4 +1,5 @@
 pub mod Faults
+pub mod Kept
 pub mod Names
 pub mod Packing
 pub mod Sizes

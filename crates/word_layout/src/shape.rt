@@ -8,7 +8,8 @@ mod places;
 use crate::fault::ShapeFault;
 use std::marker::Model;
 
-/// The numbers of a pool, all within their limits. Contracts see them as `Sizes`.
+/// The numbers of a pool, all within their limits, and where in its table the slots, the next words and the
+/// data words begin, which follows from them. Contracts see the numbers alone, as `Sizes`.
 #[derive(Clone, Copy, Debug, PartialEq, Eq, Hash)]
 pub struct Shape {
     processes: u32,
@@ -16,28 +17,22 @@ pub struct Shape {
     words: u32,
     quantum: u32,
     length: u32,
+    first_slot: u32,
+    first_next: u32,
+    first_data: u32,
 }
 
 impl Model for Shape {
-    ghost use Rattle.word_layout.specs.Sizes.{Sizes, IsShape};
+    ghost use Rattle.word_layout.specs.Sizes.{Sizes};
 
     ghost Value = { Sizes };
 
-    ghost view = { λ shape. record {
-      processes = shape.processes;
-      batches = shape.batches;
-      words = shape.words;
-      quantum = shape.quantum;
-      length = shape.length;
-    } };
+    ghost use Rattle.word_layout.specs.Names.{slots_start, nexts_start, data_start};
+    ghost use Rattle.word_layout.specs.Kept.{sizes_of, KeepsItsPlaces};
 
-    ghost invariant = { λ shape. IsShape (record {
-      processes = shape.processes;
-      batches = shape.batches;
-      words = shape.words;
-      quantum = shape.quantum;
-      length = shape.length;
-    }) };
+    ghost view = { sizes_of };
+
+    ghost invariant = { KeepsItsPlaces };
 
     ghost inverse = { λ sizes. record {
       processes = sizes.processes;
@@ -45,11 +40,26 @@ impl Model for Shape {
       words = sizes.words;
       quantum = sizes.quantum;
       length = sizes.length;
+      first_slot = slots_start sizes;
+      first_next = nexts_start sizes;
+      first_data = data_start sizes;
+    } };
+
+    ghost inverse_ok = { λ shape keeps i. record {
+      processes = shape.processes;
+      batches = shape.batches;
+      words = shape.words;
+      quantum = shape.quantum;
+      length = shape.length;
+      first_slot = keeps.first_slot i;
+      first_next = keeps.first_next i;
+      first_data = keeps.first_data i;
     } };
 }
 
 impl Shape {
     ghost use Rattle.word_layout.specs.Sizes.{Sizes, IsShape, blocks, limits_of, transfer_bound};
+    ghost use Rattle.word_layout.specs.Kept.{sizes};
     ghost use Rattle.pool_model.specs.Limits.{slack};
 
     /// The most processes of a pool.
@@ -111,16 +121,31 @@ impl Shape {
         if words > Shape::MOST_WORDS {
             return Err(ShapeFault::WideBlock);
         }
-        Ok(Shape {
+        Ok(Shape::laid_out(processes, batches, words, quantum, length))
+    }
+
+    /// The shape of these numbers, with the places where its words begin.
+    #[tactic(auto, unfolding(crate::specs::Sizes::blocks))]
+    fn laid_out(processes: u32, batches: u32, words: u32, quantum: u32, length: u32) -> Shape
+        requires { IsShape (sizes processes batches words quantum length) }
+        ensures { result ≡ sizes processes batches words quantum length }
+    {
+        let first_slot = 1 + processes + (2 * processes + 1) * (2 * processes + 2);
+        let first_next = first_slot + batches;
+        Shape {
             processes,
             batches,
             words,
             quantum,
             length,
-        })
+            first_slot,
+            first_next,
+            first_data: first_next + batches * length,
+        }
     }
 
     /// How many processes share the pool, 1 to 32.
+    #[inline]
     pub fn processes(&self) -> u32
         ensures value { result ≡ self.now.processes }
         ensures shape { IsShape self.now }
@@ -129,6 +154,7 @@ impl Shape {
     }
 
     /// How many batches the blocks form, at least two a process.
+    #[inline]
     pub fn batches(&self) -> u32
         ensures value { result ≡ self.now.batches }
         ensures shape { IsShape self.now }
@@ -137,6 +163,7 @@ impl Shape {
     }
 
     /// How many data words a block has, 0 to 8.
+    #[inline]
     pub fn words(&self) -> u32
         ensures value { result ≡ self.now.words }
         ensures shape { IsShape self.now }
@@ -145,6 +172,7 @@ impl Shape {
     }
 
     /// How many steps of a transfer one call makes at most: 1, 2, 4, 8 or 16.
+    #[inline]
     pub fn quantum(&self) -> u32
         ensures value { result ≡ self.now.quantum }
         ensures shape { IsShape self.now }
@@ -153,6 +181,7 @@ impl Shape {
     }
 
     /// How many blocks a batch has.
+    #[inline]
     pub fn length(&self) -> u32
         ensures value { result ≡ self.now.length }
         ensures shape { IsShape self.now }
@@ -162,6 +191,7 @@ impl Shape {
 
     /// How many blocks the pool has, at most 2^22.
     #[tactic(auto, unfolding(crate::specs::Sizes::blocks))]
+    #[inline]
     pub fn blocks(&self) -> u32
         ensures value { result ≡ blocks self.now }
         ensures shape { IsShape self.now }

@@ -17,6 +17,7 @@ impl Shape {
     }
 
     /// The place of the word with this name.
+    #[inline(always)]
     pub fn place(&self, name: WordName) -> u32
         requires { InRange self.now name }
         ensures place { result ≡ place self.now name }
@@ -34,6 +35,7 @@ impl Shape {
 
     /// The place of the state.
     #[tactic(auto, unfolding(crate::specs::Names::place))]
+    #[inline(always)]
     pub fn state_place(&self) -> u32
         ensures place { result ≡ place self.now WordName.State }
         ensures within { result < table_words self.now }
@@ -43,6 +45,7 @@ impl Shape {
 
     /// The place of the announcement of a process.
     #[tactic(auto, unfolding(crate::specs::Names::place))]
+    #[inline(always)]
     pub fn announce_place(&self, process: u32) -> u32
         requires { process < self.now.processes }
         ensures place { result ≡ place self.now (WordName.Announcement process) }
@@ -54,6 +57,7 @@ impl Shape {
 
     /// The place of word `index` of record `row`.
     #[tactic(auto, unfolding(crate::specs::Names::place))]
+    #[inline(always)]
     pub fn record_place(&self, row: u32, index: u32) -> u32
         requires row { row < records self.now }
         requires index { index < record_words self.now }
@@ -65,6 +69,7 @@ impl Shape {
 
     /// The place of a slot.
     #[tactic(auto, unfolding(crate::specs::Names::place))]
+    #[inline(always)]
     pub fn slot_place(&self, slot: u32) -> u32
         requires { slot < self.now.batches }
         ensures place { result ≡ place self.now (WordName.Slot slot) }
@@ -75,6 +80,7 @@ impl Shape {
 
     /// The place of the next word of a block.
     #[tactic(auto, unfolding(crate::specs::Names::place))]
+    #[inline(always)]
     pub fn next_place(&self, block: u32) -> u32
         requires { block < blocks self.now }
         ensures place { result ≡ place self.now (WordName.Next block) }
@@ -85,6 +91,7 @@ impl Shape {
 
     /// The place of data word `index` of a block.
     #[tactic(auto, unfolding(crate::specs::Names::place))]
+    #[inline(always)]
     pub fn data_place(&self, block: u32, index: u32) -> u32
         requires block { block < blocks self.now }
         requires index { index < self.now.words }
@@ -95,6 +102,7 @@ impl Shape {
     }
 
     /// How many words a record has: the base, the overlay's length, the overlay, and a reply a process.
+    #[inline]
     pub fn record_words(&self) -> u32
         ensures words { result ≡ record_words self.now }
         ensures small { result ≤ 66 }
@@ -103,31 +111,31 @@ impl Shape {
     }
 
     /// Where the slots begin.
-    #[tactic(auto, unfolding(crate::specs::Names::slots_start))]
+    #[inline]
     fn slots_start(&self) -> u32
         ensures start { result ≡ slots_start self.now }
         ensures small { result < 2 ^ 13 }
         ensures few_batches { self.now.batches ≤ 2 ^ 21 }
     {
-        1 + self.processes + (2 * self.processes + 1) * self.record_words()
+        self.first_slot
     }
 
     /// Where the next words begin.
-    #[tactic(auto, unfolding(crate::specs::Names::nexts_start))]
+    #[inline]
     fn nexts_start(&self) -> u32
         ensures start { result ≡ nexts_start self.now }
         ensures small { result < 2 ^ 22 }
         ensures few_blocks { blocks self.now ≤ most_blocks }
     {
-        self.slots_start() + self.batches
+        self.first_next
     }
 
     /// Where the data words begin.
-    #[tactic(auto, unfolding(crate::specs::Names::data_start))]
+    #[inline]
     fn data_start(&self) -> u32
         ensures start { result ≡ data_start self.now }
         ensures small { result < 2 ^ 23 }
     {
-        self.nexts_start() + self.blocks()
+        self.first_data
     }
 }

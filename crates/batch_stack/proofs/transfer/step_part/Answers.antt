@@ -3,18 +3,15 @@ use Rattle.batch_stack.proofs.Made.{step_is_made}
 use Rattle.batch_stack.proofs.Bounds.{comes_nearer}
 use Rattle.batch_stack.proofs.transfer.step_part.Goals as goal
 
-pub action-action-requires : goal.action-action-requires
-action-action-requires g c = transfer_can_act _ _ _ _ c.requires.can c.requires.agrees
-
 pub meet-requires-clause-act : goal.meet-requires-clause-act
 meet-requires-clause-act g c = transfer_can_act _ _ _ _ c.requires.can c.requires.agrees
 
 pub meet-requires-clause-meet : goal.meet-requires-clause-meet
-meet-requires-clause-meet g c = transfer_can_meet _ _ _ _ _ _ c.requires.can c.requires.agrees c.act-word.ensures.step
+meet-requires-clause-meet g c = transfer_can_meet _ _ _ _ _ _ c.requires.can c.requires.agrees c.make_step-word.ensures
 
 pub returns-clause-step : goal.returns-clause-step
 returns-clause-step g c =
-    step_is_made _ _ _ _ _ _ _ _ c.requires.can c.requires.agrees c.act-word.ensures.step c.meet.ensures c.progress_at.ensures
+    step_is_made _ _ _ _ _ _ _ _ c.requires.can c.requires.agrees c.make_step-word.ensures c.meet.ensures c.progress_at.ensures
 
 pub returns-clause-nearer : goal.returns-clause-nearer
 returns-clause-nearer g c = comes_nearer _ _ _ _ _ _ _ c.requires.can c.requires.agrees c.meet.ensures c.progress_at.ensures

@@ -1,7 +1,7 @@
 use Rattle.std.proofs.Common.{sym, ◌∙◌}
 use Rattle.transfer_machine.specs.declared.action.Action.TheVariants.{Load, Store, Exchange}
 use Rattle.pool_table.proofs.Steps.{action_in_range}
-use Rattle.pool_table.proofs.Places.{keeps_at, tells_at, store_tells_at}
+use Rattle.pool_table.proofs.Places.{keeps_at, tells_at}
 use Rattle.pool_table.proofs.acting.act.Goals as goal
 
 pub place-requires : goal.place-requires
@@ -37,7 +37,7 @@ returns-in-Load-clause-step g c =
 
 pub returns-in-Store-clause-step : goal.returns-in-Store-clause-step
 returns-in-Store-clause-step g c =
-    store_tells_at _ _ _ _ _ _ c.in-Store.name c.in-Store.word _ c.place-in-Store.ensures.place c.requires.can
+    tells_at _ _ _ _ _ _ (Store c.in-Store.name c.in-Store.word) _ c.place-in-Store.ensures.place c.requires.can
     (sym c.in-Store.is ∙ c.requires.action) c.store_with.ensures.step.1
 
 pub returns-in-Ok-clause-step : goal.returns-in-Ok-clause-step

@@ -14,4 +14,4 @@ pub write_step-requires : goal.write_step-requires
 write_step-requires g c = (store_fits _ _ _ _ _ _ _ c.requires.can c.requires.stores).within
 
 pub returns-clause-step : goal.returns-clause-step
-returns-clause-step g c = store_leaves _ _ _ _ _ _ _ _ _ c.requires.can c.requires.stores c.act.ensures.step
+returns-clause-step g c = store_leaves _ _ _ _ _ _ _ _ _ _ c.requires.can c.requires.stores c.pack-word.ensures c.act.ensures.step

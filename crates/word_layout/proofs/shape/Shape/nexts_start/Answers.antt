@@ -1,0 +1,6 @@
+use Rattle.std.proofs.Common.{◌<◌, ◌^◌, subst}
+use Rattle.word_layout.proofs.Starts.{nexts_start_lt}
+use Rattle.word_layout.proofs.shape.Shape.nexts_start.Goals as goal
+
+pub returns-clause-small : goal.returns-clause-small
+returns-clause-small c = subst (λ n. n < 2 ^ 22) c.self.invariant.first_next (nexts_start_lt _ c.self.invariant.is_shape)
