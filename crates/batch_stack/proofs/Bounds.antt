@@ -6,6 +6,7 @@ use Rattle.word_layout.specs.Packing.{value_of, reply_of}
 use Rattle.word_layout.specs.declared.reply.Reply.{Reply}
 use Rattle.word_layout.specs.declared.reply.Reply.TheVariants as reply
 use Rattle.transfer_machine.specs.Machine.{met_of, met_at}
+use Rattle.transfer_machine.specs.Stages.{is_rest}
 use Rattle.transfer_machine.specs.declared.stage.NextStep.{NextStep}
 use Rattle.transfer_machine.specs.declared.stage.NextStep.TheVariants.{Rest, Announce, Try, LoadFinalState, LoadReply}
 use Rattle.transfer_machine.specs.declared.transfer.TransferView.{TransferView}
@@ -18,14 +19,15 @@ use Rattle.pool_invariant.proofs.Ending.{moving_unless_rest, step_left}
 use Rattle.interleaving_core.specs.Steps.{is_alone}
 use Rattle.interleaving_core.proofs.Joins.{keeps, given}
 use Rattle.pool_table.specs.declared.about.About.{About}
+use Rattle.pool_table.specs.declared.about.About.TheVariants as about
 use Rattle.pool_table.specs.Views.{SeatView}
 use Rattle.pool_table.specs.Turns.{turning}
-use Rattle.pool_table.specs.Steps.{CanStep}
+use Rattle.pool_table.specs.Steps.{CanStep, Stepped}
 use Rattle.pool_table.specs.Transfers.{Agrees}
-use Rattle.pool_table.proofs.Transfers.{DueOn, due_there, transfer_is_going}
+use Rattle.pool_table.proofs.Transfers.{DueOn, due_there, transfer_is_going, goes_on_alone}
 use Rattle.batch_stack.specs.declared.progress.Progress.{Progress}
 use Rattle.batch_stack.specs.declared.progress.Progress.TheVariants.{Going, Took, Empty, Gave}
-use Rattle.batch_stack.specs.Running.{ComesNearer, ended_as, progress_at}
+use Rattle.batch_stack.specs.Running.{ComesNearer, GoesOn, ended_as, progress_at}
 
 -- what the invariant says of the place of the next step and of the loaded overlay
 pub record PartFits (sizes : Sizes) (t : TransferView) : Type 0 where
@@ -71,3 +73,16 @@ comes_nearer sizes a v t u word answer c agrees part answered =
       nearer = λ goes. rw part (step_nearer sizes t word t.next fits.index fits.few
           (going_moves sizes t word t.next moving (sym answered ∙ goes)) moving);
     }
+
+-- and so it goes on outside any call
+moving_not_rest : (s : NextStep) → is_moving s ≡ true → is_rest s ≡ false
+moving_not_rest s e = grind arith
+
+pub goes_on : (sizes : Sizes) (a : About) (v x : SeatView) (t u : TransferView) (word : ℕ) (answer : Progress) → CanStep sizes a v
+    → Agrees a v t → Stepped a v word x → u ≡ met_of sizes t word → answer ≡ progress_at t.next word → answer ≡ Going → GoesOn sizes a x u
+goes_on sizes (about.Alone wish) v x t u word answer c agrees s part answered goes =
+    let moving = moving_unless_rest t.next (transfer_is_going sizes (about.Alone wish) v t c agrees) in
+    let on = moving_not_rest (met_of sizes t word).next (going_moves sizes t word t.next moving (sym answered ∙ goes)) in
+    let rest : is_rest u.next ≡ false = ap (λ (z : TransferView). is_rest z.next) part ∙ on in
+    λ next. goes_on_alone sizes wish next v x t u word c agrees s part rest
+goes_on sizes (about.InCall call) v x t u word answer c agrees s part answered goes = tt

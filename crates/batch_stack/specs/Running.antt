@@ -13,8 +13,10 @@ use Rattle.transfer_machine.specs.declared.stage.TryStep.{TryStep}
 use Rattle.transfer_machine.specs.declared.transfer.TransferView.{TransferView}
 use Rattle.pool_invariant.specs.StepCount.{steps_before}
 use Rattle.pool_table.specs.declared.about.About.{About}
+use Rattle.pool_table.specs.declared.about.About.TheVariants.{Alone, InCall}
 use Rattle.pool_table.specs.Views.{SeatView}
-use Rattle.pool_table.specs.Steps.{Stepped}
+use Rattle.pool_table.specs.Steps.{CanStep, Stepped}
+use Rattle.pool_table.specs.Transfers.{Agrees}
 use Rattle.batch_stack.specs.declared.progress.Progress.{Progress}
 use Rattle.batch_stack.specs.declared.progress.Progress.TheVariants.{Going, Took, Empty, Gave}
 
@@ -65,3 +67,8 @@ MadeStep sizes about v t x u answer = (word : ℕ) × MadeStepOn sizes about v t
 pub record ComesNearer (sizes : Sizes) (t u : TransferView) (answer : Progress) : Type 0 where
   pub left : steps_before sizes t + 1 ≤ transfer_bound sizes
   pub nearer : answer ≡ Going → steps_before sizes t + 1 ≤ steps_before sizes u
+
+-- a transfer that has another step goes on outside any call: its process may make that step, whatever wish it is said to begin with
+abbrev pub GoesOn : Sizes → About → SeatView → TransferView → Type 0
+GoesOn sizes (Alone wish) x u = (next : Wish) → CanStep sizes (Alone next) x × Agrees (Alone next) x u
+GoesOn sizes (InCall call) x u = Unit {0}

@@ -7,7 +7,8 @@ ghost use Rattle.word_table.specs.Seats.{SameSeat};
 ghost use Rattle.transfer_machine.specs.declared.stage.NextStep.TheVariants.{Rest};
 ghost use Rattle.pool_table.specs.Steps.{CanStep, Stepped};
 ghost use Rattle.pool_table.specs.Transfers.{Agrees, about_of};
-ghost use Rattle.batch_stack.specs.Running.{Running, MadeStep, ComesNearer, IsInTry, opened, wishing};
+ghost use Rattle.batch_stack.specs.declared.progress.Progress.TheVariants.{Going};
+ghost use Rattle.batch_stack.specs.Running.{Running, MadeStep, ComesNearer, GoesOn, IsInTry, opened, wishing};
 
 use announce::{announce, load_announcement};
 use crate::progress::{Progress, progress_at};
@@ -91,6 +92,7 @@ impl Transfer {
         ensures steps { steps.new ≡ steps.old + 1 }
         ensures step { MadeStep self.old.sizes (about_of call self.old.part.wish) seat.old.view self.old.part seat.new.view self.new.part result }
         ensures nearer { ComesNearer self.old.sizes self.old.part self.new.part result }
+        ensures on { result ≡ Going → GoesOn self.old.sizes (about_of call self.old.part.wish) seat.new.view self.new.part }
     {
         let about = about_of(call, self.view.wish);
         step_part(&mut self.view, &self.shape, &about, table, seat, steps)
@@ -115,6 +117,7 @@ fn step_part<L: Ledger>(
     ensures steps { steps.new ≡ steps.old + 1 }
     ensures step { MadeStep shape.now about.now seat.old.view view.old seat.new.view view.new result }
     ensures nearer { ComesNearer shape.now view.old view.new result }
+    ensures on { result ≡ Going → GoesOn shape.now about.now seat.new.view view.new }
 {
     let next = view.next;
     let word = make_step(view, shape, about, table, seat, steps);

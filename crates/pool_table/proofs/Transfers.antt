@@ -1,26 +1,36 @@
 -- a step of a seat is the step of its process's transfer
 use Rattle.std.proofs.Common.{◌≡◌, ◌≢◌, ℕ, Bool, true, false, List, refl, sym, ap, ◌∙◌, subst, arith}
-use Rattle.std.specs.Prelude.{if◌then◌else◌}
+use Rattle.std.specs.Prelude.{if◌then◌else◌, ◌&&◌}
 use mathlib.Core.Option.{some}
 use lib.ListN.{get_elem?}
 use Rattle.word_layout.specs.Sizes.{Sizes}
 use Rattle.word_layout.specs.Names.{word_at}
+use Rattle.word_layout.specs.declared.announced.Wish.{Wish}
 use Rattle.word_layout.specs.declared.name.WordName.{WordName}
 use Rattle.pool_model.specs.declared.entry.Entry.{Entry}
 use Rattle.transfer_machine.specs.Machine.{action_of, met_of, CanAct, CanMeet}
+use Rattle.transfer_machine.specs.Stages.{is_rest}
 use Rattle.transfer_machine.specs.declared.action.Action.{Action}
+use Rattle.transfer_machine.specs.declared.stage.NextStep.{NextStep}
 use Rattle.transfer_machine.specs.declared.stage.NextStep.TheVariants.{Rest}
 use Rattle.transfer_machine.specs.declared.transfer.TransferView.{TransferView}
+use Rattle.pool_machine.specs.Beginning.{alone_begun}
+use Rattle.pool_machine.specs.Conditions.{may_use_transfers}
 use Rattle.pool_machine.specs.Ready.{CanActCallAt, CanMeetCallAt}
 use Rattle.pool_machine.specs.declared.call.CallStage.{CallStage}
 use Rattle.pool_machine.specs.declared.call.CallStage.TheVariants.{Between, Moving, Own}
+use Rattle.pool_machine.specs.declared.call.Way.{Way}
+use Rattle.pool_machine.specs.declared.call.Way.TheVariants.{Fresh, Alone, Calls}
 use Rattle.pool_machine.specs.declared.view.ProcessView.{ProcessView}
 use Rattle.batch_invariant.specs.Batches.{ProcessViews}
+use Rattle.interleaving_core.specs.Moves.{may_go_alone, moving_view}
 use Rattle.interleaving_core.specs.StepLaws.{StepIsDue}
 use Rattle.interleaving_core.specs.Steps.{is_alone, next_action, next_met}
 use Rattle.interleaving_core.specs.TransferLaws.{moves_transfer, moves_at}
 use Rattle.interleaving_core.proofs.Holds.{StepAllowed, step_allowed}
+use Rattle.interleaving_core.proofs.Standing.{fresh_rests}
 use Rattle.pool_table.specs.declared.about.About.{About}
+use Rattle.pool_table.specs.declared.about.About.TheVariants as about
 use Rattle.pool_table.specs.Minds.{number_of}
 use Rattle.pool_table.specs.Views.{SeatView}
 use Rattle.pool_table.specs.Rule.{Holds, views_of}
@@ -134,3 +144,75 @@ transfer_steps sizes a v x t u word c agrees s e =
     ap (λ (z : ProcessView). z.transfer) s.view
     ∙ (becomes v.sizes w word (is_alone w.calls.way) refl agrees.moves
     ∙ (ap (λ z. met_of v.sizes z word) agrees.same ∙ (ap (λ z. met_of z t word) c.shape ∙ sym e)))
+
+-- a process whose transfer moves outside any call has begun no call
+not_in_calls : (rest : Bool) (wish : Wish) (v : ProcessView) → may_use_transfers v.calls.way ≡ true
+    → (if rest then alone_begun wish v else v).calls.way ≢ Calls
+not_in_calls true wish v may e = grind arith
+not_in_calls false wish v may e = let no = rw e at may in grind arith
+
+alone_way : (way : Way) → way ≢ Calls → way ≢ Fresh → is_alone way ≡ true
+alone_way Fresh calls fresh = absurd (fresh refl)
+alone_way Alone calls fresh = refl
+alone_way Calls calls fresh = absurd (calls refl)
+
+both_first : (a b : Bool) → a && b ≡ true → a ≡ true
+both_first true b e = refl
+both_first false b e = grind arith
+
+rest_is : (s : NextStep) → is_rest s ≡ true → s ≡ Rest
+rest_is s e = grind arith
+
+due_not_fresh : (sizes : Sizes) (words : List ℕ) (w : ProcessView) → DueOn sizes words w → w.transfer.next ≢ Rest → w.calls.way ≢ Fresh
+due_not_fresh sizes words w d going fresh =
+    let rests = fresh_rests sizes (word_at sizes words) d.views d.history d.process d.due.table.low d.due.table.meets in
+    let at = subst (λ (z : ProcessView). z.calls.way ≡ Fresh → is_rest z.transfer.next ≡ true) d.here rests in
+    going (rest_is w.transfer.next (at fresh))
+
+moves_alone : (sizes : Sizes) (wish : Wish) (v : SeatView) (t : TransferView) → CanStep sizes (about.Alone wish) v
+    → Agrees (about.Alone wish) v t → is_alone (turning (about.Alone wish) v.mind.view).calls.way ≡ true
+moves_alone sizes wish v t c agrees =
+    let w = turning (about.Alone wish) v.mind.view in
+    let goes = subst (λ (z : TransferView). z.next ≢ Rest) (sym agrees.same) (transfer_is_going sizes (about.Alone wish) v t c agrees) in
+    alone_way w.calls.way
+    (not_in_calls (is_rest v.mind.view.transfer.next) wish v.mind.view (both_first (may_use_transfers v.mind.view.calls.way) _ c.may))
+    (due_not_fresh v.sizes c.among.words w (due_there sizes (about.Alone wish) v c) goes)
+
+-- where such a transfer has another step, its process may make it, whatever wish that names
+stays_alone : (sizes : Sizes) (w : ProcessView) (word : ℕ) → is_alone w.calls.way ≡ true → is_alone (next_met sizes w word).calls.way ≡ true
+stays_alone sizes w word e = rw e e
+
+may_use_alone : (way : Way) → is_alone way ≡ true → may_use_transfers way ≡ true
+may_use_alone way e = grind arith
+
+goes_alone : (wish : Wish) (x : ProcessView) → is_alone x.calls.way ≡ true → is_rest x.transfer.next ≡ false → may_go_alone wish x ≡ true
+goes_alone wish x e rest = let may = may_use_alone x.calls.way e in rw (may, rest) refl
+
+turns_same : (wish : Wish) (x : ProcessView) → is_rest x.transfer.next ≡ false → moving_view wish x ≡ x
+turns_same wish x rest = rw rest refl
+
+moves_its_transfer : (x : ProcessView) → is_alone x.calls.way ≡ true → moves_transfer x ≡ true
+moves_its_transfer x e = rw e refl
+
+pub goes_on_alone : (sizes : Sizes) (wish next : Wish) (v x : SeatView) (t u : TransferView) (word : ℕ)
+    → CanStep sizes (about.Alone wish) v → Agrees (about.Alone wish) v t → Stepped (about.Alone wish) v word x
+    → u ≡ met_of sizes t word → is_rest u.next ≡ false → CanStep sizes (about.Alone next) x × Agrees (about.Alone next) x u
+goes_on_alone sizes wish next v x t u word c agrees s met goes =
+    let w = turning (about.Alone wish) v.mind.view in
+    let alone : is_alone x.mind.view.calls.way ≡ true =
+    subst (λ (z : ProcessView). is_alone z.calls.way ≡ true) (sym s.view) (stays_alone v.sizes w word (moves_alone sizes wish v t c agrees)) in
+    let mirrors = transfer_steps sizes (about.Alone wish) v x t u word c agrees s met in
+    let rest : is_rest x.mind.view.transfer.next ≡ false = ap (λ (z : TransferView). is_rest z.next) mirrors ∙ goes in
+    let same = turns_same next x.mind.view rest in
+    let seat = s.stays in
+    let can : CanStep sizes (about.Alone next) x = record {
+      of_process = ap (λ (z : SeatView). z.of_process) seat ∙ c.of_process;
+      shape = ap (λ (z : SeatView). z.sizes) seat ∙ c.shape;
+      may = goes_alone next x.mind.view alone rest;
+      among = s.among;
+    } in
+    let goes_so : Agrees (about.Alone next) x u = record {
+      same = ap (λ (z : ProcessView). z.transfer) same ∙ mirrors;
+      moves = subst (λ z. moves_transfer z ≡ true) (sym same) (moves_its_transfer x.mind.view alone);
+    } in
+    (can, goes_so)
