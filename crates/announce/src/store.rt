@@ -54,7 +54,15 @@ pub fn announce_give<L: Ledger>(
     ensures announced { HasAnnounced (about_of call (Give head)) seat.old.view number (Give head) seat.new.view }
 {
     let about = about_of(call, Wish::Give(head));
-    announce(&about, process, number, Wish::Give(head), table, seat, steps);
+    announce(
+        &about,
+        process,
+        number,
+        Wish::Give(head),
+        table,
+        seat,
+        steps,
+    );
 }
 
 /// Announces the wish of the seat's process, which is to be its transfer of this number: one atomic step. It

@@ -10,8 +10,8 @@ ghost use Rattle.pool_table.specs.Transfers.{Agrees, about_of};
 ghost use Rattle.batch_stack.specs.declared.progress.Progress.TheVariants.{Going};
 ghost use Rattle.batch_stack.specs.Running.{Running, MadeStep, ComesNearer, GoesOn, IsInTry, opened, wishing};
 
-use announce::{announce, load_announcement};
 use crate::progress::{Progress, progress_at};
+use announce::{announce, load_announcement};
 use pool_machine::Call;
 use pool_model::NoMemory;
 use pool_table::{About, PoolSeat, PoolTable, about_of, act};

@@ -88,10 +88,10 @@ mind_after_is (about.InCall call) sizes words views mind = refl
 -- what the rule says of a seat's process: its mind is the one that the rule has for its number
 pub record IsSeat (sizes : Sizes) (words : List ℕ) (minds : Minds) (history : List Entry) (views : List SeatView) (v : SeatView) : Type 0
   where
-  pub holds : MindsHold sizes words minds history
-  pub numbered : Numbered sizes minds views
-  pub here : minds (number_of v.mind) ≡ v.mind
-  pub low : number_of v.mind < sizes.processes
+    pub holds : MindsHold sizes words minds history
+    pub numbered : Numbered sizes minds views
+    pub here : minds (number_of v.mind) ≡ v.mind
+    pub low : number_of v.mind < sizes.processes
 
 pub seat_of : (words : List ℕ) (views : List SeatView) (place : ℕ) (v : SeatView) (h : Holds words views)
     → get_elem? views place ≡ some v → v.of_process ≡ true → IsSeat v.sizes words h.minds h.history views v

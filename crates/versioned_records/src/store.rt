@@ -53,7 +53,14 @@ pub fn store_record_word<L: Ledger>(
 {
     let name = WordName::RecordWord { row, index };
     let word = Tagged::pack(tag, value);
-    act(about, Action::Store { name, word }, shape, table, seat, steps);
+    act(
+        about,
+        Action::Store { name, word },
+        shape,
+        table,
+        seat,
+        steps,
+    );
     StoredWord {
         word,
         write: write_step(shape, index),
