@@ -1,5 +1,6 @@
 -- the load of an announcement is the machine's next step, and what the invariant says of the word
-use Rattle.std.proofs.Common.{◌≡◌, ℕ, ◌+◌, ◌<◌, ◌≤◌, ◌==◌, Bool, true, false, List, length, get_or-set_same, refl, sym, ap, ◌∙◌, subst, arith}
+use Rattle.std.proofs.Common.{◌≡◌, ℕ, ◌+◌, ◌<◌, ◌≤◌, ◌==◌, Bool, true, false, List, length, get_or-set_same}
+use Rattle.std.proofs.Common.{refl, sym, ap, ◌∙◌, subst, arith}
 use Rattle.std.specs.Prelude.{if◌then◌else◌, slice_index, slice_set}
 use mathlib.Core.Option.{some}
 use lib.ListN.{get_elem?}
@@ -81,8 +82,8 @@ heard_met : (sizes : Sizes) (t : TransferView) (second : Bool) (process word : �
 heard_met sizes t second process word next lt room =
     let here = get_or-set_same t.loaded.announcements process word 0 room in
     subst (λ s. Heard sizes (met_at sizes t word s) process word) (sym next)
-    (heard_by sizes (pops_slot sizes.processes t.loaded process word t.draft) second process word _ _ (after_heard sizes process) lt refl refl
-    (after_hearing_by sizes process (process + 1 == sizes.processes) lt) here here)
+    (heard_by sizes (pops_slot sizes.processes t.loaded process word t.draft) second process word _ _ (after_heard sizes process) lt
+    refl refl (after_hearing_by sizes process (process + 1 == sizes.processes) lt) here here)
 
 -- the room of the announcements, before the load
 due_room : (sizes : Sizes) (words : List ℕ) (v : ProcessView) → DueOn sizes words v → length v.transfer.loaded.announcements ≡ 32

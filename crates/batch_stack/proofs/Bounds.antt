@@ -47,7 +47,8 @@ due_fits sizes table_words v d =
 
 pub part_fits : (sizes : Sizes) (a : About) (v : SeatView) (t : TransferView) → CanStep sizes a v → Agrees a v t → PartFits sizes t
 part_fits sizes a v t c agrees =
-    subst (λ z. PartFits z t) c.shape (subst (PartFits v.sizes) agrees.same (due_fits v.sizes c.among.words (turning a v.mind.view) (due_there sizes a v c)))
+    let fits = due_fits v.sizes c.among.words (turning a v.mind.view) (due_there sizes a v c) in
+    subst (λ z. PartFits z t) c.shape (subst (PartFits v.sizes) agrees.same fits)
 
 -- a transfer that goes on after a step isn't at rest
 ends_somehow : (r : Reply) → ended_as r ≡ Going → ⊥

@@ -1,5 +1,5 @@
 -- a running transfer: what its steps make of it and of the seat, and how it is answered
-use Rattle.std.specs.Prelude.{◌≡◌, ℕ, ◌+◌, ◌≤◌, Bool}
+use Rattle.std.specs.Prelude.{◌≡◌, ℕ, ◌+◌, ◌≤◌, Bool, Option}
 use Rattle.word_layout.specs.Sizes.{Sizes, transfer_bound}
 use Rattle.word_layout.specs.Packing.{value_of, reply_of}
 use Rattle.word_layout.specs.declared.announced.Wish.{Wish}
@@ -11,12 +11,13 @@ use Rattle.transfer_machine.specs.declared.stage.NextStep.{NextStep}
 use Rattle.transfer_machine.specs.declared.stage.NextStep.TheVariants.{Rest, Announce, Try, LoadFinalState, LoadReply}
 use Rattle.transfer_machine.specs.declared.stage.TryStep.{TryStep}
 use Rattle.transfer_machine.specs.declared.transfer.TransferView.{TransferView}
+use Rattle.pool_machine.specs.declared.call.Call.{Call}
 use Rattle.pool_invariant.specs.StepCount.{steps_before}
 use Rattle.pool_table.specs.declared.about.About.{About}
 use Rattle.pool_table.specs.declared.about.About.TheVariants.{Alone, InCall}
 use Rattle.pool_table.specs.Views.{SeatView}
 use Rattle.pool_table.specs.Steps.{CanStep, Stepped}
-use Rattle.pool_table.specs.Transfers.{Agrees}
+use Rattle.pool_table.specs.Transfers.{Agrees, about_of}
 use Rattle.batch_stack.specs.declared.progress.Progress.{Progress}
 use Rattle.batch_stack.specs.declared.progress.Progress.TheVariants.{Going, Took, Empty, Gave}
 
@@ -46,6 +47,10 @@ progress_at Announce word = Going
 progress_at (Try second step) word = Going
 progress_at LoadFinalState word = Going
 progress_at LoadReply word = ended_as (reply_of (value_of word))
+
+-- what its next step is about: the call that is given, or else a transfer alone with its wish
+abbrev pub step_about : Option Call → Running → About
+step_about call t = about_of call t.part.wish
 
 -- the next step of a transfer is this one of one of its tries
 abbrev pub IsInTry : TransferView → TryStep → Type 0

@@ -6,9 +6,9 @@ ghost use Rattle.word_layout.specs.declared.announced.Wish.TheVariants.{Take, Gi
 ghost use Rattle.word_table.specs.Seats.{SameSeat};
 ghost use Rattle.transfer_machine.specs.declared.stage.NextStep.TheVariants.{Rest};
 ghost use Rattle.pool_table.specs.Steps.{CanStep, Stepped};
-ghost use Rattle.pool_table.specs.Transfers.{Agrees, about_of};
+ghost use Rattle.pool_table.specs.Transfers.{Agrees};
 ghost use Rattle.batch_stack.specs.declared.progress.Progress.TheVariants.{Going};
-ghost use Rattle.batch_stack.specs.Running.{Running, MadeStep, ComesNearer, GoesOn, IsInTry, opened, wishing};
+ghost use Rattle.batch_stack.specs.Running.{Running, MadeStep, ComesNearer, GoesOn, IsInTry, opened, step_about, wishing};
 
 use crate::progress::{Progress, progress_at};
 use announce::{announce, load_announcement};
@@ -85,14 +85,14 @@ impl Transfer {
         requires seat { seat.old.table ≡ table.now }
         requires words { table.now.words ≡ table_words self.old.sizes }
         requires steps { steps.old + 1 < 2 ^ 64 }
-        requires can { CanStep self.old.sizes (about_of call self.old.part.wish) seat.old.view }
-        requires agrees { Agrees (about_of call self.old.part.wish) seat.old.view self.old.part }
+        requires can { CanStep self.old.sizes (step_about call self.old) seat.old.view }
+        requires agrees { Agrees (step_about call self.old) seat.old.view self.old.part }
         ensures sizes { self.new.sizes ≡ self.old.sizes }
         ensures seat { SameSeat seat.old seat.new }
         ensures steps { steps.new ≡ steps.old + 1 }
-        ensures step { MadeStep self.old.sizes (about_of call self.old.part.wish) seat.old.view self.old.part seat.new.view self.new.part result }
+        ensures step { MadeStep self.old.sizes (step_about call self.old) seat.old.view self.old.part seat.new.view self.new.part result }
         ensures nearer { ComesNearer self.old.sizes self.old.part self.new.part result }
-        ensures on { result ≡ Going → GoesOn self.old.sizes (about_of call self.old.part.wish) seat.new.view self.new.part }
+        ensures on { result ≡ Going → GoesOn self.old.sizes (step_about call self.old) seat.new.view self.new.part }
     {
         let about = about_of(call, self.view.wish);
         step_part(&mut self.view, &self.shape, &about, table, seat, steps)

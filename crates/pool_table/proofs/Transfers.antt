@@ -200,7 +200,8 @@ pub goes_on_alone : (sizes : Sizes) (wish next : Wish) (v x : SeatView) (t u : T
 goes_on_alone sizes wish next v x t u word c agrees s met goes =
     let w = turning (about.Alone wish) v.mind.view in
     let alone : is_alone x.mind.view.calls.way ≡ true =
-    subst (λ (z : ProcessView). is_alone z.calls.way ≡ true) (sym s.view) (stays_alone v.sizes w word (moves_alone sizes wish v t c agrees)) in
+    subst (λ (z : ProcessView). is_alone z.calls.way ≡ true) (sym s.view)
+    (stays_alone v.sizes w word (moves_alone sizes wish v t c agrees)) in
     let mirrors = transfer_steps sizes (about.Alone wish) v x t u word c agrees s met in
     let rest : is_rest x.mind.view.transfer.next ≡ false = ap (λ (z : TransferView). is_rest z.next) mirrors ∙ goes in
     let same = turns_same next x.mind.view rest in

@@ -49,7 +49,8 @@ pub load_is_next : (sizes : Sizes) (a : About) (v : SeatView) (tag row index : �
     → Load (RecordWord row index) ≡ next_action sizes (turning a v.mind.view)
 load_is_next sizes a v tag row index l =
     let t = transfer_about a v in
-    transfer_acts_next sizes a v t (Load (RecordWord row index)) (own_agrees a v tag row index l) (loads_action sizes t tag row index l.loads)
+    transfer_acts_next sizes a v t (Load (RecordWord row index)) (own_agrees a v tag row index l)
+    (loads_action sizes t tag row index l.loads)
 
 -- its word is one of a record
 pub load_within : (sizes : Sizes) (a : About) (v : SeatView) (tag row index : ℕ) → CanStep sizes a v → LoadsWord a v tag row index
@@ -163,7 +164,8 @@ all_has_state x tag e all = record {
       let loaded = records.loaded _ s.low in
       let mine = subst (λ (m : Mind). LoadedState x.sizes (word_at x.sizes words) ghosts.states m.view.transfer) s.here loaded in
       let value = mine.loaded index (rw all.all lt) in
-      value ∙ (ap (λ k. state_value x.sizes.processes (ghosts.states k) index) (all.same_tag ∙ sym now) ∙ sym (records.current.values index lt));
+      value ∙ (ap (λ k. state_value x.sizes.processes (ghosts.states k) index) (all.same_tag ∙ sym now)
+      ∙ sym (records.current.values index lt));
 }
 
 -- the load of a record word, as it happened

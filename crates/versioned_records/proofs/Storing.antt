@@ -23,7 +23,8 @@ stores_action : (sizes : Sizes) (t : TransferView) (tag row index value : ℕ) �
 stores_action sizes t tag row index value d =
     ap (λ r. Store (RecordWord r index) (tagged tag value)) (sym d.same_row)
     ∙ (ap (λ k. Store (RecordWord t.next_record index) (tagged k value)) (sym d.same_tag)
-    ∙ (ap (λ k. Store (RecordWord t.next_record index) (tagged (loaded_tag t.loaded + 1) k)) (sym d.same_value) ∙ sym (ap (action_at sizes t) d.next)))
+    ∙ (ap (λ k. Store (RecordWord t.next_record index) (tagged (loaded_tag t.loaded + 1) k)) (sym d.same_value)
+    ∙ sym (ap (action_at sizes t) d.next)))
 
 pub store_is_next : (sizes : Sizes) (a : About) (v : SeatView) (tag row index value word : ℕ) → StoresWord sizes a v tag row index value
     → word ≡ tagged tag value → Store (RecordWord row index) word ≡ next_action sizes (turning a v.mind.view)
