@@ -12,3 +12,4 @@ pub mod Seating
 pub mod Joins
 pub mod Settled
 pub mod Opened
+pub mod Transfers

@@ -1,0 +1,94 @@
+// The store of the own announcement.
+ghost use Rattle.std.specs.Prelude.{◌≡◌, ◌+◌, ◌<◌, ◌≤◌, ◌^◌, length};
+ghost use Rattle.word_layout.specs.Names.{table_words};
+ghost use Rattle.word_layout.specs.declared.announced.Wish.TheVariants.{Take, Give};
+ghost use Rattle.word_table.specs.Seats.{SameSeat};
+ghost use Rattle.pool_table.specs.Steps.{CanStep};
+ghost use Rattle.pool_table.specs.Transfers.{about_of};
+ghost use Rattle.announce.specs.Stored.{Announces, HasAnnounced, announcement};
+
+use pool_machine::Call;
+use pool_table::{About, PoolSeat, PoolTable, about_of};
+use step_counter::{Ledger, Steps};
+use word_layout::{Announced, Wish};
+
+/// Announces a take: one store, which begins it where none is begun, and raises the age of the process to `number`.
+pub fn announce_take<L: Ledger>(
+    table: &PoolTable,
+    seat: &mut PoolSeat,
+    process: u32,
+    number: u64,
+    call: Option<Call>,
+    steps: &mut Steps<L>,
+)
+    requires seat { seat.old.table ≡ table.now }
+    requires words { table.now.words ≡ table_words seat.old.view.sizes }
+    requires steps { steps.old + 1 < 2 ^ 64 }
+    requires can { CanStep seat.old.view.sizes (about_of call Take) seat.old.view }
+    requires announces { Announces (about_of call Take) seat.old.view process number Take }
+    ensures seat { SameSeat seat.old seat.new }
+    ensures steps { steps.new ≡ steps.old + 1 }
+    ensures announced { HasAnnounced (about_of call Take) seat.old.view number Take seat.new.view }
+{
+    let about = about_of(call, Wish::Take);
+    announce(&about, process, number, Wish::Take, table, seat, steps);
+}
+
+/// Announces a give of the batch with this head, in the same way.
+pub fn announce_give<L: Ledger>(
+    table: &PoolTable,
+    seat: &mut PoolSeat,
+    process: u32,
+    number: u64,
+    head: u32,
+    call: Option<Call>,
+    steps: &mut Steps<L>,
+)
+    requires seat { seat.old.table ≡ table.now }
+    requires words { table.now.words ≡ table_words seat.old.view.sizes }
+    requires steps { steps.old + 1 < 2 ^ 64 }
+    requires can { CanStep seat.old.view.sizes (about_of call (Give head)) seat.old.view }
+    requires announces { Announces (about_of call (Give head)) seat.old.view process number (Give head) }
+    ensures seat { SameSeat seat.old seat.new }
+    ensures steps { steps.new ≡ steps.old + 1 }
+    ensures announced { HasAnnounced (about_of call (Give head)) seat.old.view number (Give head) seat.new.view }
+{
+    let about = about_of(call, Wish::Give(head));
+    announce(
+        &about,
+        process,
+        number,
+        Wish::Give(head),
+        table,
+        seat,
+        steps,
+    );
+}
+
+/// Announces the wish of the seat's process, which is to be its transfer of this number: one atomic step. It
+/// answers the word that it stored.
+#[inline(always)]
+pub fn announce<L: Ledger>(
+    about: &About,
+    process: u32,
+    number: u64,
+    wish: Wish,
+    table: &PoolTable,
+    seat: &mut PoolSeat,
+    steps: &mut Steps<L>,
+) -> u64
+    requires seat { seat.old.table ≡ table.now }
+    requires words { table.now.words ≡ table_words seat.old.view.sizes }
+    requires steps { steps.old + 1 < 2 ^ 64 }
+    requires can { CanStep seat.old.view.sizes about.now seat.old.view }
+    requires announces { Announces about.now seat.old.view process number wish }
+    ensures seat { SameSeat seat.old seat.new }
+    ensures steps { steps.new ≡ steps.old + 1 }
+    ensures word { result ≡ announcement number wish }
+    ensures announced { HasAnnounced about.now seat.old.view number wish seat.new.view }
+{
+    let word = Announced { number, wish }.pack();
+    // The announcements come right after the state.
+    table.store_with(seat, 1 + process, word, about, steps);
+    word
+}

@@ -1,0 +1,3 @@
+pub use Rattle.pool_table.specs.Steps
+pub use Rattle.pool_table.specs.Transfers
+pub mod Running

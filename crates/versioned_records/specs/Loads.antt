@@ -1,0 +1,56 @@
+-- the load of a record word
+use Rattle.std.specs.Prelude.{◌≡◌, ℕ, ◌+◌, ◌<◌, ◌==◌, nat_lt, Bool, true, if◌then◌else◌, List}
+use mathlib.Core.Option.{some}
+use lib.ListN.{get_elem?}
+use Rattle.word_layout.specs.Sizes.{Sizes}
+use Rattle.word_layout.specs.Names.{record_words, word_at}
+use Rattle.word_layout.specs.Packing.{tag_of, value_of}
+use Rattle.word_layout.specs.declared.name.WordName.TheVariants.{State, RecordWord}
+use Rattle.transfer_machine.specs.Loads.{loaded_tag, loaded_record, record_value}
+use Rattle.transfer_machine.specs.declared.stage.NextStep.TheVariants.{Try}
+use Rattle.transfer_machine.specs.declared.stage.TryStep.TheVariants.{LoadRecordWord}
+use Rattle.transfer_machine.specs.declared.transfer.TransferView.{TransferView}
+use Rattle.transfer_invariant.specs.Memory.{state_tag, current_record, word_value, state_value}
+use Rattle.interleaving_core.specs.TransferLaws.{moves_transfer}
+use Rattle.pool_table.specs.declared.about.About.{About}
+use Rattle.pool_table.specs.Rule.{Holds}
+use Rattle.pool_table.specs.Turns.{turning}
+use Rattle.pool_table.specs.Views.{SeatView}
+use Rattle.pool_table.specs.Transfers.{transfer_about, WhereverSeated}
+use Rattle.versioned_records.specs.declared.load.ReadStep.{ReadStep}
+use Rattle.versioned_records.specs.declared.load.ReadStep.TheVariants.{Going, Whole, Moved}
+
+-- how far the reading of a record is once this word was loaded there: one with a higher tag is of a later state
+abbrev pub read_step : Sizes → ℕ → ℕ → ℕ → ReadStep
+read_step sizes tag index word =
+    if nat_lt tag (tag_of word) then Moved
+    else (if index + 1 == record_words sizes then Whole else Going)
+
+-- a transfer is to load this word of this record, that of the state with this tag, which it loaded in its present try
+pub record IsToLoad (t : TransferView) (tag row index : ℕ) : Type 0 where
+  pub second : Bool
+  pub next : t.next ≡ Try second (LoadRecordWord index)
+  pub same_tag : loaded_tag t.loaded ≡ tag
+  pub same_row : loaded_record t.loaded ≡ row
+
+-- so is that of a seat's process, and it is what the process does next
+pub record LoadsWord (about : About) (v : SeatView) (tag row index : ℕ) : Type 0 where
+  pub moves : moves_transfer (turning about v.mind.view) ≡ true
+  pub loads : IsToLoad (transfer_about about v) tag row index
+
+-- the state had a higher tag: there are words that meet the rule with this view, with such a state
+pub record HadMovedOn (v : SeatView) (tag : ℕ) : Type 0 where
+  pub words : List ℕ
+  pub views : List SeatView
+  pub place : ℕ
+  pub held : Holds words views
+  pub seated : get_elem? views place ≡ some v
+  pub above : tag < tag_of (word_at v.sizes words State)
+
+-- the record words that a seat's process has loaded are those of the state with this tag: wherever the rule holds with its view, they
+-- have that state's values, and so has the current record while that is the state
+pub record HasState (v : SeatView) (tag : ℕ) : Type 0 where
+  pub values : WhereverSeated v (λ words states. (index : ℕ) → index < record_words v.sizes
+      → record_value v.mind.view.transfer.loaded index ≡ state_value v.sizes.processes (states tag) index)
+  pub present : WhereverSeated v (λ words states. state_tag words ≡ tag → (index : ℕ) → index < record_words v.sizes
+      → record_value v.mind.view.transfer.loaded index ≡ word_value words (current_record words) index)
