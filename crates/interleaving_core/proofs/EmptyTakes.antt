@@ -30,7 +30,7 @@ use Rattle.pool_machine.specs.declared.call.Call.{Call}
 use Rattle.pool_machine.specs.declared.call.Call.TheVariants.{Allocate, Free, Read, Write}
 use Rattle.pool_machine.specs.declared.view.PoolView.{PoolView}
 use Rattle.pool_machine.specs.declared.view.ProcessView.{ProcessView}
-use Rattle.pool_invariant.specs.Stages.{is_announcing}
+use Rattle.transfer_invariant.specs.Progress.{has_only_begun}
 use Rattle.history_invariant.specs.Fits.{SeesBeginning, HadFewSince, LedgerFits}
 use Rattle.history_invariant.specs.Ledger.{Ledger}
 use Rattle.history_invariant.proofs.Fitting.{own_rises}
@@ -79,9 +79,9 @@ few_known limits history false g plan few le h = h
 
 -- how the places of a ledger move with a step of the transfer
 pub record PlacesMove (next : NextStep) (taking : Bool) (old new : Ledger) : Type 0 where
-  pub opens : is_announcing next ≡ true → new.found_nothing ≡ false
-  pub found : is_announcing next ≡ false → new.found_nothing ≡ old.found_nothing
-  pub begun : is_announcing next ≡ false → new.begun_place ≡ old.begun_place
+  pub opens : has_only_begun next ≡ true → new.found_nothing ≡ false
+  pub found : has_only_begun next ≡ false → new.found_nothing ≡ old.found_nothing
+  pub begun : has_only_begun next ≡ false → new.begun_place ≡ old.begun_place
   pub stays : next ≢ LoadReply → new.ended_place ≡ old.ended_place
   pub ended : next ≡ LoadReply → new.ended_place ≡ (if taking then old.begun_place else old.ended_place)
 
@@ -104,7 +104,7 @@ found_none Gave e = grind arith
 
 -- a step of the transfer
 few_goes_on : (limits : Limits) (history : List Entry) (next : NextStep) (taking : Bool) (old new : Ledger) (plan after : Numbers)
-    → is_announcing next ≡ false → next ≢ LoadReply → PlacesMove next taking old new → after.dry ≡ plan.dry
+    → has_only_begun next ≡ false → next ≢ LoadReply → PlacesMove next taking old new → after.dry ≡ plan.dry
     → TakesHadFew limits history old plan → TakesHadFew limits history new after
 few_goes_on limits history next taking old new plan after not_first not_last m dry h =
     few_same limits history old new plan after (m.found not_first) (m.begun not_first) (m.stays not_last) dry h
