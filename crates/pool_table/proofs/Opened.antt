@@ -14,9 +14,9 @@ use Rattle.word_layout.proofs.Packed.{value_of-tagged}
 use Rattle.word_layout.proofs.Limits.{two_blocks_a_batch, batches_le_blocks, length_le_blocks}
 use Rattle.transfer_machine.specs.Opening.{AreOpening}
 use Rattle.interleaving_core.proofs.Opens.{opening_holds}
-use Rattle.pool_table.specs.Minds.{Mind, opening_mind}
+use Rattle.pool_table.specs.Minds.{opening_mind}
 use Rattle.pool_table.specs.Views.{SeatView, first_seat}
-use Rattle.pool_table.specs.Rule.{views_of, MindsHold, Numbered, Holds, one_if}
+use Rattle.pool_table.specs.Rule.{views_of, MindsHold, Numbered, Holds}
 use Rattle.pool_table.specs.Opening.{processes_of, batches_of, zero_from, nexts_of, length_of, quantum_of, words_of, sizes_by, sizes_with, sizes_of, first_view}
 use Rattle.pool_table.specs.Steps.{Among}
 use Rattle.pool_table.proofs.Numbered.{counts_for}

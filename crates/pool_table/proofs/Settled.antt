@@ -1,15 +1,11 @@
 -- A seat that has taken in others knows of one history, which has the entries of all of them.
-use Rattle.std.proofs.Common.{◌≡◌, ℕ, ◌≤◌, true, List, ◌∷◌, sym, ap, ◌∙◌, subst, arith}
+use Rattle.std.proofs.Common.{◌≡◌, ℕ, ◌≤◌, List, ◌∷◌, sym, subst, arith}
 use Rattle.word_layout.specs.Sizes.{Sizes, limits_of}
-use Rattle.word_layout.specs.Names.{word_at}
 use Rattle.pool_model.specs.declared.entry.Entry.{Entry}
-use Rattle.pool_model.specs.History.{own}
 use Rattle.pool_model.specs.Legal.{IsLegal}
 use Rattle.pool_table.specs.Minds.{Mind, number_of, SeesOwn}
-use Rattle.pool_table.specs.Views.{SeatView, minds_of}
-use Rattle.pool_table.specs.Rule.{Minds, EachMind, IsSeated, MindsHold, Holds}
-use Rattle.pool_table.specs.Settled.{FitsIn, Settles, SeatsSettle}
-use Rattle.pool_table.specs.Steps.{Among}
+use Rattle.pool_table.specs.Rule.{Minds, EachMind, IsSeated, MindsHold}
+use Rattle.pool_table.specs.Settled.{FitsIn, SeatsSettle}
 use Rattle.pool_table.proofs.Numbered.{own_mind_first, each_at}
 use Rattle.pool_table.proofs.Seating.{each_mind_becomes}
 

@@ -17,7 +17,7 @@ pub record CanJoin (v w : SeatView) : Type 0 where
   pub other : w.of_process ≡ true
   pub bare : w.taken ≡ []
 
--- a seat took in another one: it has that one's mind beside its own, and has seen what either has
+-- a seat took in another one: it has that one's mind beside its own, which stays
 pub record Joined (before taken after : SeatView) : Type 0 where
   pub view : after ≡ takes_in taken.mind before
   pub among : Among after

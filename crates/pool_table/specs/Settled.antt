@@ -1,5 +1,5 @@
 -- what a seat knows of all that it took in
-use Rattle.std.specs.Prelude.{◌≡◌, ℕ, List, length, take, true}
+use Rattle.std.specs.Prelude.{◌≡◌, List, length, take, true}
 use Rattle.word_layout.specs.Sizes.{limits_of}
 use Rattle.pool_model.specs.declared.entry.Entry.{Entry}
 use Rattle.pool_model.specs.History.{own}

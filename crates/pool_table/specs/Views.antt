@@ -57,13 +57,9 @@ right v = right_by v.of_process v
 abbrev pub longer : List Entry → List Entry → List Entry
 longer a b = if nat_lt (length a) (length b) then b else a
 
--- a mind is told what another one has seen
-abbrev pub told : Mind → Mind → Mind
-told mine theirs = record mine { seen = longer mine.seen theirs.seen }
-
--- a seat takes in the mind of another
+-- a seat takes in the mind of another: it has seen what any of its minds has, so that no mind is lost
 abbrev pub takes_in : Mind → SeatView → SeatView
-takes_in theirs v = record v { mind = told v.mind theirs; taken = v.taken ++ theirs ∷ [] }
+takes_in theirs v = record v { taken = v.taken ++ theirs ∷ [] }
 
 -- the view of a seat that takes in another one
 abbrev pub both_by : Bool → SeatView → SeatView → SeatView

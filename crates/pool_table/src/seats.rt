@@ -36,7 +36,7 @@ pub fn next_seat<L: Ledger>(
     table.split(first, steps)
 }
 
-/// A seat takes in another process's, and has then seen what either has. One legal history has the entries of all that
+/// A seat takes in another process's, with all that this one knows. One legal history has the entries of all that
 /// it has taken in.
 ///
 /// It is two steps, both a load of word 0.
