@@ -11,7 +11,8 @@ use Rattle.transfer_machine.specs.declared.stage.NextStep.{NextStep}
 use Rattle.transfer_machine.specs.declared.stage.NextStep.TheVariants.{Rest, Announce, Try, LoadFinalState, LoadReply}
 use Rattle.transfer_machine.specs.declared.transfer.TransferView.{TransferView}
 use Rattle.pool_machine.specs.declared.view.ProcessView.{ProcessView}
-use Rattle.pool_invariant.specs.Stages.{IndexFits, is_moving}
+use Rattle.transfer_invariant.specs.Progress.{is_moving}
+use Rattle.pool_invariant.specs.Stages.{IndexFits}
 use Rattle.pool_invariant.specs.StepCount.{OverlayIsFew, steps_before}
 use Rattle.pool_invariant.proofs.Counted.{step_nearer}
 use Rattle.pool_invariant.proofs.Moved.{step_stays}
