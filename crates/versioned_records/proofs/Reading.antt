@@ -149,27 +149,29 @@ module _ (sizes : Sizes) (a : About) (v x : SeatView) (r : Reading) (word : ℕ)
       let its_room = due_room v.sizes c.among.words (turning a v.mind.view) (due_there sizes a v c) in
       let low_index = reads_below sizes a v r c reads in
       let alike = set_alike r.words t.loaded.record_words r.index word k (omega (arith, room, low_index))
-          (omega (arith, its_room, low_index)) reads.same lt in
+      (omega (arith, its_room, low_index)) reads.same lt in
       alike ∙ ap (λ xs. slice_index xs k) (sym words)
 
   reads_on : r.sizes ≡ sizes → length r.words ≡ 66 → (answer : ReadStep) → answer ≡ read_step sizes r.tag r.index word
       → HasReadOn a v r x (reading_after answer word r) answer
   reads_on shape room answer e =
       let same : x.sizes ≡ sizes = ap (λ (z : SeatView). z.sizes) s.stays ∙ c.shape in
-      let agree = λ (n : answer ≢ Moved). reads_same room (λ m. n (e ∙ m)) in
-      (word, record {
-        stepped = s;
-        answered = e ∙ ap (λ z. read_step z r.tag r.index word) (sym shape);
-        never_lower = tag_never_lower sizes a v x r.tag r.row r.index word c reads.loads s;
-        read = refl;
-        moved = λ m. moved_on sizes a v x r.tag r.row r.index word c reads.loads s (sym e ∙ m);
-        same = agree;
-        whole = λ w.
-            let state = whole_has_state sizes a v x r.tag r.row r.index word c reads.loads s (sym e ∙ w) in
-            let last = whole_is_last sizes r.tag r.index word (sym e ∙ w) in
-            read_is_state x (reading_after answer word r) state
-            (λ k lt. agree (whole_not_moved answer w) k (subst (λ n. k < n) (sym last) (subst (λ z. k < record_words z) same lt)));
-      })
+      let agree = λ (n : answer ≢ Moved). reads_same room (λ m. n (e ∙ m)) in (
+        word,
+        record {
+          stepped = s;
+          answered = e ∙ ap (λ z. read_step z r.tag r.index word) (sym shape);
+          never_lower = tag_never_lower sizes a v x r.tag r.row r.index word c reads.loads s;
+          read = refl;
+          moved = λ m. moved_on sizes a v x r.tag r.row r.index word c reads.loads s (sym e ∙ m);
+          same = agree;
+          whole = λ w.
+              let state = whole_has_state sizes a v x r.tag r.row r.index word c reads.loads s (sym e ∙ w) in
+              let last = whole_is_last sizes r.tag r.index word (sym e ∙ w) in
+              read_is_state x (reading_after answer word r) state
+              (λ k lt. agree (whole_not_moved answer w) k (subst (λ n. k < n) (sym last) (subst (λ z. k < record_words z) same lt)));
+        },
+      )
 
 -- outside any call the reader goes on
 can_read_on : (sizes : Sizes) (a : About) (v x : SeatView) (r : Reading) (word : ℕ) → CanStep sizes a v → CanRead a v r
@@ -182,17 +184,19 @@ can_read_on sizes (Alone wish) v x r word c reads s room answer e goes =
     let same = reads_same sizes (Alone wish) v x r word c reads s room (λ m. going_not_moved answer goes (e ∙ m)) in
     let mirrored = mirrors sizes (Alone wish) v x r word c reads s in
     λ next.
-        let on = goes_on_alone sizes wish next v x t u word c (own_agrees sizes (Alone wish) v x r word c reads s) s refl
-            (to_load_goes u r.tag r.row (r.index + 1) to_load) in
-        let its = on.1.same in
-        (on.0, record {
-          going = goes;
-          loads = record {
-            moves = on.1.moves;
-            loads = subst (λ z. IsToLoad z r.tag r.row (r.index + 1)) (sym its) to_load;
-          };
-          same = λ k lt. same k lt ∙ ap (λ (z : TransferView). slice_index z.loaded.record_words k) (mirrored ∙ sym its);
-        })
+    let on = goes_on_alone sizes wish next v x t u word c (own_agrees sizes (Alone wish) v x r word c reads s) s refl
+    (to_load_goes u r.tag r.row (r.index + 1) to_load) in
+    let its = on.1.same in (
+      on.0,
+      record {
+        going = goes;
+        loads = record {
+          moves = on.1.moves;
+          loads = subst (λ z. IsToLoad z r.tag r.row (r.index + 1)) (sym its) to_load;
+        };
+        same = λ k lt. same k lt ∙ ap (λ (z : TransferView). slice_index z.loaded.record_words k) (mirrored ∙ sym its);
+      },
+    )
 can_read_on sizes (InCall call) v x r word c reads s room answer e goes = tt
 
 -- the same of a reader's fields, before and after

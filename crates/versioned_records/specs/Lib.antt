@@ -3,3 +3,4 @@ pub use Rattle.pool_table.specs.Transfers
 pub mod Loads
 pub mod Reading
 pub mod Stores
+pub mod Writing

@@ -37,9 +37,7 @@ impl Model for RecordReader {
 
     ghost Value = { Reading };
 
-    ghost view = {
-        λ r. record { sizes = r.shape; tag = r.tag; row = r.row; index = r.index; words = r.words; reached = r.reached }
-    };
+    ghost view = { λ r. record { sizes = r.shape; tag = r.tag; row = r.row; index = r.index; words = r.words; reached = r.reached } };
 }
 
 impl RecordReader {
