@@ -1,4 +1,5 @@
 pub use Rattle.pool_table.specs.Steps
 pub use Rattle.pool_table.specs.Transfers
 pub mod Heard
+pub mod Reading
 pub mod Stored

@@ -6,7 +6,9 @@
 #![tactic(auto)]
 
 mod load;
+mod reader;
 mod store;
 
 pub use load::load_announcement;
+pub use reader::AnnounceReader;
 pub use store::{announce, announce_give, announce_take};

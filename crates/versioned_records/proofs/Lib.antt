@@ -1,2 +1,4 @@
 pub mod Loading
+pub mod Reading
 pub mod Storing
+pub mod Writing

@@ -107,7 +107,7 @@ stood_past sizes words v tag row index word d l lt found above =
     (subst (λ (w : ProcessView). LoadedState sizes (word_at sizes words) ghosts.states w.transfer) d.here loaded) l lt found above
 
 -- how far the reading is, by its tests
-whole_tests : (moved last : Bool) → (if moved then Moved else (if last then Whole else Going)) ≡ Whole → (moved ≡ false) × (last ≡ true)
+pub whole_tests : (moved last : Bool) → (if moved then Moved else (if last then Whole else Going)) ≡ Whole → (moved ≡ false) × (last ≡ true)
 whole_tests true last e = absurd (cc)
 whole_tests false true e = (refl, refl)
 whole_tests false false e = absurd (cc)

@@ -7,8 +7,12 @@
 #![tactic(auto)]
 
 mod load;
+mod reader;
 mod store;
+mod writer;
 
 pub use load::{LoadedWord, ReadStep, load_record_word};
 pub use pool_table::{PoolSeat, PoolTable};
+pub use reader::RecordReader;
 pub use store::{StoredWord, WriteStep, store_record_word};
+pub use writer::RecordWriter;

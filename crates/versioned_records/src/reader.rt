@@ -1,0 +1,122 @@
+// The reading of a whole record.
+ghost use Rattle.std.specs.Prelude.{◌≡◌, ◌+◌, ◌<◌, ◌^◌, MatchResult};
+ghost use Rattle.word_layout.specs.Names.{table_words, record_words, records};
+ghost use Rattle.word_layout.specs.Packing.{tag_limit};
+ghost use Rattle.word_layout.specs.declared.announced.Wish.TheVariants.{Take};
+ghost use Rattle.word_table.specs.Seats.{SameSeat};
+ghost use Rattle.pool_table.specs.Steps.{CanStep};
+ghost use Rattle.pool_table.specs.Transfers.{about_of};
+ghost use Rattle.versioned_records.specs.declared.load.ReadStep.TheVariants.{Going, Whole};
+ghost use Rattle.versioned_records.specs.Reading.{CanRead, CanReadOn, HasReadOn, begun, opened, read_value};
+
+use crate::load::{ReadStep, load_record_word};
+use pool_machine::Call;
+use pool_model::NoMemory;
+use pool_table::{PoolSeat, PoolTable, about_of};
+use std::alloc::Global;
+use std::marker::Model;
+use step_counter::{Ledger, Steps};
+use word_layout::{Shape, Tagged, Wish};
+
+/// A record of the shared stack, as far as it is read.
+///
+/// Clauses see the shape's numbers, the tag and the row that it was begun with, how many words it loaded since, the
+/// words, and how far it is.
+#[derive(Drop)]
+pub struct RecordReader {
+    shape: Shape,
+    tag: u64,
+    row: u32,
+    index: u32,
+    words: [u64; 66],
+    reached: ReadStep,
+}
+
+impl Model for RecordReader {
+    ghost use Rattle.versioned_records.specs.Reading.{Reading};
+
+    ghost Value = { Reading };
+
+    ghost view = { λ r. record { sizes = r.shape; tag = r.tag; row = r.row; index = r.index; words = r.words; reached = r.reached } };
+}
+
+impl RecordReader {
+    /// A reader of records of this shape, which has begun none. All that its steps use has its room here.
+    pub fn open(alloc: Global, shape: &Shape) -> Result<RecordReader, NoMemory>
+        ensures { MatchResult result (λ reader. reader ≡ opened shape.now) (λ _. ⊥) }
+    {
+        // The reader has its room in itself.
+        let _ = alloc;
+        Ok(RecordReader {
+            shape: *shape,
+            tag: 0,
+            row: 0,
+            index: 0,
+            words: [0; 66],
+            reached: ReadStep::Moved,
+        })
+    }
+
+    /// Begins to read this record, as that of the state with this tag.
+    pub fn begin(&mut self, tag: u64, row: u32)
+        requires tag { tag < tag_limit }
+        requires row { row < records self.old.sizes }
+        ensures { self.new ≡ begun tag row self.old }
+    {
+        self.tag = tag;
+        self.row = row;
+        self.index = 0;
+        self.reached = ReadStep::Going;
+    }
+
+    /// Loads the next word of the record, in this call or for a transfer alone: one atomic step of one word. After
+    /// `Moved` and after `Whole` it is to be begun anew.
+    ///
+    /// The condition is that the seat's process makes this load next, in the try that loaded the words so far.
+    pub fn step<L: Ledger>(
+        &mut self,
+        table: &PoolTable,
+        seat: &mut PoolSeat,
+        call: Option<Call>,
+        steps: &mut Steps<L>,
+    ) -> ReadStep
+        requires seat { seat.old.table ≡ table.now }
+        requires words { table.now.words ≡ table_words self.old.sizes }
+        requires steps { steps.old + 1 < 2 ^ 64 }
+        requires can { CanStep self.old.sizes (about_of call Take) seat.old.view }
+        requires reads { CanRead (about_of call Take) seat.old.view self.old }
+        ensures seat { SameSeat seat.old seat.new }
+        ensures steps { steps.new ≡ steps.old + 1 }
+        ensures read { HasReadOn (about_of call Take) seat.old.view self.old seat.new.view self.new result }
+        ensures on { result ≡ Going → CanReadOn self.old.sizes (about_of call Take) seat.new.view self.new }
+    {
+        prove!(self.shape.processes() <= 32);
+        // In the middle of a transfer its wish isn't looked at.
+        let about = about_of(call, Wish::Take);
+        let index = self.index;
+        let loaded = load_record_word(
+            &self.shape,
+            &about,
+            self.tag,
+            self.row,
+            index,
+            table,
+            seat,
+            steps,
+        );
+        self.words[index as usize] = loaded.word;
+        self.index = index + 1;
+        self.reached = loaded.read;
+        loaded.read
+    }
+
+    /// The value of a word of a record that is whole.
+    pub fn value(&self, index: u32) -> u32
+        requires whole { self.now.reached ≡ Whole }
+        requires index { index < record_words self.now.sizes }
+        ensures { result ≡ read_value self.now index }
+    {
+        prove!(self.shape.processes() <= 32);
+        Tagged::value(self.words[index as usize])
+    }
+}
