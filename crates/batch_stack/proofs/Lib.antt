@@ -1,3 +1,4 @@
 pub mod Made
 pub mod Bounds
 pub mod Parts
+pub mod Alone

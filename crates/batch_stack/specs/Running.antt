@@ -77,3 +77,8 @@ pub record ComesNearer (sizes : Sizes) (t u : TransferView) (answer : Progress) 
 abbrev pub GoesOn : Sizes → About → SeatView → TransferView → Type 0
 GoesOn sizes (Alone wish) x u = (next : Wish) → CanStep sizes (Alone next) x × Agrees (Alone next) x u
 GoesOn sizes (InCall call) x u = Unit {0}
+
+-- a process is in this transfer outside any call, and its next step is due, the first one or a later one
+pub record GoesAlone (sizes : Sizes) (v : SeatView) (t : TransferView) : Type 0 where
+  pub can : CanStep sizes (Alone t.wish) v
+  pub agrees : Agrees (Alone t.wish) v t

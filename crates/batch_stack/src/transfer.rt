@@ -22,6 +22,9 @@ use transfer_machine::{NextStep, TransferView, TryStep};
 use versioned_records::{load_record_word, store_record_word};
 use word_layout::{Shape, Wish};
 
+#[cfg(test)]
+mod tests;
+
 /// The transfers of one process, one after the other.
 ///
 /// Clauses see the shape's numbers and the machine's part of a transfer.
@@ -95,11 +98,20 @@ impl Transfer {
         ensures on { result ≡ Going → GoesOn self.old.sizes (step_about call self.old) seat.new.view self.new.part }
     {
         let about = about_of(call, self.view.wish);
-        step_part(&mut self.view, &self.shape, &about, table, seat, steps)
+        step_part(&mut self.view, &self.shape, &about, table, seat, steps).progress
     }
 }
 
-/// Makes the next step of a process's part of the transfers, and answers how far it is.
+/// A step that was made.
+#[derive(Clone, Copy, Debug)]
+struct Made {
+    /// The word that it met; of a store, the one that it left.
+    word: u64,
+    /// How far the transfer is after it.
+    progress: Progress,
+}
+
+/// Makes the next step of a process's part of the transfers, and answers its word and how far it is.
 fn step_part<L: Ledger>(
     view: &mut TransferView,
     shape: &Shape,
@@ -107,7 +119,7 @@ fn step_part<L: Ledger>(
     table: &PoolTable,
     seat: &mut PoolSeat,
     steps: &mut Steps<L>,
-) -> Progress
+) -> Made
     requires seat { seat.old.table ≡ table.now }
     requires words { table.now.words ≡ table_words shape.now }
     requires steps { steps.old + 1 < 2 ^ 64 }
@@ -115,14 +127,17 @@ fn step_part<L: Ledger>(
     requires agrees { Agrees about.now seat.old.view view.old }
     ensures seat { SameSeat seat.old seat.new }
     ensures steps { steps.new ≡ steps.old + 1 }
-    ensures step { MadeStep shape.now about.now seat.old.view view.old seat.new.view view.new result }
-    ensures nearer { ComesNearer shape.now view.old view.new result }
-    ensures on { result ≡ Going → GoesOn shape.now about.now seat.new.view view.new }
+    ensures step { MadeStep shape.now about.now seat.old.view view.old seat.new.view view.new result.progress }
+    ensures nearer { ComesNearer shape.now view.old view.new result.progress }
+    ensures on { result.progress ≡ Going → GoesOn shape.now about.now seat.new.view view.new }
 {
     let next = view.next;
     let word = make_step(view, shape, about, table, seat, steps);
     view.meet(shape, word);
-    progress_at(next, word)
+    Made {
+        word,
+        progress: progress_at(next, word),
+    }
 }
 
 /// Makes that step on its word, and answers the word that it met; of a store, the one that it left.
