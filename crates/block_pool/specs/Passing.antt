@@ -5,13 +5,12 @@ use Rattle.word_layout.specs.Sizes.{Sizes}
 use Rattle.word_table.specs.Seats.{Seated}
 use Rattle.pool_model.specs.declared.entry.Entry.{Entry}
 use Rattle.transfer_schedule.specs.Numbers.{Numbers}
-use Rattle.transfer_machine.specs.declared.transfer.TransferView.{TransferView}
 use Rattle.pool_machine.specs.Conditions.{may_use_calls}
 use Rattle.pool_machine.specs.declared.call.CallStage.TheVariants.{Between}
-use Rattle.pool_machine.specs.declared.view.PoolView.{PoolView}
 use Rattle.pool_table.specs.Minds.{KnownWord, number_of, entries_in, held_in}
 use Rattle.pool_table.specs.Views.{SeatView}
 use Rattle.pool_table.specs.Steps.{Among}
+use Rattle.block_pool.specs.declared.process.Process.{Process}
 
 -- a pool: its table and its shape
 pub record Pooled : Type 0 where
@@ -53,17 +52,17 @@ pass_of seat = record {
   moves = seat.view.mind.moves;
 }
 
--- the seat is that of a process of this shape between two calls, which may begin one, and these are its transfers and its private pool
-pub record BetweenCalls (sizes : Sizes) (t : TransferView) (p : PoolView) (v : SeatView) : Type 0 where
-  pub of_process : v.of_process ≡ true
-  pub shape : v.sizes ≡ sizes
-  pub transfer : v.mind.view.transfer ≡ t
-  pub pool : v.mind.view.pool ≡ p
-  pub between : v.mind.view.calls.stage ≡ Between
-  pub way : may_use_calls v.mind.view.calls.way ≡ true
-  pub among : Among v
+-- the seat of the process is of its shape, between two calls and free to begin one, and has these transfers and this private pool
+pub record BetweenCalls (process : Process) : Type 0 where
+  pub of_process : process.seat.view.of_process ≡ true
+  pub shape : process.seat.view.sizes ≡ process.shape
+  pub transfer : process.seat.view.mind.view.transfer ≡ process.transfer
+  pub pool : process.seat.view.mind.view.pool ≡ process.pool
+  pub between : process.seat.view.mind.view.calls.stage ≡ Between
+  pub way : may_use_calls process.seat.view.mind.view.calls.way ≡ true
+  pub among : Among process.seat.view
 
 -- what a pass keeps: its process is between two calls, and its blocks are counted
-pub record PassFits (sizes : Sizes) (t : TransferView) (p : PoolView) (holding : ℕ) (v : SeatView) : Type 0 where
-  pub between_calls : BetweenCalls sizes t p v
-  pub counted : holding ≡ length (held_in v.mind)
+pub record PassFits (process : Process) (holding : ℕ) : Type 0 where
+  pub between_calls : BetweenCalls process
+  pub counted : holding ≡ length (held_in process.seat.view.mind)

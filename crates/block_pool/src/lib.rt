@@ -7,6 +7,7 @@
 
 mod pass;
 mod pool;
+mod process;
 
 pub use pass::{Block, Pass};
 pub use pool::{Answer, Pool};

@@ -1,11 +1,8 @@
 // The pass of a process, and the blocks that it holds.
 ghost use Rattle.std.specs.Prelude.{◌≡◌, length, Contains};
 
-use pool_machine::PoolView;
-use pool_table::PoolSeat;
+use crate::process::Process;
 use std::marker::Model;
-use transfer_machine::TransferView;
-use word_layout::Shape;
 
 /// The token of one block. It can't be copied; a block whose token is dropped stays held for good.
 ///
@@ -39,12 +36,7 @@ impl Block {
 /// transfers it began and how many steps it made.
 #[derive(Drop)]
 pub struct Pass {
-    pub(crate) seat: PoolSeat,
-    pub(crate) shape: Shape,
-    /// Its part of the transfers.
-    pub(crate) transfer: TransferView,
-    /// Its private pool.
-    pub(crate) pool: PoolView,
+    pub(crate) process: Process,
     /// How many blocks it holds.
     pub(crate) holding: u32,
 }
@@ -54,9 +46,9 @@ impl Model for Pass {
 
     ghost Value = { Passed };
 
-    ghost view = { λ pass. pass_of pass.seat };
+    ghost view = { λ pass. pass_of pass.process.seat };
 
-    ghost invariant = { λ pass. PassFits pass.shape pass.transfer pass.pool pass.holding pass.seat.view };
+    ghost invariant = { λ pass. PassFits pass.process pass.holding };
 }
 
 impl Pass {
@@ -64,14 +56,14 @@ impl Pass {
     pub fn number(&self) -> u32
         ensures { result ≡ self.now.number }
     {
-        self.transfer.number
+        self.process.transfer.number
     }
 
     /// How many transfers it has begun.
     pub fn age(&self) -> u64
         ensures { result ≡ self.now.age }
     {
-        self.transfer.age
+        self.process.transfer.age
     }
 
     /// How many blocks it holds.
