@@ -52,10 +52,10 @@ pass_of seat = record {
   moves = seat.view.mind.moves;
 }
 
--- the seat of the process is of its shape, between two calls and free to begin one, and has these transfers and this private pool
-pub record BetweenCalls (process : Process) : Type 0 where
+-- the seat is that of a process of this shape, between two calls and free to begin one, and the running parts are those of its mind
+pub record BetweenCalls (sizes : Sizes) (process : Process) : Type 0 where
   pub of_process : process.seat.view.of_process ≡ true
-  pub shape : process.seat.view.sizes ≡ process.shape
+  pub shape : process.seat.view.sizes ≡ sizes
   pub transfer : process.seat.view.mind.view.transfer ≡ process.transfer
   pub pool : process.seat.view.mind.view.pool ≡ process.pool
   pub between : process.seat.view.mind.view.calls.stage ≡ Between
@@ -63,6 +63,6 @@ pub record BetweenCalls (process : Process) : Type 0 where
   pub among : Among process.seat.view
 
 -- what a pass keeps: its process is between two calls, and its blocks are counted
-pub record PassFits (process : Process) (holding : ℕ) : Type 0 where
-  pub between_calls : BetweenCalls process
+pub record PassFits (sizes : Sizes) (process : Process) (holding : ℕ) : Type 0 where
+  pub between_calls : BetweenCalls sizes process
   pub counted : holding ≡ length (held_in process.seat.view.mind)

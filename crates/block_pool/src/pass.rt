@@ -3,6 +3,7 @@ ghost use Rattle.std.specs.Prelude.{◌≡◌, length, Contains};
 
 use crate::process::Process;
 use std::marker::Model;
+use word_layout::Shape;
 
 /// The token of one block. It can't be copied; a block whose token is dropped stays held for good.
 ///
@@ -37,6 +38,7 @@ impl Block {
 #[derive(Drop)]
 pub struct Pass {
     pub(crate) process: Process,
+    pub(crate) shape: Shape,
     /// How many blocks it holds.
     pub(crate) holding: u32,
 }
@@ -48,7 +50,7 @@ impl Model for Pass {
 
     ghost view = { λ pass. pass_of pass.process.seat };
 
-    ghost invariant = { λ pass. PassFits pass.process pass.holding };
+    ghost invariant = { λ pass. PassFits pass.shape pass.process pass.holding };
 }
 
 impl Pass {

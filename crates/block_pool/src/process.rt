@@ -2,7 +2,6 @@
 use pool_machine::PoolView;
 use pool_table::PoolSeat;
 use transfer_machine::TransferView;
-use word_layout::Shape;
 
 /// The process of a pass: its seat, and what the machine knows of it, by its parts. Which call it is in, and how many
 /// steps that made, is told by the code.
@@ -10,8 +9,6 @@ use word_layout::Shape;
 pub struct Process {
     /// What steps on the pool's table.
     pub seat: PoolSeat,
-    /// The shape of the pool.
-    pub shape: Shape,
     /// Its part of the transfers.
     pub transfer: TransferView,
     /// Its private pool.
