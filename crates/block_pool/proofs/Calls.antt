@@ -67,7 +67,8 @@ call_starts : (sizes : Sizes) (call : Call) (x : Process) → BetweenCalls sizes
     → CanGo sizes call (call_begun call x.seat.view.mind.view) x.seat.view
 call_starts sizes call x f young names held =
     let v = x.seat.view in
-    let may = both_hold (may_use_calls v.mind.view.calls.way) (is_young_for call v.mind.view) (names_fit sizes true call) f.way young names in
+    let may = both_hold (may_use_calls v.mind.view.calls.way) (is_young_for call v.mind.view) (names_fit sizes true call)
+    f.way young names in
     record {
       can = call_can_step sizes call v f.of_process f.shape f.among (may_begin sizes call v.mind.view f.between may) held;
       view = begins_so call v.mind.view f.between;

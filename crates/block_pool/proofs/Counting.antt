@@ -38,7 +38,8 @@ holds_few sizes x f =
     let one = term_of_total v.sizes.processes i (λ o. length (grip (own history o))) at.low in
     let counted = all_counted v.sizes f.among.words (views_of f.among.held.minds) history ghosts holds in
     let mine : length (held_in v.mind) ≡ length (grip (own history i)) = ap (λ l. length (grip l)) sees.own_seen in
-    let all = at_most_all (length (grip (own history i))) (length (held history)) _ _ (blocks v.sizes) (omega (arith, one, shared.grips.count)) counted in
+    let all = at_most_all (length (grip (own history i))) (length (held history)) _ _ (blocks v.sizes)
+    (omega (arith, one, shared.grips.count)) counted in
     let most = at.holds.shape.few_blocks in
     omega (arith, mine, all, most)
 
@@ -56,6 +57,7 @@ pub holds_one_less : (sizes : Sizes) (x y : Process) (by block : ℕ) → Betwee
 holds_one_less sizes x y by block f g e =
     let old = entries_in x.seat.view.mind in
     let new = entries_in y.seat.view.mind in
-    one_less (count_by is_got old) (count_by is_back old) (length (grip old)) (count_by is_got new) (count_by is_back new) (length (grip new))
+    one_less (count_by is_got old) (count_by is_back old) (length (grip old))
+    (count_by is_got new) (count_by is_back new) (length (grip new))
     (balanced sizes x f) (balanced sizes y g) (ap (λ l. count_by is_got l) e ∙ gots_more old (Back by block))
     (ap (λ l. count_by is_back l) e ∙ backs_more old (Back by block))

@@ -32,7 +32,8 @@ use Rattle.pool_table.specs.Views.{SeatView}
 use Rattle.pool_table.specs.Steps.{SeenAfter, Stepped}
 use Rattle.pool_table.proofs.Ready.{call_can_step}
 use Rattle.block_pool.specs.declared.process.Process.{Process}
-use Rattle.block_pool.specs.Running.{calling, counted, moving, running, owning, beginning, stage_after, CanGo, IsMoving, IsRunning, IsOwning}
+use Rattle.block_pool.specs.Running.{calling, counted, moving, running, owning, beginning, stage_after}
+use Rattle.block_pool.specs.Running.{CanGo, IsMoving, IsRunning, IsOwning}
 use Rattle.block_pool.specs.Moves.{is_reply, counted_unless, PlanStepped, MovedOne, MovedOn, AgesByOne, PlanRuns, rests, runs_on, ends}
 use Rattle.block_pool.proofs.Going.{can_move, becomes}
 
@@ -97,7 +98,8 @@ inside_view call v e = rw e refl
 no_entries : (sizes : Sizes) (call : Call) (n word : ℕ) (x : Process) (v : SeatView) → IsMoving sizes call n x
     → Stepped (InCall call) x.seat.view word v → entries_in v.mind ≡ entries_in x.seat.view.mind
 no_entries sizes call n word x v go s =
-    s.entries ∙ (ap (λ z. entries_in x.seat.view.mind ++ entries_of (next_answer z word)) go.view ∙ append-nil (entries_in x.seat.view.mind))
+    let before = entries_in x.seat.view.mind in
+    s.entries ∙ (ap (λ z. before ++ entries_of (next_answer z word)) go.view ∙ append-nil before)
 
 -- and leaves it in its call
 pub goes_on : (sizes : Sizes) (call : Call) (n word : ℕ) (x : Process) (v : SeatView) (w : ProcessView) → IsMoving sizes call n x
@@ -129,17 +131,20 @@ rests_after sizes t word LoadReply busy = refl
 abbrev pub stage_moved : Bool → ℕ → ℕ → CallStage
 stage_moved ended most n = if ended || (n == most) then Own else Moving
 
+abbrev pub view_moved : ℕ → Call → ℕ → Bool → TransferView → PoolView → ProcessView
+view_moved most call n ended t pool = record { transfer = t; pool = pool; calls = calling (stage_moved ended most n) call n }
+
 moved_view : (sizes : Sizes) (call : Call) (n : ℕ) (x y : Process) (ended : Bool) → IsMoving sizes call n x
     → (m : MovedOne sizes call n x ended y) → next_met sizes (moving call n x) m.word
-    ≡ record { transfer = y.transfer; pool = counted_unless ended (n + 1) y.pool; calls = calling (stage_moved ended sizes.quantum (n + 1)) call (n + 1) }
+    ≡ view_moved sizes.quantum call (n + 1) ended y.transfer (counted_unless ended (n + 1) y.pool)
 moved_view sizes call n x y ended go m =
-    let t = x.transfer in
-    let word = m.word in
+    let t = met_of sizes x.transfer m.word in
+    let pool = pool_met_at m.word (counted n x.pool) x.transfer.next in
     let busy = (can_move sizes call n x go).busy in
-    let rests : is_rest (met_of sizes t word).next ≡ ended = rests_after sizes t word t.next busy ∙ sym m.pool.last in
-    ap (λ z. record { transfer = met_of sizes t word; pool = pool_met_at word (counted n x.pool) t.next; calls = calling (stage_moved z sizes.quantum (n + 1)) call (n + 1) }) rests
-    ∙ (ap (λ (z : TransferView). record { transfer = z; pool = pool_met_at word (counted n x.pool) t.next; calls = calling (stage_moved ended sizes.quantum (n + 1)) call (n + 1) }) (sym m.transfer)
-    ∙ ap (λ (z : PoolView). record { transfer = y.transfer; pool = z; calls = calling (stage_moved ended sizes.quantum (n + 1)) call (n + 1) }) (sym m.pool.pool))
+    let rests : is_rest t.next ≡ ended = rests_after sizes x.transfer m.word x.transfer.next busy ∙ sym m.pool.last in
+    ap (λ z. view_moved sizes.quantum call (n + 1) z t pool) rests
+    ∙ (ap (λ z. view_moved sizes.quantum call (n + 1) ended z pool) (sym m.transfer)
+    ∙ ap (view_moved sizes.quantum call (n + 1) ended y.transfer) (sym m.pool.pool))
 
 in_call_moved : (t : Bool) → is_in_call (if t then Own else Moving) ≡ true
 in_call_moved true = refl

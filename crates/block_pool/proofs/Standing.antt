@@ -67,7 +67,8 @@ stands sizes x f =
     subst (λ (z : Mind). DataHolds v.sizes (word_at v.sizes words) (grip (own history i)) (known_in z.known)) at.here
     (at.holds.data_words i at.low) in
     let five : withheld v.mind.view.pool.plan ≤ 5 * v.sizes.length =
-    subst (λ (z : ProcessView). withheld z.pool.plan ≤ 5 * v.sizes.length) view_is (withholds_five v.sizes i (minds i).view ledger goes in_calls) in
+    subst (λ (z : ProcessView). withheld z.pool.plan ≤ 5 * v.sizes.length) view_is
+    (withholds_five v.sizes i (minds i).view ledger goes in_calls) in
     let less = kept_less v.mind.view.pool.plan v.mind.view.pool.plan.pending refl in
     record {
       legal = subst (IsLegal (limits_of v.sizes)) sees.beginning
