@@ -7,16 +7,11 @@ use Rattle.std.proofs.lemmas.Bool.Decides.{nat_tests}
 use Rattle.word_layout.specs.Sizes.{Sizes}
 use Rattle.word_layout.specs.Names.{record_words}
 use Rattle.word_layout.specs.Packing.{tag_of, value_of}
-use Rattle.word_layout.specs.declared.announced.Wish.{Wish}
 use Rattle.transfer_machine.specs.Loads.{loaded_tag, loaded_record}
 use Rattle.transfer_machine.specs.Machine.{met_at, met_of, record_word_loaded}
 use Rattle.transfer_machine.specs.Stages.{is_rest}
 use Rattle.transfer_machine.specs.declared.loaded.Loaded.{Loaded}
-use Rattle.transfer_machine.specs.declared.stage.NextStep.TheVariants.{Try}
-use Rattle.transfer_machine.specs.declared.stage.TryStep.TheVariants.{LoadRecordWord}
 use Rattle.transfer_machine.specs.declared.transfer.TransferView.{TransferView}
-use Rattle.transfer_invariant.specs.Memory.{state_value}
-use Rattle.transfer_invariant.specs.Records.{LoadedState}
 use Rattle.pool_machine.specs.declared.view.ProcessView.{ProcessView}
 use Rattle.pool_table.specs.declared.about.About.{About}
 use Rattle.pool_table.specs.declared.about.About.TheVariants.{Alone, InCall}
@@ -27,8 +22,8 @@ use Rattle.pool_table.specs.Transfers.{Agrees, transfer_about}
 use Rattle.pool_table.proofs.Transfers.{DueOn, due_there, transfer_steps, goes_on_alone}
 use Rattle.versioned_records.specs.declared.load.ReadStep.{ReadStep}
 use Rattle.versioned_records.specs.declared.load.ReadStep.TheVariants.{Going, Whole, Moved}
-use Rattle.versioned_records.specs.Loads.{IsToLoad, LoadsWord, HasState, HadMovedOn, read_step}
-use Rattle.versioned_records.specs.Reading.{Reading, CanRead, CanReadOn, HasRead, HasReadOn, ReadsOn, reading_after}
+use Rattle.versioned_records.specs.Loads.{IsToLoad, HasState, read_step}
+use Rattle.versioned_records.specs.Reading.{Reading, CanRead, CanReadOn, HasRead, HasReadOn, reading_after}
 use Rattle.versioned_records.proofs.Loading.{load_within, tag_never_lower, moved_on, whole_has_state, whole_tests}
 
 -- the room of the record words that a process loads

@@ -3,12 +3,10 @@ use Rattle.std.proofs.Common.{◌≡◌, ℕ, ◌+◌, ◌<◌, ◌≤◌, ◌==
 use Rattle.std.specs.Prelude.{if◌then◌else◌}
 use Rattle.word_layout.specs.Sizes.{Sizes}
 use Rattle.word_layout.specs.Names.{record_words}
-use Rattle.word_layout.specs.declared.announced.Wish.{Wish}
 use Rattle.transfer_machine.specs.Machine.{met_at, met_of, after_stored}
 use Rattle.transfer_machine.specs.Stages.{is_rest}
 use Rattle.transfer_machine.specs.Tries.{drafted_value}
 use Rattle.transfer_machine.specs.declared.stage.NextStep.TheVariants.{Try}
-use Rattle.transfer_machine.specs.declared.stage.TryStep.TheVariants.{StoreRecordWord, ExchangeState}
 use Rattle.transfer_machine.specs.declared.transfer.TransferView.{TransferView}
 use Rattle.pool_table.specs.declared.about.About.{About}
 use Rattle.pool_table.specs.declared.about.About.TheVariants.{Alone, InCall}
@@ -18,7 +16,7 @@ use Rattle.pool_table.specs.Transfers.{Agrees, transfer_about}
 use Rattle.pool_table.proofs.Transfers.{due_there, transfer_steps, goes_on_alone}
 use Rattle.versioned_records.specs.declared.store.WriteStep.{WriteStep}
 use Rattle.versioned_records.specs.declared.store.WriteStep.TheVariants.{Going, Written}
-use Rattle.versioned_records.specs.Stores.{IsToStore, StoresWord, write_step}
+use Rattle.versioned_records.specs.Stores.{IsToStore, write_step}
 use Rattle.versioned_records.proofs.Storing.{store_fits}
 use Rattle.versioned_records.specs.Writing.{Writing, CanWrite, CanWriteOn, HasWrittenOn, next_word, next_value, wrote}
 
