@@ -79,7 +79,8 @@ moving_not_rest : (s : NextStep) → is_moving s ≡ true → is_rest s ≡ fals
 moving_not_rest s e = grind arith
 
 pub goes_on : (sizes : Sizes) (a : About) (v x : SeatView) (t u : TransferView) (word : ℕ) (answer : Progress) → CanStep sizes a v
-    → Agrees a v t → Stepped a v word x → u ≡ met_of sizes t word → answer ≡ progress_at t.next u.answer → answer ≡ Going → GoesOn sizes a x u
+    → Agrees a v t → Stepped a v word x → u ≡ met_of sizes t word → answer ≡ progress_at t.next u.answer → answer ≡ Going
+    → GoesOn sizes a x u
 goes_on sizes (about.Alone wish) v x t u word answer c agrees s part answered goes =
     let moving = moving_unless_rest t.next (transfer_is_going sizes (about.Alone wish) v t c agrees) in
     let on = moving_not_rest (met_of sizes t word).next (going_moves sizes t word u.answer t.next moving (sym answered ∙ goes)) in

@@ -15,7 +15,8 @@ use Rattle.batch_stack.specs.Running.{Running, MadeStep, ComesNearer, GoesOn, pr
 use Rattle.batch_stack.proofs.Bounds.{comes_nearer, goes_on}
 
 -- all that it tells
-pub record Tells (sizes : Sizes) (a : About) (v : SeatView) (t : TransferView) (x : SeatView) (u : TransferView) (answer : Progress) : Type 0 where
+pub record Tells (sizes : Sizes) (a : About) (v : SeatView) (t : TransferView) (x : SeatView) (u : TransferView)
+    (answer : Progress) : Type 0 where
   pub made : MadeStep sizes a v t x u answer
   pub nearer : ComesNearer sizes t u answer
   pub on : answer ≡ Going → GoesOn sizes a x u

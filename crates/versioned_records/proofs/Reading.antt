@@ -140,7 +140,8 @@ module _ (sizes : Sizes) (a : About) (v x : SeatView) (r : Reading) (word : ℕ)
   reads_same room moved k lt =
       let t = transfer_about a v in
       let low = not_moved (nat_lt r.tag (tag_of word)) (r.index + 1 == record_words sizes) moved in
-      let words = ap (λ (u : TransferView). u.loaded.record_words) mirrors ∙ met_words sizes t r.tag r.row r.index word reads.loads.loads low in
+      let words = ap (λ (u : TransferView). u.loaded.record_words) mirrors
+      ∙ met_words sizes t r.tag r.row r.index word reads.loads.loads low in
       let its_room = due_room v.sizes c.among.words (turning a v.mind.view) (due_there sizes a v c) in
       let low_index = reads_below sizes a v r c reads in
       let alike = set_alike r.words t.loaded.record_words r.index word k (omega (arith, room, low_index))
@@ -205,7 +206,8 @@ read_seen a b v x r old s word answer e same can reads stepped room answered aft
     (reads_on r.sizes a v x r word (subst (λ (o : Reading). CanStep o.sizes a v) (sym e) can) (subst (CanRead a v) (sym e) reads) met
     refl room answer answered))
 
-pub read_on_seen : (a b : About) (v x : SeatView) (r old s : Reading) (word : ℕ) (answer : ReadStep) → r ≡ old → b ≡ a → CanStep old.sizes a v
+pub read_on_seen : (a b : About) (v x : SeatView) (r old s : Reading) (word : ℕ) (answer : ReadStep) → r ≡ old → b ≡ a
+    → CanStep old.sizes a v
     → CanRead a v old → Stepped b v word x → length r.words ≡ 66 → answer ≡ read_step r.sizes r.tag r.index word
     → s ≡ reading_after answer word r → answer ≡ Going → CanReadOn old.sizes a x s
 read_on_seen a b v x r old s word answer e same can reads stepped room answered after goes =

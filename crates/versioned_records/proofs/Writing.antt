@@ -43,7 +43,8 @@ module _ (a : About) (v x : SeatView) (w : Writing) (c : CanStep w.sizes a v) (w
   own_agrees = record { same = refl; moves = writes.moves }
 
   mirrors : x.mind.view.transfer ≡ met_of w.sizes (transfer_about a v) (next_word w)
-  mirrors = transfer_steps w.sizes a v x (transfer_about a v) (met_of w.sizes (transfer_about a v) (next_word w)) (next_word w) c own_agrees s refl
+  mirrors = transfer_steps w.sizes a v x (transfer_about a v) (met_of w.sizes (transfer_about a v) (next_word w)) (next_word w) c own_agrees
+      s refl
 
   keeps_draft : x.mind.view.transfer.draft ≡ (transfer_about a v).draft
   keeps_draft =
@@ -83,7 +84,8 @@ pub can_write_seen : (a b : About) (v : SeatView) (w old : Writing) → w ≡ ol
 can_write_seen a b v w old e same writes = subst (λ z. CanWrite z v w) (sym same) (subst (CanWrite a v) (sym e) writes)
 
 pub can_step_seen : (a b : About) (v : SeatView) (w old : Writing) → w ≡ old → b ≡ a → CanStep old.sizes a v → CanStep w.sizes b v
-can_step_seen a b v w old e same can = subst (λ z. CanStep w.sizes z v) (sym same) (subst (λ (o : Writing). CanStep o.sizes a v) (sym e) can)
+can_step_seen a b v w old e same can =
+    subst (λ z. CanStep w.sizes z v) (sym same) (subst (λ (o : Writing). CanStep o.sizes a v) (sym e) can)
 
 pub below_seen : (a : About) (v : SeatView) (w old : Writing) → w ≡ old → CanStep old.sizes a v → CanWrite a v old → w.index < 66
 below_seen a v w old e can writes =
@@ -97,7 +99,8 @@ pub written_seen : (a b : About) (v x : SeatView) (w old s : Writing) (word : �
     → s ≡ wrote w → HasWrittenOn a v old x s answer
 written_seen a b v x w old s word answer e same can writes stepped stored answered after =
     let met = subst (λ n. Stepped a v n x) stored (subst (λ z. Stepped z v word x) same stepped) in
-    let written = has_written_on a v x w (can_step_seen a a v w old e refl can) (can_write_seen a a v w old e refl writes) met answer answered in
+    let can_so = can_step_seen a a v w old e refl can in
+    let written = has_written_on a v x w can_so (can_write_seen a a v w old e refl writes) met answer answered in
     subst (λ o. HasWrittenOn a v o x s answer) e (subst (λ z. HasWrittenOn a v w x z answer) (sym after) written)
 
 pub write_on_seen : (a b : About) (v x : SeatView) (w old s : Writing) (word : ℕ) (answer : WriteStep) → w ≡ old → b ≡ a
@@ -105,5 +108,6 @@ pub write_on_seen : (a b : About) (v x : SeatView) (w old s : Writing) (word : �
     → s ≡ wrote w → answer ≡ Going → CanWriteOn old.sizes a x s
 write_on_seen a b v x w old s word answer e same can writes stepped stored answered after goes =
     let met = subst (λ n. Stepped a v n x) stored (subst (λ z. Stepped z v word x) same stepped) in
-    let on = can_write_on a v x w (can_step_seen a a v w old e refl can) (can_write_seen a a v w old e refl writes) met answer answered goes in
+    let can_so = can_step_seen a a v w old e refl can in
+    let on = can_write_on a v x w can_so (can_write_seen a a v w old e refl writes) met answer answered goes in
     subst (λ (o : Writing). CanWriteOn o.sizes a x s) e (subst (CanWriteOn w.sizes a x) (sym after) on)

@@ -27,8 +27,8 @@ store_with-requires-clause-rule g c =
 
 pub compare_exchange_with-requires-clause-rule : goal.compare_exchange_with-requires-clause-rule
 compare_exchange_with-requires-clause-rule g c =
-    keeps_at _ _ _ _ _ (Exchange c.in-Exchange.name c.in-Exchange.old c.in-Exchange.new) c.place-in-Exchange.ensures.place c.requires.may.can
-    (sym c.in-Exchange.is ∙ c.requires.action)
+    keeps_at _ _ _ _ _ (Exchange c.in-Exchange.name c.in-Exchange.old c.in-Exchange.new) c.place-in-Exchange.ensures.place
+    c.requires.may.can (sym c.in-Exchange.is ∙ c.requires.action)
 
 pub returns-in-Load-clause-step : goal.returns-in-Load-clause-step
 returns-in-Load-clause-step g c =

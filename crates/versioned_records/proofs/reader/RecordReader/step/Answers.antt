@@ -12,10 +12,12 @@ pub returns-clause-read : goal.returns-clause-read
 returns-clause-read g c =
     let room : length c.self.inside.words ≡ 66 = search rules in
     let loaded = c.load_record_word-loaded.ensures in
-    read_seen _ _ _ _ _ _ _ _ _ c.self.view_is c.about_of-about.ensures c.requires.may.can c.requires.reads loaded.step room loaded.read refl
+    read_seen _ _ _ _ _ _ _ _ _ c.self.view_is c.about_of-about.ensures c.requires.may.can c.requires.reads loaded.step room
+    loaded.read refl
 
 pub returns-clause-on : goal.returns-clause-on
 returns-clause-on g c goes =
     let room : length c.self.inside.words ≡ 66 = search rules in
     let loaded = c.load_record_word-loaded.ensures in
-    read_on_seen _ _ _ _ _ _ _ _ _ c.self.view_is c.about_of-about.ensures c.requires.may.can c.requires.reads loaded.step room loaded.read refl goes
+    read_on_seen _ _ _ _ _ _ _ _ _ c.self.view_is c.about_of-about.ensures c.requires.may.can c.requires.reads loaded.step room
+    loaded.read refl goes
