@@ -1,0 +1,3 @@
+pub use Rattle.pool_table.specs.Minds
+pub use Rattle.pool_table.specs.Steps
+pub mod Passing
