@@ -5,10 +5,12 @@
 //! transfer of a whole batch and one step of its own. The calls of all passes stand in one legal history.
 #![tactic(auto)]
 
+mod closing;
 mod opening;
 mod pass;
 mod pool;
 mod process;
 
+pub use closing::Settled;
 pub use pass::{Block, Pass};
 pub use pool::{Answer, Pool};

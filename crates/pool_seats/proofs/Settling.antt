@@ -102,6 +102,7 @@ all_fit sizes words minds history seats list few holds each once is =
     let shared = legal_shared (limits_of sizes) history legal in
     let sum = sum_once sizes.processes (λ n. length (grip (own history n))) list low once in
     record {
+      low = low;
       legal = subst (IsLegal (limits_of sizes)) (sym is) legal;
       each = subst (λ whole. EachMind (FitsIn whole) list) (sym is) fits;
       counted = ap (λ whole. length (held whole)) is ∙ shared.grips.count ∙ sym sum ∙ sym (held_is_sum history list fits);

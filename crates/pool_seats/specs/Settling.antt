@@ -3,7 +3,7 @@ use Rattle.std.specs.Prelude.{◌≡◌, ℕ, ◌+◌, ◌<◌, ◌≤◌, true,
 use Rattle.word_layout.specs.Sizes.{Sizes, blocks, limits_of}
 use Rattle.pool_model.specs.History.{held}
 use Rattle.pool_model.specs.Legal.{IsLegal}
-use Rattle.pool_table.specs.Minds.{Mind, held_in}
+use Rattle.pool_table.specs.Minds.{Mind, number_of, held_in}
 use Rattle.pool_table.specs.Views.{SeatView, longest_in}
 use Rattle.pool_table.specs.Rule.{EachMind, count_in}
 use Rattle.pool_table.specs.Settled.{FitsIn}
@@ -21,6 +21,7 @@ held_count (mind ∷ minds) = length (held_in mind) + held_count minds
 -- The longest of what they have seen is the one history of the pool: it is legal, it fits each of them, and they hold
 -- what is held after it, which is no more than all blocks.
 pub record AllFit (sizes : Sizes) (minds : List Mind) : Type 0 where
+  pub low : EachMind (λ mind. number_of mind < sizes.processes) minds
   pub legal : IsLegal (limits_of sizes) (longest_in minds)
   pub each : EachMind (FitsIn (longest_in minds)) minds
   pub counted : length (held (longest_in minds)) ≡ held_count minds
