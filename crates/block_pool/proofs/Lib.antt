@@ -1,3 +1,9 @@
+pub mod Going
+pub mod Moving
+pub mod Standing
+pub mod Calls
+pub mod Counting
+pub mod Passing
 pub mod Opened
 pub mod Joined
 pub mod Settling

@@ -5,6 +5,7 @@
 //! transfer of a whole batch and one step of its own. The calls of all passes stand in one legal history.
 #![tactic(auto)]
 
+mod calling;
 mod closing;
 mod opening;
 mod pass;

@@ -1,5 +1,6 @@
 // The pass of a process, and the blocks that it holds.
 ghost use Rattle.std.specs.Prelude.{◌≡◌, length, Contains};
+ghost use Rattle.block_pool.specs.Standing.{StandsWell};
 
 use crate::process::Process;
 use std::marker::Model;
@@ -84,5 +85,16 @@ impl Pass {
         ensures { result ≡ number }
     {
         Block { number }
+    }
+
+    /// What holds of every pass: what it has seen is legal and has its own entries, by which it holds its blocks; it knows
+    /// data words of these alone; it keeps at most five batches; and an account of its calls, reached by the schedule,
+    /// says how much it keeps and holds together, and why it keeps few.
+    ///
+    /// It does nothing.
+    pub fn stands_well(&self)
+        ensures { StandsWell self.now }
+    {
+        let _ = &self.shape;
     }
 }
