@@ -36,7 +36,7 @@ longer_reaches a b = by (nat_lt (length a) (length b)) refl
     by false e = (omega arith, grind (arith, nat_tests))
 
 -- the longest of all is no shorter than what a process has seen that has a mind in a seat
-longest_in_reaches : (seats n : ℕ) (minds : Minds) (list : List Mind) → EachMind (IsSeated seats minds) list → 1 ≤ count_in n list
+pub longest_in_reaches : (seats n : ℕ) (minds : Minds) (list : List Mind) → EachMind (IsSeated seats minds) list → 1 ≤ count_in n list
     → length (minds n).seen ≤ length (longest_in list)
 longest_in_reaches seats n minds [] each has = absurd (omega arith)
 longest_in_reaches seats n minds (mind ∷ list) each has = elim (cases_eq (number_of mind) n) [
@@ -65,7 +65,7 @@ longest_reaches seats n minds (v ∷ views) each has = elim (cases_eq (count_in 
 ]
 
 -- and it is a beginning of the history, as what each has seen is
-longest_in_begins : (seats : ℕ) (minds : Minds) (history : List Entry) (list : List Mind)
+pub longest_in_begins : (seats : ℕ) (minds : Minds) (history : List Entry) (list : List Mind)
     → ((n : ℕ) → n < seats → Begins (minds n).seen history) → EachMind (IsSeated seats minds) list → Begins (longest_in list) history
 longest_in_begins seats minds history [] sees each = refl
 longest_in_begins seats minds history (mind ∷ list) sees each = longer_begins mind.seen (longest_in list) history
