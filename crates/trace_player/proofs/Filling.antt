@@ -46,7 +46,7 @@ filled_now refused blocks done Held slot block next same below holds = record {
 }
 
 -- what a slot has after another, or it itself, was written
-after_set : (slots : List (Option ℕ)) (slot other : ℕ) (new found : Option ℕ) → slot < length slots
+pub after_set : (slots : List (Option ℕ)) (slot other : ℕ) (new found : Option ℕ) → slot < length slots
     → block_in (set slots slot new) other ≡ found
     → ((other ≡ slot) × (new ≡ found)) ⊎ ((other ≢ slot) × (block_in slots other ≡ found))
 after_set slots slot other new found within e =
