@@ -1,0 +1,7 @@
+pub mod Digits
+pub mod Lines
+pub mod Meanings
+pub mod Places
+pub mod Readings
+pub mod Taking
+pub mod Writing

@@ -1,0 +1,10 @@
+pub mod Fault
+pub mod Line
+pub mod Number
+pub mod Numbers
+pub mod Reading
+pub mod Script
+pub mod ScriptWriter
+pub mod Slots
+pub mod Taken
+pub mod Words4
