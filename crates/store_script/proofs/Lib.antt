@@ -1,4 +1,5 @@
 pub mod Digits
+pub mod Following
 pub mod Lines
 pub mod Meanings
 pub mod Places

@@ -4,6 +4,7 @@
 //! key has, and what a store replies where some of its puts are refused; the code meets these definitions.
 #![tactic(auto)]
 
+mod answered;
 mod command;
 mod fault;
 pub mod laws;
@@ -12,13 +13,16 @@ mod number;
 mod quad;
 mod reading;
 mod record;
+mod replies;
 mod slots;
 mod source;
 mod words;
 
+pub use answered::Answered;
 pub use command::{Command, CommandList, StoreScript};
 pub use fault::ScriptFault;
 pub use line::{Meaning, Request};
 pub use quad::Quad;
 pub use record::Record;
+pub use replies::answers;
 pub use source::read_script;

@@ -1,5 +1,5 @@
 // The value of a key in a store script.
-ghost use Rattle.std.specs.Prelude.{refl, [], ◌∷◌, ◌≤◌, slice_index};
+ghost use Rattle.std.specs.Prelude.{◌≡◌, ◌<◌, refl, [], ◌∷◌, ◌≤◌, slice_index};
 ghost use Rattle.std.proofs.Common.{lit≤};
 ghost use Rattle.store_script.specs.Words4.{rest_is_zero};
 
@@ -12,6 +12,23 @@ pub struct Quad {
     pub b: u64,
     pub c: u64,
     pub d: u64,
+}
+
+impl Quad {
+    ghost use Rattle.store_script.specs.Replies.{changed};
+
+    /// The same numbers but for that of an index, 0 to 3.
+    pub fn changed(self, index: u32, number: u64) -> Quad
+        requires { index < 4 }
+        ensures { result ≡ changed self index number }
+    {
+        match index {
+            0 => Quad { a: number, ..self },
+            1 => Quad { b: number, ..self },
+            2 => Quad { c: number, ..self },
+            _ => Quad { d: number, ..self },
+        }
+    }
 }
 
 impl Record for Quad {
