@@ -1,0 +1,233 @@
+-- whole calls: how they begin and how they end
+use Rattle.std.proofs.Common.{◌≡◌, ℕ, ◌<◌, Bool, true, List, [], ◌∷◌, ◌++◌, refl, sym, ap, ◌∙◌, subst, arith}
+use Rattle.std.specs.Prelude.{◌&&◌, ◌||◌, nat_lt, if◌then◌else◌, Option, None, Some, Contains, length}
+use Rattle.std.proofs.lemmas.Bool.Decides.{nat_tests}
+use Rattle.word_layout.specs.Sizes.{Sizes, most_blocks}
+use Rattle.word_layout.specs.Packing.{most_age}
+use Rattle.word_layout.specs.declared.announced.Wish.{Wish}
+use Rattle.pool_model.specs.declared.entry.Entry.{Entry}
+use Rattle.pool_model.specs.declared.entry.Entry.TheVariants.{Back}
+use Rattle.transfer_schedule.specs.Numbers.{Numbers, is_idle, after_choice}
+use Rattle.transfer_schedule.proofs.Operations.{choice_sizes}
+use Rattle.transfer_machine.specs.declared.transfer.TransferView.{TransferView}
+use Rattle.transfer_machine.specs.declared.kind.Kind.{Kind}
+use Rattle.pool_machine.specs.Beginning.{newest, due, begun_if_due, before_call, first_stage, entered, call_begun}
+use Rattle.pool_machine.specs.Conditions.{may_call, may_use_calls, is_young_for, names_fit}
+use Rattle.pool_machine.specs.OwnSteps.{own_answer_for, own_kind_for, next_block, allocate_answer}
+use Rattle.pool_machine.specs.Ready.{CanBegin}
+use Rattle.pool_machine.specs.Steps.{happened}
+use Rattle.pool_machine.specs.declared.call.Call.{Call}
+use Rattle.pool_machine.specs.declared.call.Call.TheVariants.{Allocate, Free, Read, Write}
+use Rattle.pool_machine.specs.declared.call.CallStage.TheVariants.{Between, Moving, Own}
+use Rattle.pool_machine.specs.declared.call.CallView.{CallView}
+use Rattle.pool_machine.specs.declared.view.PoolView.{PoolView}
+use Rattle.pool_machine.specs.declared.view.ProcessView.{ProcessView}
+use Rattle.pool_machine.proofs.Plans.{choice_is_the_plans}
+use Rattle.interleaving_core.specs.Invariant.{BlockIsHeld}
+use Rattle.interleaving_core.specs.Moves.{may_go, calling_view}
+use Rattle.interleaving_core.specs.Runs.{entries_of}
+use Rattle.interleaving_core.specs.Steps.{is_in_call, next_answer}
+use Rattle.pool_table.specs.declared.about.About.TheVariants.{InCall}
+use Rattle.pool_table.specs.Minds.{number_of, entries_in, held_in}
+use Rattle.pool_table.specs.Turns.{turning, words_by_call, words_known_after}
+use Rattle.pool_table.specs.Views.{SeatView}
+use Rattle.pool_table.specs.Steps.{SeenAfter, Stepped}
+use Rattle.pool_table.proofs.Ready.{seat_can_begin, call_can_step}
+use Rattle.block_pool.specs.declared.process.Process.{Process}
+use Rattle.block_pool.specs.Passing.{BetweenCalls}
+use Rattle.block_pool.specs.Running.{calling, owning, beginning, transfer_begun, pool_begun_by, CanGo, IsOwning}
+use Rattle.block_pool.specs.Moves.{MovedOn}
+use Rattle.block_pool.specs.Owning.{OwnMade}
+use Rattle.block_pool.specs.Calls.{CallMade, entry_for}
+use Rattle.block_pool.proofs.Going.{becomes}
+
+-- the transfer that is due can begin
+can_begin : (sizes : Sizes) (x : Process) → BetweenCalls sizes x → CanBegin x.seat.view.mind.view
+can_begin sizes x f = seat_can_begin x.seat.view f.among f.of_process
+
+pub begin_heads : (sizes : Sizes) (x : Process) → BetweenCalls sizes x → length x.pool.heads ≡ x.pool.plan.spares
+begin_heads sizes x f = subst (λ (p : PoolView). length p.heads ≡ p.plan.spares) f.pool (can_begin sizes x f).heads
+
+pub begin_fits : (sizes : Sizes) (x : Process) → BetweenCalls sizes x → x.pool.plan.spares ≡ 3 → newest x.pool < most_blocks
+begin_fits sizes x f = subst (λ (p : PoolView). p.plan.spares ≡ 3 → newest p < most_blocks) f.pool (can_begin sizes x f).fits
+
+-- a process between two calls may begin one
+both_hold : (a b c : Bool) → a ≡ true → b ≡ true → c ≡ true → (a && (b && c)) ≡ true
+both_hold a b c e f g = rw (e, f, g) refl
+
+may_begin : (sizes : Sizes) (call : Call) (v : ProcessView) → v.calls.stage ≡ Between → may_call sizes true call v ≡ true
+    → may_go sizes true call v ≡ true
+may_begin sizes call v e may = ap (λ stage. is_in_call stage || may_call sizes true call v) e ∙ may
+
+begins_so : (call : Call) (v : ProcessView) → v.calls.stage ≡ Between → calling_view call v ≡ call_begun call v
+begins_so call v e = rw e refl
+
+call_starts : (sizes : Sizes) (call : Call) (x : Process) → BetweenCalls sizes x → is_young_for call x.seat.view.mind.view ≡ true
+    → names_fit sizes true call ≡ true → BlockIsHeld (held_in x.seat.view.mind) call
+    → CanGo sizes call (call_begun call x.seat.view.mind.view) x.seat.view
+call_starts sizes call x f young names held =
+    let v = x.seat.view in
+    let may = both_hold (may_use_calls v.mind.view.calls.way) (is_young_for call v.mind.view) (names_fit sizes true call)
+    f.way young names in
+    record {
+      can = call_can_step sizes call v f.of_process f.shape f.among (may_begin sizes call v.mind.view f.between may) held;
+      view = begins_so call v.mind.view f.between;
+    }
+
+low_test : (a b : ℕ) → a < b → nat_lt a b ≡ true
+low_test a b lt = grind (arith, nat_tests)
+
+young_test : (sizes : Sizes) (x : Process) → BetweenCalls sizes x → x.transfer.age < most_age
+    → nat_lt x.seat.view.mind.view.transfer.age most_age ≡ true
+young_test sizes x f lt = ap (λ (t : TransferView). nat_lt t.age most_age) f.transfer ∙ low_test x.transfer.age most_age lt
+
+-- an allocate or a free begins with what is due
+begun_parts : (call : Call) (d : Option Wish) (t : TransferView) (p : PoolView) (calls : CallView)
+    → (let v : ProcessView = begun_if_due d (record { transfer = t; pool = p; calls = calls }) in entered call (first_stage v) v)
+    ≡ record {
+      transfer = transfer_begun d t;
+      pool = pool_begun_by d p;
+      calls = calling (if is_idle (pool_begun_by d p).plan.pending then Own else Moving) call 0;
+    }
+begun_parts call None t p calls = refl
+begun_parts call (Some wish) t p calls = refl
+
+starts_there : (sizes : Sizes) (call : Call) (x y : Process) → BetweenCalls sizes x
+    → y.seat ≡ x.seat → y.transfer ≡ transfer_begun (due x.pool) x.transfer → y.pool ≡ pool_begun_by (due x.pool) x.pool
+    → (let v : ProcessView = before_call x.seat.view.mind.view in CanGo sizes call (entered call (first_stage v) v) x.seat.view)
+    → CanGo sizes call (beginning call y) y.seat.view
+starts_there sizes call x y f seat transfer pool go =
+    let v = x.seat.view.mind.view in
+    let parts : TransferView → PoolView → ProcessView = λ t p. record {
+      transfer = t;
+      pool = p;
+      calls = calling (if is_idle p.plan.pending then Own else Moving) call 0;
+    } in
+    let same : (let w : ProcessView = before_call v in entered call (first_stage w) w) ≡ beginning call y =
+    begun_parts call (due v.pool) v.transfer v.pool v.calls
+    ∙ (ap (λ (t : TransferView). parts (transfer_begun (due v.pool) t) (pool_begun_by (due v.pool) v.pool)) f.transfer
+    ∙ (ap (λ (p : PoolView). parts (transfer_begun (due p) x.transfer) (pool_begun_by (due p) p)) f.pool
+    ∙ (ap (λ (t : TransferView). parts t (pool_begun_by (due x.pool) x.pool)) (sym transfer)
+    ∙ ap (λ (p : PoolView). parts y.transfer p) (sym pool)))) in
+    let there = subst (λ w. CanGo sizes call w x.seat.view) same go in
+    subst (λ s. CanGo sizes call (beginning call y) s.view) (sym seat) there
+
+pub allocate_starts : (sizes : Sizes) (x y : Process) → BetweenCalls sizes x → x.transfer.age < most_age
+    → y.seat ≡ x.seat → y.transfer ≡ transfer_begun (due x.pool) x.transfer → y.pool ≡ pool_begun_by (due x.pool) x.pool
+    → CanGo sizes Allocate (beginning Allocate y) y.seat.view
+allocate_starts sizes x y f young seat transfer pool =
+    starts_there sizes Allocate x y f seat transfer pool (call_starts sizes Allocate x f (young_test sizes x f young) refl tt)
+
+pub free_starts : (sizes : Sizes) (block : ℕ) (x y : Process) → BetweenCalls sizes x → x.transfer.age < most_age
+    → Contains (held_in x.seat.view.mind) block
+    → y.seat ≡ x.seat → y.transfer ≡ transfer_begun (due x.pool) x.transfer → y.pool ≡ pool_begun_by (due x.pool) x.pool
+    → CanGo sizes (Free block) (beginning (Free block) y) y.seat.view
+free_starts sizes block x y f young held seat transfer pool =
+    starts_there sizes (Free block) x y f seat transfer pool (call_starts sizes (Free block) x f (young_test sizes x f young) refl held)
+
+-- a read or a write is at its own step at once
+owning_so : (sizes : Sizes) (call : Call) (x : Process) → BetweenCalls sizes x
+    → CanGo sizes call (entered call Own x.seat.view.mind.view) x.seat.view → IsOwning sizes call 0 x
+owning_so sizes call x f go =
+    let v = x.seat.view.mind.view in
+    let same : entered call Own v ≡ owning call 0 x =
+    ap (λ (t : TransferView). record { transfer = t; pool = v.pool; calls = calling Own call 0 }) f.transfer
+    ∙ ap (λ (p : PoolView). record { transfer = x.transfer; pool = p; calls = calling Own call 0 }) f.pool in
+    subst (λ w. CanGo sizes call w x.seat.view) same go
+
+pub read_starts : (sizes : Sizes) (block index : ℕ) (x : Process) → BetweenCalls sizes x → Contains (held_in x.seat.view.mind) block
+    → index < sizes.words → IsOwning sizes (Read block index) 0 x
+read_starts sizes block index x f held low =
+    owning_so sizes (Read block index) x f (call_starts sizes (Read block index) x f refl (low_test index sizes.words low) held)
+
+pub write_starts : (sizes : Sizes) (block index value : ℕ) (x : Process) → BetweenCalls sizes x
+    → Contains (held_in x.seat.view.mind) block → index < sizes.words → IsOwning sizes (Write block index value) 0 x
+write_starts sizes block index value x f held low =
+    owning_so sizes (Write block index value) x f
+    (call_starts sizes (Write block index value) x f refl (low_test index sizes.words low) held)
+
+-- what is due begins by the plan, and leaves the age and the quantum
+begun_plan_by : (d : Option Wish) (t : TransferView) (p : PoolView) (calls : CallView)
+    → (begun_if_due d (record { transfer = t; pool = p; calls = calls })).pool.plan ≡ (pool_begun_by d p).plan
+begun_plan_by None t p calls = refl
+begun_plan_by (Some wish) t p calls = refl
+
+pub begun_plan : (x y : Process) → y.pool ≡ pool_begun_by (due x.pool) x.pool → y.pool.plan ≡ after_choice x.pool.plan
+begun_plan x y e =
+    let v : ProcessView = record { transfer = x.transfer; pool = x.pool; calls = x.seat.view.mind.view.calls } in
+    ap (λ (p : PoolView). p.plan) e
+    ∙ (sym (begun_plan_by (due x.pool) x.transfer x.pool x.seat.view.mind.view.calls) ∙ choice_is_the_plans v)
+
+same_age : (d : Option Wish) (t : TransferView) → (transfer_begun d t).age ≡ t.age
+same_age None t = refl
+same_age (Some wish) t = refl
+
+pub begun_age : (x y : Process) → y.transfer ≡ transfer_begun (due x.pool) x.transfer → y.transfer.age ≡ x.transfer.age
+begun_age x y e = ap (λ (t : TransferView). t.age) e ∙ same_age (due x.pool) x.transfer
+
+same_quantum : (plan : Numbers) → (after_choice plan).quantum ≡ plan.quantum
+same_quantum plan = grind (arith, choice_sizes)
+
+pub begun_quantum : (x y : Process) (quantum : ℕ) → x.pool.plan.quantum ≡ quantum → y.pool ≡ pool_begun_by (due x.pool) x.pool
+    → y.pool.plan.quantum ≡ quantum
+begun_quantum x y quantum e is = ap (λ (p : Numbers). p.quantum) (begun_plan x y is) ∙ (same_quantum x.pool.plan ∙ e)
+
+-- the entries of the own step of a call
+abbrev pub own_entries : Call → ℕ → Process → List Entry
+own_entries call word x =
+    entries_of (happened (own_kind_for x.pool (Some call)) (own_answer_for x.transfer.number x.pool word (Some call)))
+
+-- its process's number
+pub number_is : (sizes : Sizes) (call : Call) (n word : ℕ) (before : SeatView) (x : Process) (v : SeatView) → IsOwning sizes call n x
+    → Stepped (InCall call) x.seat.view word v → MovedOn before n x.seat.view → x.transfer.number ≡ number_of before.mind
+number_is sizes call n word before x v go s h = sym (ap (λ (w : ProcessView). w.transfer.number) go.view) ∙ (s.owner ∙ h.number)
+
+-- a call ends with its own step
+pub call_made : (sizes : Sizes) (call : Call) (n : ℕ) (entries : List Entry) (before : SeatView) (x y : Process) → IsOwning sizes call n x
+    → MovedOn before n x.seat.view → (own : OwnMade call x y) → own_entries call own.word x ≡ entries
+    → CallMade call entries n before y.seat.view
+call_made sizes call n entries before x y go h own is =
+    let s = own.stepped in
+    let v = x.seat.view in
+    let after = y.seat.view in
+    let answer : entries_of (next_answer (turning (InCall call) v.mind.view) own.word) ≡ entries =
+    ap (λ z. entries_of (next_answer z own.word)) go.view ∙ is in
+    let seen : SeenAfter entries v.mind.seen after.mind.seen = subst (λ l. SeenAfter l v.mind.seen after.mind.seen) answer s.seen in
+    record {
+      stays = s.stays ∙ ap (λ (z : SeatView). record z { mind = after.mind }) h.stays;
+      number = s.number ∙ h.number;
+      seen = subst (λ l. SeenAfter entries l after.mind.seen) h.seen seen;
+      entries_after = s.entries ∙ (ap (λ l. entries_in v.mind ++ l) answer ∙ ap (λ l. l ++ entries) h.entries);
+      known = s.known ∙ (ap (λ z. words_known_after z v.mind.known) go.view
+          ∙ ap (words_by_call (Some call)) h.known);
+      moves = let a = s.moves in let b = h.moves in omega (arith, a, b);
+    }
+
+pub call_left : (sizes : Sizes) (call : Call) (n : ℕ) (x y : Process) → IsOwning sizes call n x → OwnMade call x y → BetweenCalls sizes y
+call_left sizes call n x y go own =
+    let s = own.stepped in
+    let view = becomes sizes call (owning call n x) x.seat.view y.seat.view own.word go s in
+    record {
+      of_process = ap (λ (z : SeatView). z.of_process) s.stays ∙ go.can.of_process;
+      shape = ap (λ (z : SeatView). z.sizes) s.stays ∙ go.can.shape;
+      transfer = ap (λ (w : ProcessView). w.transfer) view ∙ sym own.transfer;
+      pool = ap (λ (w : ProcessView). w.pool) view ∙ sym own.pool;
+      between = ap (λ (w : ProcessView). w.calls.stage) view;
+      way = ap (λ (w : ProcessView). may_use_calls w.calls.way) view;
+      among = s.among;
+    }
+
+-- the entry of an allocate and of a free
+entries_for : (by : ℕ) (kind : Kind) (block : Option ℕ) → entries_of (happened kind (allocate_answer by block)) ≡ entry_for by block ∷ []
+entries_for by kind None = refl
+entries_for by kind (Some block) = refl
+
+pub allocate_entries : (by word : ℕ) (block : Option ℕ) (x : Process) → x.transfer.number ≡ by → block ≡ next_block x.pool
+    → own_entries Allocate word x ≡ entry_for by block ∷ []
+allocate_entries by word block x e is =
+    entries_for x.transfer.number (own_kind_for x.pool (Some Allocate)) (next_block x.pool)
+    ∙ (ap (λ k. entry_for k (next_block x.pool) ∷ []) e ∙ ap (λ b. entry_for by b ∷ []) (sym is))
+
+pub free_entries : (by word block : ℕ) (x : Process) → x.transfer.number ≡ by
+    → own_entries (Free block) word x ≡ Back by block ∷ []
+free_entries by word block x e = ap (λ k. Back k block ∷ []) e

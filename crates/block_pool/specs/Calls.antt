@@ -1,0 +1,84 @@
+-- what the calls of a pool do to a pass
+use Rattle.std.specs.Prelude.{◌≡◌, ℕ, ◌+◌, ◌≤◌, ◌↔◌, Option, None, Some, List, [], ◌∷◌, ◌++◌}
+use Rattle.word_layout.specs.Sizes.{Sizes}
+use Rattle.pool_model.specs.declared.entry.Entry.{Entry}
+use Rattle.pool_model.specs.declared.entry.Entry.TheVariants as entry
+use Rattle.pool_model.specs.History.{grip_after}
+use Rattle.transfer_schedule.specs.Numbers.{Numbers, after_choice, after_took_one}
+use Rattle.pool_machine.specs.declared.call.Call.{Call}
+use Rattle.pool_table.specs.Minds.{number_of, entries_in}
+use Rattle.pool_table.specs.Turns.{words_by_call}
+use Rattle.pool_table.specs.Views.{SeatView}
+use Rattle.pool_table.specs.Steps.{SeesMore, SeenAfter}
+use Rattle.block_pool.specs.declared.pool.Answer.{Answer}
+use Rattle.block_pool.specs.declared.pool.Answer.TheVariants.{Got, Dry}
+use Rattle.block_pool.specs.declared.process.Process.{Process}
+use Rattle.block_pool.specs.Moves.{PlanRuns}
+use Rattle.block_pool.specs.Passing.{Passed}
+
+-- a call leaves which pass it is
+pub record SamePass (old new : Passed) : Type 0 where
+  pub table : new.table ≡ old.table
+  pub sizes : new.sizes ≡ old.sizes
+  pub number : new.number ≡ old.number
+
+-- the steps of a call: some of the pending transfer, at most a quantum, and its own one; the counter and the pass count them alike
+pub record Counted (quantum before after : ℕ) (old new : Passed) : Type 0 where
+  pub moved : ℕ
+  pub few : moved ≤ quantum
+  pub steps : after ≡ before + moved + 1
+  pub moves : new.moves ≡ old.moves + moved + 1
+
+-- the pass made this entry alone: it has seen more, this entry at the end, and holds what that makes of its blocks
+pub record Entered (entry : Entry) (old new : Passed) : Type 0 where
+  pub own : new.own ≡ old.own ++ entry ∷ []
+  pub seen : SeesMore old.seen new.seen (entry ∷ [])
+  pub held : new.held ≡ grip_after old.held entry
+
+-- a plan with no block: its current list is empty, and there is no spare
+abbrev pub HasNoBlock : Numbers → Type 0
+HasNoBlock plan = (plan.current ≡ 0) × (plan.spares ≡ 0)
+
+-- the plan went on as the schedule says: by what is due, by the call's steps of the transfer and its end, and by the own step
+pub record PlanMoved (owned : Numbers → Numbers) (old new : Passed) : Type 0 where
+  pub moved : ℕ
+  pub moves : new.moves ≡ old.moves + moved + 1
+  pub ran : Numbers
+  pub runs : PlanRuns old.sizes.quantum (after_choice old.plan) moved ran
+  pub own : new.plan ≡ owned ran
+
+-- so it did in an allocate, which is refused exactly where it has no block before the own step
+pub record Allocated (answer : Answer) (old new : Passed) : Type 0 where
+  pub plan : PlanMoved after_took_one old new
+  pub dry : (answer ≡ Dry) ↔ HasNoBlock plan.ran
+
+-- the entry of an allocate that is answered so
+abbrev pub entry_of : ℕ → Answer → Entry
+entry_of by (Got block) = entry.Got by block
+entry_of by Dry = entry.Dry by
+
+-- the entry of an allocate that gets this block, if any
+abbrev pub entry_for : ℕ → Option ℕ → Entry
+entry_for by None = entry.Dry by
+entry_for by (Some block) = entry.Got by block
+
+-- a seat before and after a whole call that makes these entries, with so many steps of the transfer
+pub record CallMade (call : Call) (entries : List Entry) (n : ℕ) (before after : SeatView) : Type 0 where
+  pub stays : after ≡ record before { mind = after.mind }
+  pub number : number_of after.mind ≡ number_of before.mind
+  pub seen : SeenAfter entries before.mind.seen after.mind.seen
+  pub entries_after : entries_in after.mind ≡ entries_in before.mind ++ entries
+  pub known : after.mind.known ≡ words_by_call (Some call) before.mind.known
+  pub moves : after.mind.moves ≡ before.mind.moves + n + 1
+
+-- a whole allocate or free of a process: so many steps of the transfer, its plan before the own step and after it, and its age
+pub record PoolCalled (sizes : Sizes) (call : Call) (entries : List Entry) (owned : Numbers → Numbers) (before after : ℕ)
+    (old new : Process) : Type 0 where
+  pub moved : ℕ
+  pub few : moved ≤ sizes.quantum
+  pub steps : after ≡ before + moved + 1
+  pub made : CallMade call entries moved old.seat.view new.seat.view
+  pub ran : Numbers
+  pub runs : PlanRuns sizes.quantum (after_choice old.pool.plan) moved ran
+  pub own : new.pool.plan ≡ owned ran
+  pub age : new.transfer.age ≤ old.transfer.age + 1

@@ -1,0 +1,14 @@
+-- the own step of a call
+use Rattle.std.specs.Prelude.{◌≡◌, ℕ, Some}
+use Rattle.pool_machine.specs.OwnSteps.{pool_own_met}
+use Rattle.pool_machine.specs.declared.call.Call.{Call}
+use Rattle.pool_table.specs.declared.about.About.TheVariants.{InCall}
+use Rattle.pool_table.specs.Steps.{Stepped}
+use Rattle.block_pool.specs.declared.process.Process.{Process}
+
+-- the own step of this call was made: its pool is what the machine makes of it by the word that it met, and the transfer stays
+pub record OwnMade (call : Call) (old new : Process) : Type 0 where
+  pub word : ℕ
+  pub stepped : Stepped (InCall call) old.seat.view word new.seat.view
+  pub transfer : new.transfer ≡ old.transfer
+  pub pool : new.pool ≡ pool_own_met word old.pool (Some call)

@@ -1,0 +1,122 @@
+// The whole calls of a process.
+ghost use Rattle.std.specs.Prelude.{◌≡◌, ℕ, ◌+◌, ◌<◌, ◌^◌, ◌↔◌, None, Some, [], ◌∷◌, Contains};
+ghost use Rattle.word_layout.specs.Names.{table_words};
+ghost use Rattle.word_layout.specs.Packing.{most_age};
+ghost use Rattle.word_table.specs.Seats.{SameSeat};
+ghost use Rattle.pool_model.specs.declared.entry.Entry.TheVariants.{Back};
+ghost use Rattle.transfer_schedule.specs.Numbers.{after_took_one, after_gave_one};
+ghost use Rattle.pool_machine.specs.declared.call.Call.TheVariants.{Allocate, Free, Read, Write};
+ghost use Rattle.pool_table.specs.Minds.{number_of, known_in, held_in};
+ghost use Rattle.block_pool.specs.Passing.{BetweenCalls};
+ghost use Rattle.block_pool.specs.Calls.{HasNoBlock, entry_for, CallMade, PoolCalled};
+
+use crate::process::Process;
+use pool_machine::Call;
+use pool_table::PoolTable;
+use step_counter::{Ledger, Steps};
+use word_layout::Shape;
+
+impl Process {
+    /// An allocate: the transfer that is due begins, a quantum of steps is made of the pending one, and then the own
+    /// step. Answers the block that it got, if any.
+    #[inline]
+    pub fn allocate<L: Ledger>(
+        &mut self,
+        shape: &Shape,
+        table: &PoolTable,
+        steps: &mut Steps<L>,
+    ) -> Option<u32>
+        requires seat { self.old.seat.table ≡ table.now }
+        requires words { table.now.words ≡ table_words shape.now }
+        requires steps { steps.old + shape.now.quantum + 1 < 2 ^ 64 }
+        requires between { BetweenCalls shape.now self.old }
+        requires young { self.old.transfer.age < most_age }
+        ensures seat { SameSeat self.old.seat self.new.seat }
+        ensures called { (called : PoolCalled shape.now Allocate (entry_for (number_of self.old.seat.view.mind) result ∷ []) after_took_one
+            steps.old steps.new self.old self.new) × ((result ≡ None) ↔ HasNoBlock called.ran) }
+        ensures between { BetweenCalls shape.now self.new }
+    {
+        self.begin();
+        let made = self.run_pending(Call::Allocate, shape, table, steps);
+        self.own_allocate(made, shape, table, steps)
+    }
+
+    /// A free, likewise.
+    #[inline]
+    pub fn free<L: Ledger>(
+        &mut self,
+        block: u32,
+        shape: &Shape,
+        table: &PoolTable,
+        steps: &mut Steps<L>,
+    )
+        requires seat { self.old.seat.table ≡ table.now }
+        requires words { table.now.words ≡ table_words shape.now }
+        requires steps { steps.old + shape.now.quantum + 1 < 2 ^ 64 }
+        requires between { BetweenCalls shape.now self.old }
+        requires young { self.old.transfer.age < most_age }
+        requires held { Contains (held_in self.old.seat.view.mind) block }
+        ensures seat { SameSeat self.old.seat self.new.seat }
+        ensures called { PoolCalled shape.now (Free block) (Back (number_of self.old.seat.view.mind) block ∷ []) after_gave_one
+            steps.old steps.new self.old self.new }
+        ensures between { BetweenCalls shape.now self.new }
+    {
+        self.begin();
+        let made = self.run_pending(Call::Free { block }, shape, table, steps);
+        self.own_free(made, block, shape, table, steps);
+    }
+
+    /// A read: its own step alone.
+    #[inline]
+    pub fn read<L: Ledger>(
+        &mut self,
+        block: u32,
+        index: u32,
+        shape: &Shape,
+        table: &PoolTable,
+        steps: &mut Steps<L>,
+    ) -> u64
+        requires seat { self.old.seat.table ≡ table.now }
+        requires words { table.now.words ≡ table_words shape.now }
+        requires steps { steps.old + 1 < 2 ^ 64 }
+        requires between { BetweenCalls shape.now self.old }
+        requires held { Contains (held_in self.old.seat.view.mind) block }
+        requires index { index < shape.now.words }
+        ensures seat { SameSeat self.old.seat self.new.seat }
+        ensures steps { steps.new ≡ steps.old + 1 }
+        ensures called { CallMade (Read block index) [] 0 self.old.seat.view self.new.seat.view }
+        ensures transfer { self.new.transfer ≡ self.old.transfer }
+        ensures pool { self.new.pool ≡ self.old.pool }
+        ensures between { BetweenCalls shape.now self.new }
+        ensures value { (value : ℕ) → known_in self.old.seat.view.mind.known block index ≡ Some value → result ≡ value }
+    {
+        self.own_read(block, index, shape, table, steps)
+    }
+
+    /// A write: its own step alone.
+    #[inline]
+    pub fn write<L: Ledger>(
+        &mut self,
+        block: u32,
+        index: u32,
+        value: u64,
+        shape: &Shape,
+        table: &PoolTable,
+        steps: &mut Steps<L>,
+    )
+        requires seat { self.old.seat.table ≡ table.now }
+        requires words { table.now.words ≡ table_words shape.now }
+        requires steps { steps.old + 1 < 2 ^ 64 }
+        requires between { BetweenCalls shape.now self.old }
+        requires held { Contains (held_in self.old.seat.view.mind) block }
+        requires index { index < shape.now.words }
+        ensures seat { SameSeat self.old.seat self.new.seat }
+        ensures steps { steps.new ≡ steps.old + 1 }
+        ensures called { CallMade (Write block index value) [] 0 self.old.seat.view self.new.seat.view }
+        ensures transfer { self.new.transfer ≡ self.old.transfer }
+        ensures pool { self.new.pool ≡ self.old.pool }
+        ensures between { BetweenCalls shape.now self.new }
+    {
+        self.own_write(block, index, value, shape, table, steps);
+    }
+}

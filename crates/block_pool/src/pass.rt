@@ -1,0 +1,100 @@
+// The pass of a process, and the blocks that it holds.
+ghost use Rattle.std.specs.Prelude.{◌≡◌, length, Contains};
+ghost use Rattle.block_pool.specs.Standing.{StandsWell};
+
+use crate::process::Process;
+use std::marker::Model;
+use word_layout::Shape;
+
+/// The token of one block. It can't be copied; a block whose token is dropped stays held for good.
+///
+/// A token of a number stands for the block only while a pass holds it: each call that takes one asks for that.
+#[derive(Drop)]
+pub struct Block {
+    pub(crate) number: u32,
+}
+
+impl Model for Block {
+    ghost use Rattle.std.specs.Prelude.{ℕ};
+
+    ghost Value = { ℕ };
+
+    ghost view = { λ block. block.number };
+}
+
+impl Block {
+    /// The number of the block.
+    pub fn number(&self) -> u32
+        ensures { result ≡ self.now }
+    {
+        self.number
+    }
+}
+
+/// The token of one process of a pool. Between two calls it may go to another thread.
+///
+/// Clauses see the number of the process, what it has seen of the pool's one history, its own entries there, the
+/// blocks that it holds with the data words that it knows of them, the numbers of its private pool, how many
+/// transfers it began and how many steps it made.
+#[derive(Drop)]
+pub struct Pass {
+    pub(crate) process: Process,
+    pub(crate) shape: Shape,
+    /// How many blocks it holds.
+    pub(crate) holding: u32,
+}
+
+impl Model for Pass {
+    ghost use Rattle.block_pool.specs.Passing.{Passed, PassFits, pass_of};
+
+    ghost Value = { Passed };
+
+    ghost view = { λ pass. pass_of pass.process.seat };
+
+    ghost invariant = { λ pass. PassFits pass.shape pass.process pass.holding };
+}
+
+impl Pass {
+    /// The number of its process.
+    pub fn number(&self) -> u32
+        ensures { result ≡ self.now.number }
+    {
+        self.process.transfer.number
+    }
+
+    /// How many transfers it has begun.
+    pub fn age(&self) -> u64
+        ensures { result ≡ self.now.age }
+    {
+        self.process.transfer.age
+    }
+
+    /// How many blocks it holds.
+    pub fn holding(&self) -> u32
+        ensures { result ≡ length self.now.held }
+    {
+        self.holding
+    }
+
+    /// The token of a block that the pass holds, by its number.
+    ///
+    /// It stands for the block only as long as the pass holds it. A second token of the same block is of no use after
+    /// the first has been freed: [`Pool::free`](crate::Pool::free), `read` and `write` ask that the pass holds the block.
+    pub fn block(&self, number: u32) -> Block
+        requires { Contains self.now.held number }
+        ensures { result ≡ number }
+    {
+        Block { number }
+    }
+
+    /// What holds of every pass: what it has seen is legal and has its own entries, by which it holds its blocks; it knows
+    /// data words of these alone; it keeps at most five batches; and an account of its calls, reached by the schedule,
+    /// says how much it keeps and holds together, and why it keeps few.
+    ///
+    /// It does nothing.
+    pub fn stands_well(&self)
+        ensures { StandsWell self.now }
+    {
+        let _ = &self.shape;
+    }
+}
