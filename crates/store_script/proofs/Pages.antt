@@ -1,5 +1,6 @@
 -- Replies that are written page by page.
-use Rattle.std.proofs.Common.{◌≡◌, ℕ, ◌+◌, ◌<◌, List, [], ◌∷◌, ◌++◌, length, take, drop, get_or, sym, ap, ◌∙◌, subst, append_assoc, append-nil, Ok, Err}
+use Rattle.std.proofs.Common.{◌≡◌, ℕ, ◌+◌, ◌<◌, List, [], ◌∷◌, ◌++◌, length, take, drop, get_or, sym, ap, ◌∙◌, subst, append_assoc}
+use Rattle.std.proofs.Common.{append-nil, Ok, Err}
 use Rattle.std.specs.Prelude.{Result}
 use Rattle.std.proofs.lemmas.List.{take_more, take-append-drop}
 use Rattle.std.proofs.lemmas.Grind.{flat_map-append}
@@ -29,7 +30,8 @@ replies_text-more file answers i d below =
 module _ {K E : Type 0} (sink : Ghosts K) (before between after : K) (page : List ℕ) (file : ℕ) (answers : List Answered) (i : ℕ)
     (paged : IsPaged E sink before between page (replies_text file (take i answers))) where
   -- room was made, and the next line is on the page
-  pub paged_more : (room next : List ℕ) (d : Answered) → i < length answers → Flushes {T = Unit {0}} {E = E} sink between after page room (Ok tt)
+  pub paged_more : (room next : List ℕ) (d : Answered) → i < length answers
+      → Flushes {T = Unit {0}} {E = E} sink between after page room (Ok tt)
       → next ≡ room ++ reply_line file (get_or answers i d) → IsPaged E sink before after next (replies_text file (take (i + 1) answers))
   paged_more room next d below flushed is =
       let part = flushed.written in
@@ -45,7 +47,8 @@ module _ {K E : Type 0} (sink : Ghosts K) (before between after : K) (page : Lis
       }
 
   -- the page was written in part
-  pub paged_part : (e e' : E) → Writes {T = Unit {0}} {E = E} sink page between after (Err e) → Writes {T = Unit {0}} {E = E} sink (replies_text file answers) before after (Err e')
+  pub paged_part : (e e' : E) → Writes {T = Unit {0}} {E = E} sink page between after (Err e)
+      → Writes {T = Unit {0}} {E = E} sink (replies_text file answers) before after (Err e')
   paged_part e e' part =
       let Text : List ℕ → Type 0 = λ text. Writes {T = Unit {0}} {E = E} sink text before after (Err e) in
       let Whole : List ℕ → Type 0 = λ text. Writes {T = Unit {0}} {E = E} sink text before after (Err e') in
@@ -57,7 +60,8 @@ module _ {K E : Type 0} (sink : Ghosts K) (before between after : K) (page : Lis
       (subst Text (sym paged.whole) (writes_both sink paged.written page before between after tt (Err e) paged.writes part)))
 
 -- the last page
-pub paged_all : {K E : Type 0} (sink : Ghosts K) (before between after : K) (page text : List ℕ) (result : Result (Unit {0}) E) → IsPaged E sink before between page text
+pub paged_all : {K E : Type 0} (sink : Ghosts K) (before between after : K) (page text : List ℕ) (result : Result (Unit {0}) E)
+    → IsPaged E sink before between page text
     → Writes {T = Unit {0}} {E = E} sink page between after result → Writes {T = Unit {0}} {E = E} sink text before after result
 paged_all {E = E} sink before between after page text result paged last =
     let Text : List ℕ → Type 0 = λ text. Writes {T = Unit {0}} {E = E} sink text before after result in

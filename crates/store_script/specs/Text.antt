@@ -9,7 +9,8 @@ use Rattle.store_script.specs.declared.answered.Answered.TheVariants.{Done, Full
 -- a key and its four numbers, in plain decimal
 abbrev pub value_text : ℕ → Quad → List ℕ
 value_text key value =
-    decimal key ++ codes " " ++ decimal value.a ++ codes " " ++ decimal value.b ++ codes " " ++ decimal value.c ++ codes " " ++ decimal value.d
+    decimal key ++ codes " " ++ decimal value.a ++ codes " " ++ decimal value.b ++ codes " "
+    ++ decimal value.c ++ codes " " ++ decimal value.d
 
 -- the reply that an answer is
 abbrev pub reply_text : Answered → List ℕ
