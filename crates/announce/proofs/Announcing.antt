@@ -1,16 +1,14 @@
 -- the store of the own announcement is the machine's next step
-use Rattle.std.proofs.Common.{◌≡◌, ℕ, ◌+◌, ◌<◌, ◌≤◌, ◌^◌, refl, sym, ap, ◌∙◌, subst, arith}
+use Rattle.std.proofs.Common.{◌≡◌, ℕ, ◌+◌, ◌<◌, ◌≤◌, refl, sym, ap, ◌∙◌, subst, arith}
 use Rattle.word_rule.specs.Moves.{Keeps, Learned, replaced_by}
-use Rattle.word_layout.specs.Sizes.{Sizes, IsShape}
+use Rattle.word_layout.specs.Sizes.{Sizes}
 use Rattle.word_layout.specs.Names.{place, table_words}
 use Rattle.word_layout.specs.Packing.{most_age, FitsWish}
 use Rattle.word_layout.specs.declared.announced.Wish.{Wish}
 use Rattle.word_layout.specs.declared.name.WordName.TheVariants.{Announcement}
 use Rattle.word_layout.proofs.Placed.{place_below}
 use Rattle.transfer_machine.specs.Machine.{action_at, action_of, met_at, met_of, CanActAt}
-use Rattle.transfer_machine.specs.Words.{left_by}
 use Rattle.transfer_machine.specs.declared.action.Action.TheVariants.{Store}
-use Rattle.transfer_machine.specs.declared.stage.NextStep.TheVariants.{Announce}
 use Rattle.transfer_machine.specs.declared.transfer.TransferView.{TransferView}
 use Rattle.interleaving_core.specs.Steps.{next_action}
 use Rattle.pool_table.specs.declared.about.About.{About}

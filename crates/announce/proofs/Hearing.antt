@@ -1,14 +1,12 @@
 -- the load of an announcement is the machine's next step, and what the invariant says of the word
 use Rattle.std.proofs.Common.{◌≡◌, ℕ, ◌+◌, ◌<◌, ◌≤◌, ◌==◌, Bool, true, false, List, length, get_or-set_same}
 use Rattle.std.proofs.Common.{refl, sym, ap, ◌∙◌, subst, arith}
-use Rattle.std.specs.Prelude.{if◌then◌else◌, slice_index, slice_set}
-use mathlib.Core.Option.{some}
-use lib.ListN.{get_elem?}
+use Rattle.std.specs.Prelude.{if◌then◌else◌, slice_index}
 use Rattle.word_layout.specs.Sizes.{Sizes}
 use Rattle.word_layout.specs.Names.{record_words, word_at}
 use Rattle.word_layout.specs.declared.name.WordName.TheVariants.{Announcement}
 use Rattle.transfer_machine.specs.Loads.{loaded_tag, loaded_reply}
-use Rattle.transfer_machine.specs.Machine.{action_at, action_of, met_at, met_of, after_heard, announcement_loaded, CanActAt}
+use Rattle.transfer_machine.specs.Machine.{action_at, met_at, met_of, after_heard, CanActAt}
 use Rattle.transfer_machine.specs.Tries.{is_pending, pops_slot}
 use Rattle.transfer_machine.specs.declared.action.Action.TheVariants.{Load}
 use Rattle.transfer_machine.specs.declared.stage.NextStep.TheVariants.{Try}

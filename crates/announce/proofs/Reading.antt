@@ -1,5 +1,5 @@
 -- the reading of all announcements: a word is that of the announcement that is read from it, and its process is one of the shape's
-use Rattle.std.proofs.Common.{◌≡◌, ℕ, zero, suc, ◌+◌, ◌<◌, ◌≤◌, refl, sym, ap, ◌∙◌, subst, arith}
+use Rattle.std.proofs.Common.{◌≡◌, ℕ, zero, suc, ◌<◌, ◌≤◌, refl, sym, ap, ◌∙◌, subst, arith}
 use Rattle.word_layout.specs.Sizes.{Sizes}
 use Rattle.word_layout.specs.Packing.{tagged, tag_of, value_of, wish_code, wish_of, announced_word, announced_of}
 use Rattle.word_layout.specs.declared.announced.Announced.{Announced}

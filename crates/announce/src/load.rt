@@ -1,8 +1,5 @@
 // One load of an announcement.
-ghost use Rattle.std.specs.Prelude.{◌≡◌, ◌+◌, ◌<◌, ◌^◌};
-ghost use Rattle.word_layout.specs.Names.{table_words};
-ghost use Rattle.word_table.specs.Seats.{SameSeat};
-ghost use Rattle.pool_table.specs.Steps.{CanStep, Stepped};
+ghost use Rattle.pool_table.specs.Steps.{MayStep, OneStep, Stepped};
 ghost use Rattle.announce.specs.Heard.{LoadsAnnouncement, IsPresentWhile};
 
 use pool_table::{About, PoolSeat, PoolTable, act};
@@ -22,13 +19,9 @@ pub fn load_announcement<L: Ledger>(
     seat: &mut PoolSeat,
     steps: &mut Steps<L>,
 ) -> u64
-    requires seat { seat.old.table ≡ table.now }
-    requires words { table.now.words ≡ table_words shape.now }
-    requires steps { steps.old + 1 < 2 ^ 64 }
-    requires can { CanStep shape.now about.now seat.old.view }
+    requires may { MayStep shape.now about.now table.now seat.old steps.old }
     requires loads { LoadsAnnouncement about.now seat.old.view process }
-    ensures seat { SameSeat seat.old seat.new }
-    ensures steps { steps.new ≡ steps.old + 1 }
+    ensures one { OneStep seat.old seat.new steps.old steps.new }
     ensures step { Stepped about.now seat.old.view result seat.new.view }
     ensures present { IsPresentWhile seat.new.view process result }
 {

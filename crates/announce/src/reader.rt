@@ -1,9 +1,7 @@
 // The reading of all announcements.
-ghost use Rattle.std.specs.Prelude.{◌≡◌, ◌+◌, ◌<◌, ◌^◌};
-ghost use Rattle.word_layout.specs.Names.{table_words};
+ghost use Rattle.std.specs.Prelude.{◌≡◌};
 ghost use Rattle.word_layout.specs.declared.announced.Wish.TheVariants.{Take};
-ghost use Rattle.word_table.specs.Seats.{SameSeat};
-ghost use Rattle.pool_table.specs.Steps.{CanStep};
+ghost use Rattle.pool_table.specs.Steps.{MayStep, OneStep};
 ghost use Rattle.pool_table.specs.Transfers.{about_of};
 ghost use Rattle.announce.specs.Reading.{CanHear, HasHeard, begun};
 
@@ -59,13 +57,9 @@ impl AnnounceReader {
         call: Option<Call>,
         steps: &mut Steps<L>,
     ) -> Announced
-        requires seat { seat.old.table ≡ table.now }
-        requires words { table.now.words ≡ table_words self.old.sizes }
-        requires steps { steps.old + 1 < 2 ^ 64 }
-        requires can { CanStep self.old.sizes (about_of call Take) seat.old.view }
+        requires may { MayStep self.old.sizes (about_of call Take) table.now seat.old steps.old }
         requires hears { CanHear (about_of call Take) seat.old.view self.old }
-        ensures seat { SameSeat seat.old seat.new }
-        ensures steps { steps.new ≡ steps.old + 1 }
+        ensures one { OneStep seat.old seat.new steps.old steps.new }
         ensures heard { HasHeard (about_of call Take) seat.old.view self.old seat.new.view self.new result }
     {
         // In the middle of a transfer its wish isn't looked at.

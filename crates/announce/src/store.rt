@@ -1,9 +1,7 @@
 // The store of the own announcement.
-ghost use Rattle.std.specs.Prelude.{◌≡◌, ◌+◌, ◌<◌, ◌≤◌, ◌^◌, length};
-ghost use Rattle.word_layout.specs.Names.{table_words};
+ghost use Rattle.std.specs.Prelude.{◌≡◌};
 ghost use Rattle.word_layout.specs.declared.announced.Wish.TheVariants.{Take, Give};
-ghost use Rattle.word_table.specs.Seats.{SameSeat};
-ghost use Rattle.pool_table.specs.Steps.{CanStep};
+ghost use Rattle.pool_table.specs.Steps.{MayStep, OneStep};
 ghost use Rattle.pool_table.specs.Transfers.{about_of};
 ghost use Rattle.announce.specs.Stored.{Announces, HasAnnounced, announcement};
 
@@ -21,13 +19,9 @@ pub fn announce_take<L: Ledger>(
     call: Option<Call>,
     steps: &mut Steps<L>,
 )
-    requires seat { seat.old.table ≡ table.now }
-    requires words { table.now.words ≡ table_words seat.old.view.sizes }
-    requires steps { steps.old + 1 < 2 ^ 64 }
-    requires can { CanStep seat.old.view.sizes (about_of call Take) seat.old.view }
+    requires may { MayStep seat.old.view.sizes (about_of call Take) table.now seat.old steps.old }
     requires announces { Announces (about_of call Take) seat.old.view process number Take }
-    ensures seat { SameSeat seat.old seat.new }
-    ensures steps { steps.new ≡ steps.old + 1 }
+    ensures one { OneStep seat.old seat.new steps.old steps.new }
     ensures announced { HasAnnounced (about_of call Take) seat.old.view number Take seat.new.view }
 {
     let about = about_of(call, Wish::Take);
@@ -44,13 +38,9 @@ pub fn announce_give<L: Ledger>(
     call: Option<Call>,
     steps: &mut Steps<L>,
 )
-    requires seat { seat.old.table ≡ table.now }
-    requires words { table.now.words ≡ table_words seat.old.view.sizes }
-    requires steps { steps.old + 1 < 2 ^ 64 }
-    requires can { CanStep seat.old.view.sizes (about_of call (Give head)) seat.old.view }
+    requires may { MayStep seat.old.view.sizes (about_of call (Give head)) table.now seat.old steps.old }
     requires announces { Announces (about_of call (Give head)) seat.old.view process number (Give head) }
-    ensures seat { SameSeat seat.old seat.new }
-    ensures steps { steps.new ≡ steps.old + 1 }
+    ensures one { OneStep seat.old seat.new steps.old steps.new }
     ensures announced { HasAnnounced (about_of call (Give head)) seat.old.view number (Give head) seat.new.view }
 {
     let about = about_of(call, Wish::Give(head));
@@ -77,13 +67,9 @@ pub fn announce<L: Ledger>(
     seat: &mut PoolSeat,
     steps: &mut Steps<L>,
 ) -> u64
-    requires seat { seat.old.table ≡ table.now }
-    requires words { table.now.words ≡ table_words seat.old.view.sizes }
-    requires steps { steps.old + 1 < 2 ^ 64 }
-    requires can { CanStep seat.old.view.sizes about.now seat.old.view }
+    requires may { MayStep seat.old.view.sizes about.now table.now seat.old steps.old }
     requires announces { Announces about.now seat.old.view process number wish }
-    ensures seat { SameSeat seat.old seat.new }
-    ensures steps { steps.new ≡ steps.old + 1 }
+    ensures one { OneStep seat.old seat.new steps.old steps.new }
     ensures word { result ≡ announcement number wish }
     ensures announced { HasAnnounced about.now seat.old.view number wish seat.new.view }
 {

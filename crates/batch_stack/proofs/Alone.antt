@@ -2,13 +2,14 @@
 use Rattle.std.proofs.Common.{◌≡◌, ℕ, refl, sym, subst}
 use Rattle.word_layout.specs.Sizes.{Sizes}
 use Rattle.word_layout.specs.declared.announced.Wish.TheVariants.{Take}
-use Rattle.transfer_machine.specs.Machine.{begun}
+use Rattle.transfer_machine.specs.Machine.{begun, CanAct}
 use Rattle.transfer_machine.specs.Opening.{opening_transfer}
 use Rattle.transfer_machine.specs.declared.transfer.TransferView.{TransferView}
 use Rattle.pool_table.specs.declared.about.About.TheVariants.{Alone}
 use Rattle.pool_table.specs.Views.{SeatView, seat_of_process}
 use Rattle.pool_table.specs.Steps.{Among, CanStep}
 use Rattle.pool_table.specs.Transfers.{Agrees}
+use Rattle.pool_table.proofs.Transfers.{transfer_can_act}
 use Rattle.batch_stack.specs.Running.{GoesAlone, GoesOn}
 
 take_begins : (sizes : Sizes) (process seats : ℕ) → Among (seat_of_process sizes process seats)
@@ -32,3 +33,6 @@ alone_can sizes v t goes = goes.can
 
 pub alone_agrees : (sizes : Sizes) (v : SeatView) (t : TransferView) → GoesAlone sizes v t → Agrees (Alone t.wish) v t
 alone_agrees sizes v t goes = goes.agrees
+
+pub alone_acts : (sizes : Sizes) (v : SeatView) (t : TransferView) → GoesAlone sizes v t → CanAct sizes t
+alone_acts sizes v t goes = transfer_can_act sizes (Alone t.wish) v t goes.can goes.agrees

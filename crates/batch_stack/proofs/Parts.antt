@@ -1,12 +1,12 @@
 -- the next step of a transfer's part, as the crates below make it
-use Rattle.std.proofs.Common.{◌≡◌, ℕ, ◌+◌, ◌<◌, ◌≤◌, Bool, refl, sym, ap, ◌∙◌, subst}
+use Rattle.std.proofs.Common.{◌≡◌, ℕ, ◌+◌, ◌<◌, ◌≤◌, refl, sym, ap, ◌∙◌, subst}
 use Rattle.word_layout.specs.Sizes.{Sizes}
 use Rattle.word_layout.specs.Names.{record_words}
 use Rattle.word_layout.specs.Packing.{most_age}
 use Rattle.transfer_machine.specs.Loads.{loaded_tag, loaded_record}
 use Rattle.transfer_machine.specs.Machine.{CanActAt, CanStore}
 use Rattle.transfer_machine.specs.Tries.{drafted_value}
-use Rattle.transfer_machine.specs.declared.stage.NextStep.TheVariants.{Announce, Try}
+use Rattle.transfer_machine.specs.declared.stage.NextStep.TheVariants.{Announce}
 use Rattle.transfer_machine.specs.declared.stage.TryStep.TheVariants.{LoadRecordWord, LoadAnnouncement, StoreRecordWord}
 use Rattle.transfer_machine.specs.declared.transfer.TransferView.{TransferView}
 use Rattle.pool_table.specs.declared.about.About.{About}

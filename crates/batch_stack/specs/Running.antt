@@ -1,7 +1,6 @@
 -- a running transfer: what its steps make of it and of the seat, and how it is answered
 use Rattle.std.specs.Prelude.{◌≡◌, ℕ, ◌+◌, ◌≤◌, Bool, Option}
 use Rattle.word_layout.specs.Sizes.{Sizes, transfer_bound}
-use Rattle.word_layout.specs.Packing.{value_of, reply_of}
 use Rattle.word_layout.specs.declared.announced.Wish.{Wish}
 use Rattle.word_layout.specs.declared.reply.Reply.{Reply}
 use Rattle.word_layout.specs.declared.reply.Reply.TheVariants as reply
@@ -40,13 +39,13 @@ ended_as reply.Nothing = Empty
 ended_as (reply.Took head) = Took head
 ended_as reply.Gave = Gave
 
--- how far a transfer is after its step at that stage met this word: only the load of the reply ends it
-abbrev pub progress_at : NextStep → ℕ → Progress
-progress_at Rest word = Going
-progress_at Announce word = Going
-progress_at (Try second step) word = Going
-progress_at LoadFinalState word = Going
-progress_at LoadReply word = ended_as (reply_of (value_of word))
+-- how far a transfer is after its step at that stage, with this answer: only the load of the reply ends it
+abbrev pub progress_at : NextStep → Reply → Progress
+progress_at Rest answer = Going
+progress_at Announce answer = Going
+progress_at (Try second step) answer = Going
+progress_at LoadFinalState answer = Going
+progress_at LoadReply answer = ended_as answer
 
 -- what its next step is about: the call that is given, or else a transfer alone with its wish
 abbrev pub step_about : Option Call → Running → About
@@ -56,13 +55,13 @@ step_about call t = about_of call t.part.wish
 abbrev pub IsInTry : TransferView → TryStep → Type 0
 IsInTry t step = (second : Bool) × (t.next ≡ Try second step)
 
--- the seat and its transfer made the machine's next step together, on this word, and the answer is by it
+-- the seat and its transfer made the machine's next step together, on this word, and the answer is by the reply that it leaves
 pub record MadeStepOn (sizes : Sizes) (about : About) (v : SeatView) (t : TransferView) (x : SeatView) (u : TransferView)
     (answer : Progress) (word : ℕ) : Type 0 where
   pub stepped : Stepped about v word x
   pub part : u ≡ met_of sizes t word
   pub mirrors : x.mind.view.transfer ≡ u
-  pub answered : answer ≡ progress_at t.next word
+  pub answered : answer ≡ progress_at t.next u.answer
 
 -- they did, on some word
 abbrev pub MadeStep : Sizes → About → SeatView → TransferView → SeatView → TransferView → Progress → Type 0

@@ -3,7 +3,7 @@ ghost use Rattle.std.specs.Prelude.{◌≡◌};
 ghost use Rattle.batch_stack.specs.Running.{ended_as, progress_at};
 
 use transfer_machine::NextStep;
-use word_layout::{Reply, Tagged};
+use word_layout::Reply;
 
 /// How far a transfer is after a step.
 #[derive(Clone, Copy, Debug, PartialEq, Eq, Hash)]
@@ -18,12 +18,12 @@ pub enum Progress {
     Gave,
 }
 
-/// How far a transfer is after its step at that stage met this word: the load of the reply ends it.
-pub(crate) fn progress_at(next: NextStep, word: u64) -> Progress
-    ensures { result ≡ progress_at next word }
+/// How far a transfer is after its step at that stage, with this last answer: the load of the reply ends it.
+pub(crate) fn progress_at(next: NextStep, answer: Reply) -> Progress
+    ensures { result ≡ progress_at next answer }
 {
     match next {
-        NextStep::LoadReply => ended_as(Reply::read(Tagged::value(word)).1),
+        NextStep::LoadReply => ended_as(answer),
         NextStep::Rest | NextStep::Announce | NextStep::Try { .. } | NextStep::LoadFinalState =>
             Progress::Going,
     }

@@ -1,11 +1,9 @@
 // One process's transfers, step by step.
-ghost use Rattle.std.specs.Prelude.{◌≡◌, ◌+◌, ◌<◌, ◌^◌, MatchResult};
-ghost use Rattle.word_layout.specs.Names.{table_words};
+ghost use Rattle.std.specs.Prelude.{◌≡◌, ◌<◌, MatchResult};
 ghost use Rattle.word_layout.specs.Sizes.{blocks};
 ghost use Rattle.word_layout.specs.declared.announced.Wish.TheVariants.{Take, Give};
-ghost use Rattle.word_table.specs.Seats.{SameSeat};
 ghost use Rattle.transfer_machine.specs.declared.stage.NextStep.TheVariants.{Rest};
-ghost use Rattle.pool_table.specs.Steps.{CanStep, Stepped};
+ghost use Rattle.pool_table.specs.Steps.{MayStep, OneStep, Stepped};
 ghost use Rattle.pool_table.specs.Transfers.{Agrees};
 ghost use Rattle.batch_stack.specs.declared.progress.Progress.TheVariants.{Going};
 ghost use Rattle.batch_stack.specs.Running.{Running, MadeStep, ComesNearer, GoesOn, IsInTry, opened, step_about, wishing};
@@ -85,62 +83,23 @@ impl Transfer {
         call: Option<Call>,
         steps: &mut Steps<L>,
     ) -> Progress
-        requires seat { seat.old.table ≡ table.now }
-        requires words { table.now.words ≡ table_words self.old.sizes }
-        requires steps { steps.old + 1 < 2 ^ 64 }
-        requires can { CanStep self.old.sizes (step_about call self.old) seat.old.view }
+        requires may { MayStep self.old.sizes (step_about call self.old) table.now seat.old steps.old }
         requires agrees { Agrees (step_about call self.old) seat.old.view self.old.part }
         ensures sizes { self.new.sizes ≡ self.old.sizes }
-        ensures seat { SameSeat seat.old seat.new }
-        ensures steps { steps.new ≡ steps.old + 1 }
+        ensures one { OneStep seat.old seat.new steps.old steps.new }
         ensures step { MadeStep self.old.sizes (step_about call self.old) seat.old.view self.old.part seat.new.view self.new.part result }
         ensures nearer { ComesNearer self.old.sizes self.old.part self.new.part result }
         ensures on { result ≡ Going → GoesOn self.old.sizes (step_about call self.old) seat.new.view self.new.part }
     {
         let about = about_of(call, self.view.wish);
-        step_part(&mut self.view, &self.shape, &about, table, seat, steps).progress
+        let next = self.view.next;
+        let word = make_step(&self.view, &self.shape, &about, table, seat, steps);
+        self.view.meet(&self.shape, word);
+        progress_at(next, self.view.answer)
     }
 }
 
-/// A step that was made.
-#[derive(Clone, Copy, Debug)]
-struct Made {
-    /// The word that it met; of a store, the one that it left.
-    word: u64,
-    /// How far the transfer is after it.
-    progress: Progress,
-}
-
-/// Makes the next step of a process's part of the transfers, and answers its word and how far it is.
-fn step_part<L: Ledger>(
-    view: &mut TransferView,
-    shape: &Shape,
-    about: &About,
-    table: &PoolTable,
-    seat: &mut PoolSeat,
-    steps: &mut Steps<L>,
-) -> Made
-    requires seat { seat.old.table ≡ table.now }
-    requires words { table.now.words ≡ table_words shape.now }
-    requires steps { steps.old + 1 < 2 ^ 64 }
-    requires can { CanStep shape.now about.now seat.old.view }
-    requires agrees { Agrees about.now seat.old.view view.old }
-    ensures seat { SameSeat seat.old seat.new }
-    ensures steps { steps.new ≡ steps.old + 1 }
-    ensures step { MadeStep shape.now about.now seat.old.view view.old seat.new.view view.new result.progress }
-    ensures nearer { ComesNearer shape.now view.old view.new result.progress }
-    ensures on { result.progress ≡ Going → GoesOn shape.now about.now seat.new.view view.new }
-{
-    let next = view.next;
-    let word = make_step(view, shape, about, table, seat, steps);
-    view.meet(shape, word);
-    Made {
-        word,
-        progress: progress_at(next, word),
-    }
-}
-
-/// Makes that step on its word, and answers the word that it met; of a store, the one that it left.
+/// Makes the next step of a transfer on its word, and answers the word that it met; of a store, the one that it left.
 fn make_step<L: Ledger>(
     view: &TransferView,
     shape: &Shape,
@@ -149,13 +108,9 @@ fn make_step<L: Ledger>(
     seat: &mut PoolSeat,
     steps: &mut Steps<L>,
 ) -> u64
-    requires seat { seat.old.table ≡ table.now }
-    requires words { table.now.words ≡ table_words shape.now }
-    requires steps { steps.old + 1 < 2 ^ 64 }
-    requires can { CanStep shape.now about.now seat.old.view }
+    requires may { MayStep shape.now about.now table.now seat.old steps.old }
     requires agrees { Agrees about.now seat.old.view view.now }
-    ensures seat { SameSeat seat.old seat.new }
-    ensures steps { steps.new ≡ steps.old + 1 }
+    ensures one { OneStep seat.old seat.new steps.old steps.new }
     ensures step { Stepped about.now seat.old.view result seat.new.view }
 {
     match view.next {
@@ -185,14 +140,10 @@ fn make_try_step<L: Ledger>(
     seat: &mut PoolSeat,
     steps: &mut Steps<L>,
 ) -> u64
-    requires seat { seat.old.table ≡ table.now }
-    requires words { table.now.words ≡ table_words shape.now }
-    requires steps { steps.old + 1 < 2 ^ 64 }
-    requires can { CanStep shape.now about.now seat.old.view }
+    requires may { MayStep shape.now about.now table.now seat.old steps.old }
     requires agrees { Agrees about.now seat.old.view view.now }
     requires step { IsInTry view.now step }
-    ensures seat { SameSeat seat.old seat.new }
-    ensures steps { steps.new ≡ steps.old + 1 }
+    ensures one { OneStep seat.old seat.new steps.old steps.new }
     ensures step { Stepped about.now seat.old.view result seat.new.view }
 {
     let loaded = &view.loaded;

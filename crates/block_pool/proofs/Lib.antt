@@ -4,3 +4,6 @@ pub mod Standing
 pub mod Calls
 pub mod Counting
 pub mod Passing
+pub mod Opened
+pub mod Joined
+pub mod Settling

@@ -30,6 +30,10 @@ pub same_pass : (call : Call) (entries : List Entry) (n : ℕ) (s t : Seated Sea
 same_pass call entries n s t same made =
     record { table = same.0; sizes = ap (λ (v : SeatView). v.sizes) made.stays; number = made.number }
 
+-- a seat that has taken in no other one has still taken in none
+pub still_bare : (call : Call) (entries : List Entry) (n : ℕ) (v w : SeatView) → CallMade call entries n v w → v.taken ≡ [] → w.taken ≡ []
+still_bare call entries n v w made bare = ap (λ (u : SeatView). u.taken) made.stays ∙ bare
+
 -- its steps
 pub counted_so : (sizes : Sizes) (call : Call) (entries : List Entry) (owned : Numbers → Numbers) (before after : ℕ) (x y : Process)
     → x.seat.view.sizes ≡ sizes → PoolCalled sizes call entries owned before after x y

@@ -6,3 +6,6 @@ pub mod Running
 pub mod Moves
 pub mod Owning
 pub mod Calls
+pub mod Opening
+pub mod Closing
+pub mod Joining

@@ -1,5 +1,5 @@
 -- how clauses see a pool and a pass, and what a pass keeps
-use Rattle.std.specs.Prelude.{◌≡◌, ℕ, true, List, length}
+use Rattle.std.specs.Prelude.{◌≡◌, ℕ, true, List, [], length}
 use Rattle.atomic_table.specs.Seated.{TableId}
 use Rattle.word_layout.specs.Sizes.{Sizes}
 use Rattle.word_table.specs.Seats.{Seated}
@@ -62,7 +62,8 @@ pub record BetweenCalls (sizes : Sizes) (process : Process) : Type 0 where
   pub way : may_use_calls process.seat.view.mind.view.calls.way ≡ true
   pub among : Among process.seat.view
 
--- what a pass keeps: its process is between two calls, and its blocks are counted
+-- what a pass keeps: its process is between two calls, its seat has taken in no other one, and its blocks are counted
 pub record PassFits (sizes : Sizes) (process : Process) (holding : ℕ) : Type 0 where
   pub between_calls : BetweenCalls sizes process
+  pub bare : process.seat.view.taken ≡ []
   pub counted : holding ≡ length (held_in process.seat.view.mind)

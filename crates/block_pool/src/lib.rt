@@ -6,9 +6,12 @@
 #![tactic(auto)]
 
 mod calling;
+mod closing;
+mod opening;
 mod pass;
 mod pool;
 mod process;
 
+pub use closing::Settled;
 pub use pass::{Block, Pass};
 pub use pool::{Answer, Pool};

@@ -1,3 +1,5 @@
 pub mod Numbers
+pub mod Parses
 pub mod Plays
+pub mod Drills
 pub mod Meanings

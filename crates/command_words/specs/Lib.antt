@@ -1,3 +1,5 @@
 pub mod Number
+pub mod Options
 pub mod Play
+pub mod Drill
 pub mod Meant

@@ -12,6 +12,6 @@ is_decimal text = list_all is_ascii_digit text
 abbrev pub is_numeral : List ℕ → Bool
 is_numeral text = is_decimal text && nat_lt 0 (length text)
 
--- the number below 2 ^ 32 that the text writes; none where it writes no such number
-abbrev pub number_of : List ℕ → Option ℕ
-number_of text = if is_numeral text && nat_lt (digits_value 10 text) (2 ^ 32) then Some (digits_value 10 text) else None
+-- the number of at most so many bits that the text writes; none where it writes no such number
+abbrev pub number_of : ℕ → List ℕ → Option ℕ
+number_of bits text = if is_numeral text && nat_lt (digits_value 10 text) (2 ^ bits) then Some (digits_value 10 text) else None

@@ -1,22 +1,13 @@
--- The words of `play`, as `clap` reads one simple command.
-use Rattle.std.specs.Prelude.{ℕ, List, [], ◌∷◌, Option, Some, None, true, codes, option_and_then}
-use Rattle.clap.specs.Simple.{on_top}
-use Rattle.clap.specs.Words.{App, Kinds, Row, Rule, all_of, fault_of, first_of, matches_of, new_app, new_rule, with_rule}
-use Rattle.clap.specs.declared.builder.action.ArgAction.TheVariants.{Append, Set}
-use Rattle.command_words.specs.Number.{number_of}
+-- The words of `play`.
+use Rattle.std.specs.Prelude.{ℕ, List, Option, Some, None, true, codes}
+use Rattle.clap.specs.Words.{App, Row, Rule, all_of, fault_of, matches_of, new_app, new_rule, with_rule}
+use Rattle.clap.specs.declared.builder.action.ArgAction.TheVariants.{Append}
+use Rattle.command_words.specs.Options.{if_faultless, number_at, option_rule, without_help}
 use Rattle.command_words.specs.declared.command.Play.{Play}
-
--- an option `--NAME V` or `--NAME=V`, and what it is where it isn't given
-abbrev pub option_rule : List ℕ → List ℕ → Rule
-option_rule name default = record (new_rule name) { long = Some name; action = Some Set; defaults = default ∷ [] }
 
 -- the words that are no options: file names, one at least
 abbrev pub files_rule : Rule
 files_rule = record (new_rule (codes "files")) { action = Some Append; required = true }
-
--- a command without the flags that ask for help
-abbrev pub without_help : App → App
-without_help = on_top (λ command. record command { disable_help_flag = true })
 
 -- the command `play [--batches B] [--size Z] [--quantum Q] FILE...`
 unfoldable pub play_app : App
@@ -27,10 +18,6 @@ play_app =
     let with_quantum = with_rule with_size (option_rule (codes "quantum") (codes "8")) in
     with_rule with_quantum files_rule
 
--- the number that the matches have for an option
-abbrev pub number_at : List ℕ → List Row → Option ℕ
-number_at name matches = option_and_then number_of (first_of name matches)
-
 -- what the numbers and the file names ask for together; none where one of them is missing
 abbrev pub play_with : Option ℕ → Option ℕ → Option ℕ → Option (List (List ℕ)) → Option Play
 play_with (Some batches) (Some size) (Some quantum) (Some files) =
@@ -39,13 +26,8 @@ play_with _ _ _ _ = None
 
 -- what the matches ask for; none where an option's value is no number
 abbrev pub play_in : List Row → Option Play
-play_in matches = play_with (number_at (codes "batches") matches) (number_at (codes "size") matches)
-    (number_at (codes "quantum") matches) (all_of (codes "files") matches)
-
--- the meaning, where no kind of fault was found
-abbrev pub if_faultless : Kinds → Option Play → Option Play
-if_faultless [] meaning = meaning
-if_faultless (kind ∷ kinds) meaning = None
+play_in matches = play_with (number_at 32 (codes "batches") matches) (number_at 32 (codes "size") matches)
+    (number_at 32 (codes "quantum") matches) (all_of (codes "files") matches)
 
 -- what `play` and the words after it ask for; none where `clap` finds a fault in them
 unfoldable pub play_meant : List (List ℕ) → Option Play

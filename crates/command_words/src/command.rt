@@ -23,6 +23,22 @@ pub struct Play {
     pub files: FileNames,
 }
 
+/// What `drill` was asked for.
+#[derive(Clone, Copy, Debug, PartialEq, Eq, Hash)]
+pub struct Drill {
+    /// The number that the first trace is made from. Each further trace is made from the next number.
+    pub seed: u64,
+    /// How many processes there are, each with a trace of its own.
+    pub processes: u32,
+    /// How many operations each trace has, at most [`MOST_CALLS`].
+    pub calls: u32,
+    /// How many steps of a transfer a call makes at most.
+    pub quantum: u32,
+}
+
+/// How many operations a trace of `drill` has at most.
+pub const MOST_CALLS: u32 = 131072;
+
 /// The names of files, in the order of the words. Contracts see a list of texts.
 #[derive(Debug, Drop)]
 pub struct FileNames {

@@ -6,12 +6,15 @@
 #![tactic(auto)]
 
 mod command;
+mod drill_words;
 mod fault;
 mod number;
+mod options;
 mod play_words;
 mod read;
 
-pub use command::{Command, FileNames, Play};
+pub use command::{Command, Drill, FileNames, MOST_CALLS, Play};
+pub use drill_words::read_drill;
 pub use fault::WordsFault;
 pub use read::read_words;
 

@@ -1,10 +1,10 @@
 // The words of `play`.
-ghost use Rattle.std.specs.Prelude.{◌≡◌, Some, None, IfOk, IfErr, false, map, string_bytes};
-ghost use Rattle.clap.specs.Words.{app_of, found_of, rows_of, rule_of};
-ghost use Rattle.command_words.specs.Play.{number_at, option_rule, play_app, play_in, play_meant};
+ghost use Rattle.std.specs.Prelude.{◌≡◌, Some, None, IfOk, IfErr, map, string_bytes};
+ghost use Rattle.clap.specs.Words.{app_of, found_of, rows_of};
+ghost use Rattle.command_words.specs.Play.{play_app, play_in, play_meant};
 ghost use Rattle.command_words.specs.declared.fault.WordsFault.TheVariants.{Faulty};
 
-use crate::number::read_number;
+use crate::options::{number_of_option, option};
 use crate::{FileNames, Play, WordsFault};
 use clap::error::ErrorKind;
 use clap::{Arg, ArgAction, ArgMatches};
@@ -40,17 +40,6 @@ fn play_command<'a>(alloc: Global) -> Result<clap::Command<'a>, AllocError>
         .arg(files)
 }
 
-/// An option `--name V` with its default.
-fn option<'a>(alloc: Global, name: &'a str, default: &'a str) -> Arg<'a>
-    ensures rule { rule_of result ≡ option_rule name.entry.now default.entry.now }
-    ensures local { result.global ≡ false }
-{
-    Arg::new(alloc, name)
-        .long(name)
-        .action(ArgAction::Set)
-        .default_value(default)
-}
-
 /// What the matches of `play` ask for.
 fn play_of(alloc: Global, matches: &ArgMatches<'_>) -> Result<Play, WordsFault>
     ensures ok { IfOk result (λ play. play_in (rows_of (found_of matches.now)) ≡ Some play) }
@@ -66,13 +55,6 @@ fn play_of(alloc: Global, matches: &ArgMatches<'_>) -> Result<Play, WordsFault>
         quantum,
         files: file_names(alloc, names)?,
     })
-}
-
-/// The number of an option, given or default. None where its value is no number.
-fn number_of_option(matches: &ArgMatches<'_>, name: &str) -> Option<u32>
-    ensures { result ≡ number_at name.now (rows_of (found_of matches.now)) }
-{
-    read_number(matches.get_str(name)?)
 }
 
 /// Owned copies of the names.

@@ -1,8 +1,8 @@
 // The report on an output sink.
-ghost use Rattle.std.specs.Prelude.{◌≡◌, ◌+◌, ◌^◌, ◌<◌, ◌≤◌, ◌++◌, Some, decimal, length, slice_get};
+ghost use Rattle.std.specs.Prelude.{◌≡◌, ℕ, ◌+◌, ◌^◌, ◌<◌, ◌≤◌, List, ◌++◌, EachIndex, Some, decimal, length, slice_get, slice_index};
 ghost use Rattle.arrayvec.specs.ArrayString.{array_string_len};
 ghost use Rattle.pool_io.specs.Writes.{Writes};
-ghost use Rattle.trace_player.specs.Report.{column_text, columns, columns_of, line_text, lines_from, report, sums_of};
+ghost use Rattle.trace_player.specs.Report.{column_text, columns_of, line_text, lines_from, report, sums_of};
 
 use crate::line::{LONGEST_LINE, Line, push_number};
 use itoa::Buffer;
@@ -22,29 +22,30 @@ fn push_column(line: &mut Line, name: &str, number: u128)
     push_number(line, number);
 }
 
-/// A column of a file: its name and its number. A name has at most 7 bytes.
-fn column(tally: &Tally, index: usize) -> (&'static str, u64)
-    requires { index < length columns }
-    ensures column { slice_get (columns_of tally.now) index ≡ Some (result.0.now, result.1) }
-    ensures short { length result.0.now ≤ 7 }
+/// Adds the numbers of a file's columns to the sums, place by place.
+fn add_columns(sums: &mut [u128; 10], tally: &Tally)
+    requires { EachIndex sums.old (λ place. slice_index sums.old place < 2 ^ 127) }
+    ensures added { (place : ℕ) (column : List ℕ × ℕ) → slice_get (columns_of tally.now) place ≡ Some column
+        → slice_index sums.new place ≡ slice_index sums.old place + column.1 }
+    ensures small { (place : ℕ) → slice_index sums.new place ≤ slice_index sums.old place + 2 ^ 64 }
 {
-    tally.columns()[index]
+    let columns = tally.columns();
+    for place in 0..columns.len() {
+        sums[place] += u128::from(columns[place].1);
+    }
 }
 
-/// A column of the sums over files: its name and its number.
-fn column_of_sums(tallies: &[Tally], index: usize) -> (&'static str, u128)
-    requires few { length tallies.now < 2 ^ 32 }
-    requires within { index < length columns }
-    ensures column { slice_get (sums_of tallies.now) index ≡ Some (result.0.now, result.1) }
-    ensures short { length result.0.now ≤ 7 }
+/// The numbers of the columns of the sums over files.
+fn sums_of_columns(tallies: &[Tally]) -> [u128; 10]
+    requires { length tallies.now < 2 ^ 32 }
+    ensures { (place : ℕ) (column : List ℕ × ℕ) → slice_get (sums_of tallies.now) place ≡ Some column
+        → slice_index result place ≡ column.1 }
 {
-    let (name, _) = column(&Tally::default(), index);
-    let mut sum = 0;
+    let mut sums = [0; 10];
     for tally in tallies {
-        let (_, number) = column(tally, index);
-        sum += u128::from(number);
+        add_columns(&mut sums, tally);
     }
-    (name, sum)
+    sums
 }
 
 /// Writes a line, in one piece: what it is about, and the sums over its files.
@@ -56,9 +57,10 @@ fn write_line<K: Sink>(out: &mut K, label: &str, tallies: &[Tally]) -> Result<()
     let mut line = Line::new();
     line.push_str(label);
     line.push_str(":");
-    for index in 0..Tally::default().columns().len() {
-        let (name, number) = column_of_sums(tallies, index);
-        push_column(&mut line, name, number);
+    let columns = Tally::default().columns();
+    let sums = sums_of_columns(tallies);
+    for place in 0..columns.len() {
+        push_column(&mut line, columns[place].0, sums[place]);
     }
     line.push_str("\n");
     write_whole(out, line.as_str().as_bytes())

@@ -17,7 +17,7 @@ mod real;
 mod sink;
 mod write;
 
-pub use command_line::words;
+pub use command_line::{NoWords, words};
 pub use files::{Failed, Files};
 pub use gate::{Gate, OpenGate};
 pub use memory_files::{MemoryFiles, MemorySource};

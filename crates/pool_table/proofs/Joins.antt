@@ -75,9 +75,9 @@ pub joins : (number other : ℕ) (v w : SeatView) → CanJoin v w → Joins Hold
 joins number other v w can = subst (λ is. Joins Holds number v other w (both_by is v w) spent) (sym can.other)
     (λ words views h at ne still. join_holds words views number other v w can h at ne still)
 
--- the load after a join leaves the words and the view
-pub look_keeps : (number : ℕ) (v : SeatView) → Keeps Holds number v 0 unchanged (λ _ _ u. looked u)
-look_keeps number v words views h at small = rw (set-get_or words 0 0) (rw (set_again views number v at) h)
+-- a load that turns no view, as that after a join, leaves the words and the view
+pub look_keeps : (number place : ℕ) (v : SeatView) → Keeps Holds number v place unchanged (λ _ _ u. looked u)
+look_keeps number place v words views h at small = rw (set-get_or words place 0) (rw (set_again views number v at) h)
 
 pub joined : (number met : ℕ) (v w after : SeatView) → CanJoin v w
     → Learned Holds (λ _ _ u. looked u) number 0 unchanged (both v w) met after

@@ -1,5 +1,6 @@
 -- The shape is read from the opening words, and these meet the rule with the first view.
-use Rattle.std.proofs.Common.{◌≡◌, ◌≢◌, ⊎_elim, ℕ, zero, suc, ◌+◌, ◌-◌, ◌*◌, ◌/◌, ◌%◌, ◌<◌, ◌≤◌, ◌==◌, Bool, true, false, List, [], ◌∷◌, length, refl, sym, ap, ◌∙◌, subst, arith}
+use Rattle.std.proofs.Common.{◌≡◌, ◌≢◌, ⊎_elim, ℕ, zero, suc, ◌+◌, ◌-◌, ◌*◌, ◌/◌, ◌%◌, ◌<◌, ◌≤◌, ◌==◌, Bool, true, false}
+use Rattle.std.proofs.Common.{List, [], ◌∷◌, length, refl, sym, ap, ◌∙◌, subst, arith}
 use Rattle.std.specs.Prelude.{slice_index, if◌then◌else◌, ◌^◌}
 use Rattle.std.proofs.lemmas.Bool.Decides.{nat_tests}
 use Rattle.std.proofs.Math.Nat.{mod-eq_of_lt, mul-div_cancel_left}
@@ -17,7 +18,8 @@ use Rattle.interleaving_core.proofs.Opens.{opening_holds}
 use Rattle.pool_table.specs.Minds.{opening_mind}
 use Rattle.pool_table.specs.Views.{SeatView, first_seat}
 use Rattle.pool_table.specs.Rule.{views_of, MindsHold, Numbered, Holds}
-use Rattle.pool_table.specs.Opening.{processes_of, batches_of, zero_from, nexts_of, length_of, quantum_of, words_of, sizes_by, sizes_with, sizes_of, first_view}
+use Rattle.pool_table.specs.Opening.{processes_of, batches_of, zero_from, nexts_of, length_of, quantum_of, words_of}
+use Rattle.pool_table.specs.Opening.{sizes_by, sizes_with, sizes_of, first_view}
 use Rattle.pool_table.specs.Steps.{Among}
 use Rattle.pool_table.proofs.Numbered.{counts_for}
 

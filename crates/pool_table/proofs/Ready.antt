@@ -1,5 +1,5 @@
 -- what the code needs of a seat's view to begin something
-use Rattle.std.proofs.Common.{◌≡◌, ◌≢◌, ℕ, Bool, true, false, refl, subst}
+use Rattle.std.proofs.Common.{◌≡◌, ◌≢◌, Bool, true, false, refl, subst}
 use Rattle.std.specs.Prelude.{if◌then◌else◌}
 use Rattle.word_layout.specs.Sizes.{Sizes}
 use Rattle.word_layout.specs.Names.{word_at}
@@ -12,7 +12,6 @@ use Rattle.pool_machine.specs.Beginning.{call_begun}
 use Rattle.pool_machine.specs.Ready.{CanBegin, CanActCall}
 use Rattle.pool_machine.specs.declared.call.Call.{Call}
 use Rattle.pool_machine.specs.declared.call.Call.TheVariants.{Allocate, Free, Read, Write}
-use Rattle.pool_machine.specs.declared.call.CallStage.TheVariants.{Between}
 use Rattle.pool_machine.specs.declared.call.Way.{Way}
 use Rattle.pool_machine.specs.declared.call.Way.TheVariants.{Fresh, Alone, Calls}
 use Rattle.pool_machine.specs.declared.view.ProcessView.{ProcessView}

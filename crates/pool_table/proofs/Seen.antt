@@ -27,32 +27,26 @@ longer_begins_by a b history false first second = first
 pub longer_begins : (a b history : List Entry) → Begins a history → Begins b history → Begins (longer a b) history
 longer_begins a b history first second = longer_begins_by a b history (nat_lt (length a) (length b)) first second
 
-pub longer_left : (a b : List Entry) → length a ≤ length (longer a b)
-longer_left a b = by (nat_lt (length a) (length b)) refl
+pub longer_reaches : (a b : List Entry) → (length a ≤ length (longer a b)) × (length b ≤ length (longer a b))
+longer_reaches a b = by (nat_lt (length a) (length b)) refl
   where
-    by : (t : Bool) → nat_lt (length a) (length b) ≡ t → length a ≤ length (if t then b else a)
-    by true e = grind (arith, nat_tests)
-    by false e = grind (arith, nat_tests)
-
-pub longer_right : (a b : List Entry) → length b ≤ length (longer a b)
-longer_right a b = by (nat_lt (length a) (length b)) refl
-  where
-    by : (t : Bool) → nat_lt (length a) (length b) ≡ t → length b ≤ length (if t then b else a)
-    by true e = grind (arith, nat_tests)
-    by false e = grind (arith, nat_tests)
+    by : (t : Bool) → nat_lt (length a) (length b) ≡ t
+        → (length a ≤ length (if t then b else a)) × (length b ≤ length (if t then b else a))
+    by true e = (grind (arith, nat_tests), omega arith)
+    by false e = (omega arith, grind (arith, nat_tests))
 
 -- the longest of all is no shorter than what a process has seen that has a mind in a seat
-longest_in_reaches : (seats n : ℕ) (minds : Minds) (list : List Mind) → EachMind (IsSeated seats minds) list → 1 ≤ count_in n list
+pub longest_in_reaches : (seats n : ℕ) (minds : Minds) (list : List Mind) → EachMind (IsSeated seats minds) list → 1 ≤ count_in n list
     → length (minds n).seen ≤ length (longest_in list)
 longest_in_reaches seats n minds [] each has = absurd (omega arith)
 longest_in_reaches seats n minds (mind ∷ list) each has = elim (cases_eq (number_of mind) n) [
   | inl e ↦
       let is : minds n ≡ mind = ap minds (sym e) ∙ each.0.1 in
-      let le = longer_left mind.seen (longest_in list) in
+      let le = (longer_reaches mind.seen (longest_in list)).0 in
       omega (arith, le, ap (λ (z : Mind). length z.seen) is)
   | inr ne ↦
       let le = longest_in_reaches seats n minds list each.1 (omega (arith, counts_not (number_of mind) n ne)) in
-      let more = longer_right mind.seen (longest_in list) in
+      let more = (longer_reaches mind.seen (longest_in list)).1 in
       omega arith
 ]
 
@@ -62,16 +56,16 @@ longest_reaches seats n minds [] each has = absurd (omega arith)
 longest_reaches seats n minds (v ∷ views) each has = elim (cases_eq (count_in n (minds_of v)) 0) [
   | inl none ↦
       let le = longest_reaches seats n minds views each.1 (omega (arith, none)) in
-      let more = longer_right (longest_in (minds_of v)) (longest views) in
+      let more = (longer_reaches (longest_in (minds_of v)) (longest views)).1 in
       omega arith
   | inr there ↦
       let le = longest_in_reaches seats n minds (minds_of v) each.0 (omega arith) in
-      let more = longer_left (longest_in (minds_of v)) (longest views) in
+      let more = (longer_reaches (longest_in (minds_of v)) (longest views)).0 in
       omega arith
 ]
 
 -- and it is a beginning of the history, as what each has seen is
-longest_in_begins : (seats : ℕ) (minds : Minds) (history : List Entry) (list : List Mind)
+pub longest_in_begins : (seats : ℕ) (minds : Minds) (history : List Entry) (list : List Mind)
     → ((n : ℕ) → n < seats → Begins (minds n).seen history) → EachMind (IsSeated seats minds) list → Begins (longest_in list) history
 longest_in_begins seats minds history [] sees each = refl
 longest_in_begins seats minds history (mind ∷ list) sees each = longer_begins mind.seen (longest_in list) history

@@ -10,7 +10,7 @@ use Rattle.pool_table.proofs.Numbered.{own_mind_first, each_at}
 use Rattle.pool_table.proofs.Seating.{each_mind_becomes}
 
 -- the mind of one of the processes
-fits_in : (sizes : Sizes) (words : List ℕ) (minds : Minds) (history : List Entry) (seats : ℕ) → seats ≤ sizes.processes
+pub fits_in : (sizes : Sizes) (words : List ℕ) (minds : Minds) (history : List Entry) (seats : ℕ) → seats ≤ sizes.processes
     → MindsHold sizes words minds history → (mind : Mind) → IsSeated seats minds mind → FitsIn history mind
 fits_in sizes words minds history seats few h mind is =
     let low = is.0 in

@@ -1,9 +1,12 @@
 -- one step of a seat: what it asks, and what it tells
-use Rattle.std.specs.Prelude.{◌≡◌, ℕ, ◌+◌, true, false, Some, List, [], ◌∷◌, ◌++◌, length, take, slice_set}
+use Rattle.std.specs.Prelude.{◌≡◌, ℕ, ◌+◌, ◌<◌, ◌^◌, true, false, Some, List, [], ◌∷◌, ◌++◌, length, take, slice_set}
 use mathlib.Core.Option.{some}
 use lib.ListN.{get_elem?}
+use Rattle.atomic_table.specs.Seated.{TableId}
 use Rattle.word_rule.specs.Moves.{IsAmong}
+use Rattle.word_table.specs.Seats.{Seated, SameSeat}
 use Rattle.word_layout.specs.Sizes.{Sizes}
+use Rattle.word_layout.specs.Names.{table_words}
 use Rattle.word_layout.specs.declared.name.WordName.TheVariants.{Data}
 use Rattle.pool_model.specs.declared.entry.Entry.{Entry}
 use Rattle.transfer_machine.specs.declared.action.Action.{Action}
@@ -31,6 +34,18 @@ pub record CanStep (sizes : Sizes) (about : About) (v : SeatView) : Type 0 where
   pub shape : v.sizes ≡ sizes
   pub may : MayTurn sizes about v.mind
   pub among : Among v
+
+-- what a step about this asks: the seat is of this table, which is of this shape, and can make it; the counter has room for its tick
+pub record MayStep (sizes : Sizes) (about : About) (table : TableId) (seat : Seated SeatView) (steps : ℕ) : Type 0 where
+  pub of_table : seat.table ≡ table
+  pub whole : table.words ≡ table_words sizes
+  pub room : steps + 1 < 2 ^ 64
+  pub can : CanStep sizes about seat.view
+
+-- one step of a seat: of that nothing changes but the view, and the counter ticks once
+pub record OneStep (before after : Seated SeatView) (steps ticked : ℕ) : Type 0 where
+  pub same : SameSeat before after
+  pub tick : ticked ≡ steps + 1
 
 -- what the next step makes of the view stays in range where it meets this word
 pub record CanMeetNext (sizes : Sizes) (v : ProcessView) (word : ℕ) : Type 0 where

@@ -1,9 +1,7 @@
 // One step of a seat.
-ghost use Rattle.std.specs.Prelude.{◌≡◌, ◌+◌, ◌<◌, ◌^◌};
-ghost use Rattle.word_layout.specs.Names.{table_words};
-ghost use Rattle.word_table.specs.Seats.{SameSeat};
+ghost use Rattle.std.specs.Prelude.{◌≡◌};
 ghost use Rattle.interleaving_core.specs.Steps.{next_action};
-ghost use Rattle.pool_table.specs.Steps.{CanStep, Stepped};
+ghost use Rattle.pool_table.specs.Steps.{MayStep, OneStep, Stepped};
 ghost use Rattle.pool_table.specs.Turns.{turning};
 
 use crate::about::About;
@@ -23,13 +21,9 @@ pub fn act<L: Ledger>(
     seat: &mut PoolSeat,
     steps: &mut Steps<L>,
 ) -> u64
-    requires seat { seat.old.table ≡ table.now }
-    requires words { table.now.words ≡ table_words shape.now }
-    requires steps { steps.old + 1 < 2 ^ 64 }
-    requires can { CanStep shape.now about.now seat.old.view }
+    requires may { MayStep shape.now about.now table.now seat.old steps.old }
     requires action { action ≡ next_action shape.now (turning about.now seat.old.view.mind.view) }
-    ensures seat { SameSeat seat.old seat.new }
-    ensures steps { steps.new ≡ steps.old + 1 }
+    ensures one { OneStep seat.old seat.new steps.old steps.new }
     ensures step { Stepped about.now seat.old.view result seat.new.view }
 {
     match action {

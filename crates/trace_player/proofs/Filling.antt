@@ -5,13 +5,7 @@ use Rattle.std.proofs.lemmas.Bool.{cases_eq}
 use Rattle.std.proofs.lemmas.List.{get_or-set_same, get_or-set_other, get_or_push}
 use Rattle.std.proofs.lemmas.List.Elements.{All-contains, Contains-push_cases, Contains-append_left, Contains-push}
 use Rattle.std.proofs.lemmas.List.Sums.{sum_by-set}
-use Rattle.pool_model.specs.declared.entry.Entry.{Entry}
-use Rattle.pool_model.specs.declared.entry.Entry.TheVariants.{Got, Back, Dry}
-use Rattle.pool_model.proofs.Histories.{held_more}
-use Rattle.pool_model.proofs.Members.{contains_head, contains_tail, without_contains}
 use Rattle.std.proofs.lemmas.Option.{none-some, same_Some}
-use Rattle.pool_model.specs.History.{held}
-use Rattle.pool_model.specs.Plain.{Plain, IsHeld, Gives, Takes}
 use Rattle.mtrace_reader.specs.declared.steps.Step.{Step}
 use Rattle.mtrace_reader.specs.declared.steps.Step.TheVariants.{Place, Leave}
 use Rattle.trace_player.proofs.Agreeing.{Below, Keeps, keeps_all, keeps_more}
@@ -25,24 +19,22 @@ block_in-replicate (suc n) zero = refl
 block_in-replicate (suc n) (suc slot) = block_in-replicate n slot
 
 -- a slot that was filled keeps its block at a step that does not leave it
-pub filled_on : (refused later : List Bool) (blocks after : List ℕ) (done : List Step) (step : Step) (entries longer : List Entry) (pool new : Plain) (slot block : ℕ)
-    → Keeps refused later blocks after (length refused) → length refused ≤ length later → step ≢ Leave slot
-    → Contains (held longer) block → IsHeld new block
-    → IsFilled refused blocks done entries pool slot block → IsFilled later after (done ++ step ∷ []) longer new slot block
-filled_on refused later blocks after done step entries longer pool new slot block keeps longer_than stays mine holds filled = record {
+pub filled_on : (refused later : List Bool) (blocks after : List ℕ) (done : List Step) (step : Step) (Held New : ℕ → Type 0) (slot block : ℕ)
+    → Keeps refused later blocks after (length refused) → length refused ≤ length later → step ≢ Leave slot → (Held block → New block)
+    → IsFilled refused blocks done Held slot block → IsFilled later after (done ++ step ∷ []) New slot block
+filled_on refused later blocks after done step Held New slot block keeps longer_than stays still filled = record {
   placed = omega (arith, filled.placed);
   given = keeps.refusals slot filled.placed ∙ filled.given;
   block_of = keeps.given slot filled.placed ∙ filled.block_of;
   not_left = λ left. ⊎_elim filled.not_left stays (Contains-push_cases done step (Leave slot) left);
-  mine = mine;
-  held = holds;
+  held = still filled.held;
 }
 
 -- the slot that was just given a block is filled with it
-pub filled_now : (refused : List Bool) (blocks : List ℕ) (done : List Step) (entries : List Entry) (pool : Plain) (slot block : ℕ)
-    → slot ≡ length refused → length blocks ≡ length refused → Below (length refused) done → Contains (held entries) block → IsHeld pool block
-    → IsFilled (refused ++ false ∷ []) (blocks ++ block ∷ []) (done ++ Place slot ∷ []) entries pool slot block
-filled_now refused blocks done entries pool slot block next same below mine holds = record {
+pub filled_now : (refused : List Bool) (blocks : List ℕ) (done : List Step) (Held : ℕ → Type 0) (slot block : ℕ)
+    → slot ≡ length refused → length blocks ≡ length refused → Below (length refused) done → Held block
+    → IsFilled (refused ++ false ∷ []) (blocks ++ block ∷ []) (done ++ Place slot ∷ []) Held slot block
+filled_now refused blocks done Held slot block next same below holds = record {
   placed = omega (arith, length-append refused (false ∷ []));
   given = get_or_push refused false false slot (sym next);
   block_of = get_or_push blocks block 0 slot (same ∙ sym next);
@@ -50,12 +42,11 @@ filled_now refused blocks done entries pool slot block next same below mine hold
       (λ (c : Contains done (Leave slot)). absurd (omega (arith, All-contains (λ step. slot_of step < length refused) done (Leave slot) below c)))
       (λ (e : Place slot ≡ Leave slot). absurd cc)
       (Contains-push_cases done (Place slot) (Leave slot) left);
-  mine = mine;
   held = holds;
 }
 
 -- what a slot has after another, or it itself, was written
-after_set : (slots : List (Option ℕ)) (slot other : ℕ) (new found : Option ℕ) → slot < length slots
+pub after_set : (slots : List (Option ℕ)) (slot other : ℕ) (new found : Option ℕ) → slot < length slots
     → block_in (set slots slot new) other ≡ found
     → ((other ≡ slot) × (new ≡ found)) ⊎ ((other ≢ slot) × (block_in slots other ≡ found))
 after_set slots slot other new found within e =
@@ -76,17 +67,17 @@ pub count_by-set : (slots : List (Option ℕ)) (slot : ℕ) (new : Option ℕ) �
     → count_by is_some (set slots slot new) + cond (is_some (block_in slots slot)) 1 0 ≡ count_by is_some slots + cond (is_some new) 1 0
 count_by-set slots slot new within = sum_by-set (λ o. cond (is_some o) 1 0) slots slot new None within
 
-pub holds_none : (pool : Plain) (n : ℕ) → HoldsBlocks [] [] [] [] pool (replicate n None)
-holds_none pool n = record {
+pub holds_none : (Held : ℕ → Type 0) (n : ℕ) → HoldsBlocks [] [] [] Held (replicate n None)
+holds_none Held n = record {
   filled = λ slot block e. absurd (none-some block (sym (block_in-replicate n slot) ∙ e));
   empty = λ slot below e. absurd (omega arith);
   apart = λ a b block ea eb. absurd (none-some block (sym (block_in-replicate n a) ∙ ea));
 }
 
 -- a slot that has no number yet has no block
-pub next_is_empty : (refused : List Bool) (blocks : List ℕ) (done : List Step) (entries : List Entry) (pool : Plain) (slots : List (Option ℕ)) (slot : ℕ)
-    → HoldsBlocks refused blocks done entries pool slots → slot ≡ length refused → block_in slots slot ≡ None
-next_is_empty refused blocks done entries pool slots slot holds next = cases (block_in slots slot) refl
+pub next_is_empty : (refused : List Bool) (blocks : List ℕ) (done : List Step) (Held : ℕ → Type 0) (slots : List (Option ℕ)) (slot : ℕ)
+    → HoldsBlocks refused blocks done Held slots → slot ≡ length refused → block_in slots slot ≡ None
+next_is_empty refused blocks done Held slots slot holds next = cases (block_in slots slot) refl
   where
     cases : (o : Option ℕ) → block_in slots slot ≡ o → o ≡ None
     cases None e = refl
@@ -101,11 +92,11 @@ empty_on refused later blocks after done step slot keeps below was =
     (λ (left : Contains done (Leave slot)). inr (Contains-append_left done (step ∷ []) (Leave slot) left))
     was
 
--- no slot has a block that the pool just gave
-apart_got : (refused : List Bool) (blocks : List ℕ) (done : List Step) (entries : List Entry) (pool : Plain) (slots : List (Option ℕ)) (slot block : ℕ)
-    → slot < length slots → ¬ IsHeld pool block → HoldsBlocks refused blocks done entries pool slots
+-- no slot has a block that was just given, and wasn't held
+apart_got : (refused : List Bool) (blocks : List ℕ) (done : List Step) (Held : ℕ → Type 0) (slots : List (Option ℕ)) (slot block : ℕ)
+    → slot < length slots → ¬ Held block → HoldsBlocks refused blocks done Held slots
     → (a b other : ℕ) → block_in (set slots slot (Some block)) a ≡ Some other → block_in (set slots slot (Some block)) b ≡ Some other → a ≡ b
-apart_got refused blocks done entries pool slots slot block within free holds a b other ea eb =
+apart_got refused blocks done Held slots slot block within free holds a b other ea eb =
     ⊎_elim
     (λ (q : (a ≡ slot) × (Some block ≡ Some other)). ⊎_elim
     (λ (r : (b ≡ slot) × (Some block ≡ Some other)). q.0 ∙ sym r.0)
@@ -118,28 +109,26 @@ apart_got refused blocks done entries pool slots slot block within free holds a 
     (after_set slots slot a (Some block) (Some other) within ea)
   where
     not_new : (c : ℕ) → block_in slots c ≡ Some other → block ≡ other → ⊥
-    not_new c e same = free (subst (λ (n : ℕ). IsHeld pool n) (sym same) (holds.filled c other e).held)
+    not_new c e same = free (subst Held (sym same) (holds.filled c other e).held)
 
-pub holds_got : (i : ℕ) (refused : List Bool) (blocks : List ℕ) (done : List Step) (entries : List Entry) (pool new : Plain) (slots : List (Option ℕ)) (slot block : ℕ)
-    → NamesSlots refused blocks done → slot ≡ length refused → slot < length slots → Gives pool new block → HoldsBlocks refused blocks done entries pool slots
-    → HoldsBlocks (refused ++ false ∷ []) (blocks ++ block ∷ []) (done ++ Place slot ∷ []) (entries ++ Got i block ∷ []) new (set slots slot (Some block))
-holds_got i refused blocks done entries pool new slots slot block names next within gives holds =
+-- a block that wasn't held is, and those that were still are
+pub holds_got : (refused : List Bool) (blocks : List ℕ) (done : List Step) (Held New : ℕ → Type 0) (slots : List (Option ℕ)) (slot block : ℕ)
+    → NamesSlots refused blocks done → slot ≡ length refused → slot < length slots → ¬ Held block → New block → ((other : ℕ) → Held other → New other)
+    → HoldsBlocks refused blocks done Held slots
+    → HoldsBlocks (refused ++ false ∷ []) (blocks ++ block ∷ []) (done ++ Place slot ∷ []) New (set slots slot (Some block))
+holds_got refused blocks done Held New slots slot block names next within free now still holds =
     let more = done ++ Place slot ∷ [] in
-    let longer = entries ++ Got i block ∷ [] in
     let keeps = keeps_more refused blocks false block names.block_each in
     let size : length (refused ++ false ∷ []) ≡ length refused + 1 = omega (arith, length-append refused (false ∷ [])) in
-    let P : ℕ → List ℕ → Type 0 = λ b bs. Contains bs b in
-    let new_block = filled_now refused blocks done longer new slot block next names.block_each names.below
-    (subst (P block) (sym (held_more entries (Got i block))) (contains_head block (held entries))) ((gives.held block).1 (inr refl)) in
+    let new_block = filled_now refused blocks done New slot block next names.block_each names.below now in
     record {
       filled = λ other c e. ⊎_elim
           (λ (q : (other ≡ slot) × (Some block ≡ Some c)).
-          subst (λ (s : ℕ). IsFilled (refused ++ false ∷ []) (blocks ++ block ∷ []) more longer new s c) (sym q.0)
-          (subst (λ (b : ℕ). IsFilled (refused ++ false ∷ []) (blocks ++ block ∷ []) more longer new slot b) (same_Some block c q.1) new_block))
+          subst (λ (s : ℕ). IsFilled (refused ++ false ∷ []) (blocks ++ block ∷ []) more New s c) (sym q.0)
+          (subst (λ (b : ℕ). IsFilled (refused ++ false ∷ []) (blocks ++ block ∷ []) more New slot b) (same_Some block c q.1) new_block))
           (λ (q : (other ≢ slot) × (block_in slots other ≡ Some c)).
-          let was = holds.filled other c q.1 in
-          filled_on refused (refused ++ false ∷ []) blocks (blocks ++ block ∷ []) done (Place slot) entries longer pool new other c keeps (omega arith) (λ e. absurd cc)
-          (subst (P c) (sym (held_more entries (Got i block))) (contains_tail c block (held entries) was.mine)) ((gives.held c).1 (inl was.held)) was)
+          filled_on refused (refused ++ false ∷ []) blocks (blocks ++ block ∷ []) done (Place slot) Held New other c keeps (omega arith) (λ e. absurd cc)
+          (still c) (holds.filled other c q.1))
           (after_set slots slot other (Some block) (Some c) within e);
       empty = λ other low e. ⊎_elim
           (λ (q : (other ≡ slot) × (Some block ≡ None)). absurd (none-some block (sym q.1)))
@@ -147,20 +136,20 @@ holds_got i refused blocks done entries pool new slots slot block names next wit
           let before : other < length refused = omega (arith, q.0) in
           empty_on refused (refused ++ false ∷ []) blocks (blocks ++ block ∷ []) done (Place slot) other keeps before (holds.empty other before q.1))
           (after_set slots slot other (Some block) None within e);
-      apart = apart_got refused blocks done entries pool slots slot block within gives.free holds;
+      apart = apart_got refused blocks done Held slots slot block within free holds;
     }
 
-pub holds_dry : (i : ℕ) (refused : List Bool) (blocks : List ℕ) (done : List Step) (entries : List Entry) (pool : Plain) (slots : List (Option ℕ)) (slot : ℕ)
-    → NamesSlots refused blocks done → slot ≡ length refused → HoldsBlocks refused blocks done entries pool slots
-    → HoldsBlocks (refused ++ true ∷ []) (blocks ++ 0 ∷ []) (done ++ Place slot ∷ []) (entries ++ Dry i ∷ []) pool slots
-holds_dry i refused blocks done entries pool slots slot names next holds =
+-- a Place was refused, and the blocks that were held still are
+pub holds_dry : (refused : List Bool) (blocks : List ℕ) (done : List Step) (Held New : ℕ → Type 0) (slots : List (Option ℕ)) (slot : ℕ)
+    → NamesSlots refused blocks done → slot ≡ length refused → ((other : ℕ) → Held other → New other) → HoldsBlocks refused blocks done Held slots
+    → HoldsBlocks (refused ++ true ∷ []) (blocks ++ 0 ∷ []) (done ++ Place slot ∷ []) New slots
+holds_dry refused blocks done Held New slots slot names next still holds =
     let keeps = keeps_more refused blocks true 0 names.block_each in
     let size : length (refused ++ true ∷ []) ≡ length refused + 1 = omega (arith, length-append refused (true ∷ [])) in
     record {
       filled = λ other c e.
-          let was = holds.filled other c e in
-          filled_on refused (refused ++ true ∷ []) blocks (blocks ++ 0 ∷ []) done (Place slot) entries (entries ++ Dry i ∷ []) pool pool other c keeps (omega arith) (λ e. absurd cc)
-          (subst (λ (bs : List ℕ). Contains bs c) (sym (held_more entries (Dry i))) was.mine) was.held was;
+          filled_on refused (refused ++ true ∷ []) blocks (blocks ++ 0 ∷ []) done (Place slot) Held New other c keeps (omega arith) (λ e. absurd cc)
+          (still c) (holds.filled other c e);
       empty = λ other low e. ⊎_elim
           (λ (same : other ≡ slot). inl (get_or_push refused true false other (sym (same ∙ next))))
           (λ (differs : other ≢ slot).
@@ -171,12 +160,12 @@ holds_dry i refused blocks done entries pool slots slot names next holds =
     }
 
 -- once a slot is left, each slot without a block was refused or left
-left_empty : (refused : List Bool) (blocks : List ℕ) (done : List Step) (entries : List Entry) (pool : Plain) (slots : List (Option ℕ))
-    (slot : ℕ) → slot < length slots → (is_refused refused slot ≡ true) ⊎ Contains (done ++ Leave slot ∷ []) (Leave slot)
-    → HoldsBlocks refused blocks done entries pool slots
+left_empty : (refused : List Bool) (blocks : List ℕ) (done : List Step) (Held : ℕ → Type 0) (slots : List (Option ℕ)) (slot : ℕ)
+    → slot < length slots → (is_refused refused slot ≡ true) ⊎ Contains (done ++ Leave slot ∷ []) (Leave slot)
+    → HoldsBlocks refused blocks done Held slots
     → (other : ℕ) → other < length refused → block_in (set slots slot None) other ≡ None
     → (is_refused refused other ≡ true) ⊎ Contains (done ++ Leave slot ∷ []) (Leave other)
-left_empty refused blocks done entries pool slots slot within own holds other low e =
+left_empty refused blocks done Held slots slot within own holds other low e =
     ⊎_elim
     (λ (q : (other ≡ slot) × (None ≡ None)). rw q.0 own)
     (λ (q : (other ≢ slot) × (block_in slots other ≡ None)).
@@ -184,33 +173,33 @@ left_empty refused blocks done entries pool slots slot within own holds other lo
     (holds.empty other low q.1))
     (after_set slots slot other None None within e)
 
-pub holds_back : (i : ℕ) (refused : List Bool) (blocks : List ℕ) (done : List Step) (entries : List Entry) (pool new : Plain) (slots : List (Option ℕ)) (slot block : ℕ)
-    → slot < length slots → block_in slots slot ≡ Some block → Takes pool new block → HoldsBlocks refused blocks done entries pool slots
-    → HoldsBlocks refused blocks (done ++ Leave slot ∷ []) (entries ++ Back i block ∷ []) new (set slots slot None)
-holds_back i refused blocks done entries pool new slots slot block within has takes holds =
+-- a slot gave its block back, and the others that were held still are
+pub holds_back : (refused : List Bool) (blocks : List ℕ) (done : List Step) (Held New : ℕ → Type 0) (slots : List (Option ℕ)) (slot block : ℕ)
+    → slot < length slots → block_in slots slot ≡ Some block → ((other : ℕ) → ¬ (other ≡ block) → Held other → New other)
+    → HoldsBlocks refused blocks done Held slots
+    → HoldsBlocks refused blocks (done ++ Leave slot ∷ []) New (set slots slot None)
+holds_back refused blocks done Held New slots slot block within has still holds =
     let keeps = keeps_all refused blocks (length refused) in
     record {
       filled = λ other c e.
           let q = kept_block slots slot other c within e in
-          let was = holds.filled other c q.1 in
           let differs : ¬ (c ≡ block) = λ same. q.0 (holds.apart other slot block (q.1 ∙ ap Some same) has) in
-          filled_on refused refused blocks blocks done (Leave slot) entries (entries ++ Back i block ∷ []) pool new other c keeps (omega arith) (λ e. q.0 (sym (cc e)))
-          (subst (λ (bs : List ℕ). Contains bs c) (sym (held_more entries (Back i block))) (without_contains block c (held entries) was.mine differs))
-          ((takes.held c).1 (was.held, differs)) was;
-      empty = left_empty refused blocks done entries pool slots slot within (inr (Contains-push done (Leave slot))) holds;
+          filled_on refused refused blocks blocks done (Leave slot) Held New other c keeps (omega arith) (λ e. q.0 (sym (cc e)))
+          (still c differs) (holds.filled other c q.1);
+      empty = left_empty refused blocks done Held slots slot within (inr (Contains-push done (Leave slot))) holds;
       apart = λ a b c ea eb. holds.apart a b c (kept_block slots slot a c within ea).1 (kept_block slots slot b c within eb).1;
     }
 
-pub holds_passed : (refused : List Bool) (blocks : List ℕ) (done : List Step) (entries : List Entry) (pool : Plain) (slots : List (Option ℕ)) (slot : ℕ)
-    → slot < length slots → is_refused refused slot ≡ true → HoldsBlocks refused blocks done entries pool slots
-    → HoldsBlocks refused blocks (done ++ Leave slot ∷ []) entries pool (set slots slot None)
-holds_passed refused blocks done entries pool slots slot within dry holds =
+-- a slot that was refused is left
+pub holds_passed : (refused : List Bool) (blocks : List ℕ) (done : List Step) (Held : ℕ → Type 0) (slots : List (Option ℕ)) (slot : ℕ)
+    → slot < length slots → is_refused refused slot ≡ true → HoldsBlocks refused blocks done Held slots
+    → HoldsBlocks refused blocks (done ++ Leave slot ∷ []) Held (set slots slot None)
+holds_passed refused blocks done Held slots slot within dry holds =
     let keeps = keeps_all refused blocks (length refused) in
     record {
       filled = λ other c e.
           let q = kept_block slots slot other c within e in
-          let was = holds.filled other c q.1 in
-          filled_on refused refused blocks blocks done (Leave slot) entries entries pool pool other c keeps (omega arith) (λ e. q.0 (sym (cc e))) was.mine was.held was;
-      empty = left_empty refused blocks done entries pool slots slot within (inl dry) holds;
+          filled_on refused refused blocks blocks done (Leave slot) Held Held other c keeps (omega arith) (λ e. q.0 (sym (cc e))) (λ held. held) (holds.filled other c q.1);
+      empty = left_empty refused blocks done Held slots slot within (inl dry) holds;
       apart = λ a b c ea eb. holds.apart a b c (kept_block slots slot a c within ea).1 (kept_block slots slot b c within eb).1;
     }

@@ -5,6 +5,7 @@ pub mod Leading
 pub mod Naming
 pub mod Filling
 pub mod Counting
+pub mod Plays
 pub mod Sparing
 pub mod Steps
 pub mod Ordered

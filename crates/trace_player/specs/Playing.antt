@@ -1,4 +1,4 @@
--- A script that is being played over a plain pool.
+-- A script that is being played.
 use Rattle.std.specs.Prelude.{◌≡◌, ℕ, ◌+◌, ◌-◌, ◌^◌, ◌<◌, ◌≤◌, ◌⊎◌, Bool, true, false, Option, Some, None, is_some, List, [], ◌∷◌, ◌++◌, length, count_by, flat_map, slice_index, slice_index_or, All, Contains, replicate}
 use Rattle.std.specs.List.{range_with_len}
 use Rattle.pool_model.specs.declared.entry.Entry.{Entry}
@@ -38,15 +38,13 @@ abbrev pub slot_of : Step → ℕ
 slot_of (Place slot) = slot
 slot_of (Leave slot) = slot
 
--- a slot's block is the one that it was given, and is held by its process
-pub record IsFilled (refused : List Bool) (blocks : List ℕ) (done : List Step) (entries : List Entry) (pool : Plain)
-    (slot block : ℕ) : Type 0 where
+-- a slot's block is the one that it was given, and is held by its process, as `Held` says
+pub record IsFilled (refused : List Bool) (blocks : List ℕ) (done : List Step) (Held : ℕ → Type 0) (slot block : ℕ) : Type 0 where
   pub placed : slot < length refused
   pub given : is_refused refused slot ≡ false
   pub block_of : slice_index blocks slot ≡ block
   pub not_left : ¬ Contains done (Leave slot)
-  pub mine : Contains (held entries) block
-  pub held : IsHeld pool block
+  pub held : Held block
 
 -- the entries of process i lead from one pool to another, by a history that refuses only where all blocks are held
 pub record Leads (i : ℕ) (entries : List Entry) (old new : Plain) : Type 0 where
@@ -63,9 +61,8 @@ pub record NamesSlots (refused : List Bool) (blocks : List ℕ) (done : List Ste
   pub block_each : length blocks ≡ length refused
 
 -- the slots have the blocks that were given to them, until they are left, and no two have the same
-pub record HoldsBlocks (refused : List Bool) (blocks : List ℕ) (done : List Step) (entries : List Entry) (pool : Plain)
-    (slots : List (Option ℕ)) : Type 0 where
-  pub filled : (slot block : ℕ) → block_in slots slot ≡ Some block → IsFilled refused blocks done entries pool slot block
+pub record HoldsBlocks (refused : List Bool) (blocks : List ℕ) (done : List Step) (Held : ℕ → Type 0) (slots : List (Option ℕ)) : Type 0 where
+  pub filled : (slot block : ℕ) → block_in slots slot ≡ Some block → IsFilled refused blocks done Held slot block
   pub empty : (slot : ℕ) → slot < length refused → block_in slots slot ≡ None
       → (is_refused refused slot ≡ true) ⊎ Contains done (Leave slot)
   pub apart : (a b block : ℕ) → block_in slots a ≡ Some block → block_in slots b ≡ Some block → a ≡ b
@@ -83,16 +80,26 @@ pub record IsSpared (refused : List Bool) (done : List Step) (entries : List Ent
   pub enough : (past : List Entry) → IsLeftBy past old → length (held past) + peak_of [] done ≤ old.blocks
       → refused ≡ replicate (length refused) false
 
--- process i has played these steps of the script, from the pool as it was to the pool as it is
+-- the entries are the calls of process i for these steps of the script, over whichever pool, with these refusals and blocks; its slots
+-- have the blocks that it holds
+pub record PlaysSteps (i : ℕ) (script : Script) (refused : List Bool) (blocks : List ℕ) (done : List Step) (entries : List Entry)
+    (Held : ℕ → Type 0) (slots : List (Option ℕ)) (tally : Tally) : Type 0 where
+  pub names : NamesSlots refused blocks done
+  pub made : entries ≡ flat_map (calls_of i refused blocks) done
+  pub holds : HoldsBlocks refused blocks done Held slots
+  pub counts : CountsSteps script refused done slots tally
+
+-- the entries got the block and did not give it back, and the plain pool has it as held
+abbrev pub HeldIn : List Entry → Plain → ℕ → Type 0
+HeldIn entries pool block = Contains (held entries) block × IsHeld pool block
+
+-- process i has played these steps of the script, from the plain pool as it was to the pool as it is
 pub record IsPlayed (i : ℕ) (script : Script) (done : List Step) (old new : Plain) (slots : List (Option ℕ)) (tally : Tally) : Type 0 where
   pub refused : List Bool
   pub blocks : List ℕ
   pub entries : List Entry
-  pub names : NamesSlots refused blocks done
-  pub made : entries ≡ flat_map (calls_of i refused blocks) done
+  pub plays : PlaysSteps i script refused blocks done entries (HeldIn entries new) slots tally
   pub leads : Leads i entries old new
-  pub holds : HoldsBlocks refused blocks done entries new slots
-  pub counts : CountsSteps script refused done slots tally
   pub spared : IsSpared refused done entries old
 
 -- the step may come after these: a Place is of the next slot, a Leave of one that was placed and not left

@@ -52,7 +52,7 @@ impl Tally {
     }
 
     /// The tally of a script of which nothing was played yet.
-    pub(crate) fn begin(script: &Script) -> Tally
+    pub fn begin(script: &Script) -> Tally
         ensures { result ≡ tally_after script.now [] [] }
     {
         Tally {
@@ -70,7 +70,7 @@ impl Tally {
     }
 
     /// Counts a block that was given.
-    pub(crate) fn count_given(&mut self)
+    pub fn count_given(&mut self)
         requires { self.old.left + 1 < 2 ^ 64 }
         ensures { self.new
             ≡ record self.old { left = self.old.left + 1; peak = max self.old.peak (self.old.left + 1) } }
@@ -80,7 +80,7 @@ impl Tally {
     }
 
     /// Counts a refusal.
-    pub(crate) fn count_refused(&mut self)
+    pub fn count_refused(&mut self)
         requires { self.old.refused + 1 < 2 ^ 64 }
         ensures { self.new ≡ record self.old { refused = self.old.refused + 1 } }
     {
@@ -88,7 +88,7 @@ impl Tally {
     }
 
     /// Counts a block that was freed.
-    pub(crate) fn count_freed(&mut self)
+    pub fn count_freed(&mut self)
         requires some { 1 ≤ self.old.left }
         requires few { self.old.frees + 1 < 2 ^ 64 }
         ensures { self.new ≡ record self.old { frees = self.old.frees + 1; left = self.old.left - 1 } }

@@ -1,22 +1,20 @@
 -- the load of a record word: it is the machine's next step, and what the invariant says of the word
-use Rattle.std.proofs.Common.{◌≡◌, ◌≢◌, ℕ, ◌+◌, ◌<◌, ◌≤◌, ◌==◌, Bool, true, false, List, refl, sym, ap, ◌∙◌, subst, inl, inr, arith}
+use Rattle.std.proofs.Common.{◌≡◌, ℕ, ◌+◌, ◌<◌, ◌≤◌, ◌==◌, Bool, true, false, List, refl, sym, ap, ◌∙◌, subst, inl, inr, arith}
 use Rattle.std.specs.Prelude.{if◌then◌else◌, nat_lt, slice_set}
 use Rattle.std.proofs.lemmas.Bool.{cases_eq}
 use Rattle.std.proofs.lemmas.Bool.Decides.{nat_tests}
-use mathlib.Core.Option.{some}
-use lib.ListN.{get_elem?}
 use Rattle.word_layout.specs.Sizes.{Sizes}
 use Rattle.word_layout.specs.Names.{record_words, word_at}
-use Rattle.word_layout.specs.Packing.{tag_of, value_of}
+use Rattle.word_layout.specs.Packing.{tag_of}
 use Rattle.word_layout.specs.declared.name.WordName.TheVariants.{State, RecordWord}
-use Rattle.transfer_machine.specs.Loads.{loaded_tag, loaded_record, record_value, overlay_length}
+use Rattle.transfer_machine.specs.Loads.{loaded_tag, overlay_length}
 use Rattle.transfer_machine.specs.Machine.{action_at, action_of, met_at, met_of, record_word_loaded, CanActAt}
 use Rattle.transfer_machine.specs.Words.{met_word}
 use Rattle.transfer_machine.specs.declared.action.Action.TheVariants.{Load}
 use Rattle.transfer_machine.specs.declared.loaded.Loaded.{Loaded}
 use Rattle.transfer_machine.specs.declared.stage.TryStep.TheVariants.{LoadAnnouncement, LoadCoveredSlot}
 use Rattle.transfer_machine.specs.declared.transfer.TransferView.{TransferView}
-use Rattle.transfer_invariant.specs.Memory.{Words, States, state_tag, current_record, word_tag, word_value, state_value}
+use Rattle.transfer_invariant.specs.Memory.{Words, States, state_tag, current_record, word_tag, state_value}
 use Rattle.transfer_invariant.specs.Progress.{has_loaded, has_loaded_state, loaded_words, loaded_in_try}
 use Rattle.transfer_invariant.specs.Records.{CurrentRecord, LoadedState}
 use Rattle.pool_machine.specs.declared.view.ProcessView.{ProcessView}
@@ -24,14 +22,12 @@ use Rattle.interleaving_core.specs.StepLaws.{word_met}
 use Rattle.interleaving_core.specs.Steps.{next_action}
 use Rattle.pool_table.specs.declared.about.About.{About}
 use Rattle.pool_table.specs.Minds.{Mind}
-use Rattle.pool_table.specs.Rule.{Holds}
 use Rattle.pool_table.specs.Turns.{turning}
 use Rattle.pool_table.specs.Views.{SeatView}
 use Rattle.pool_table.specs.Steps.{CanStep, Stepped, answered}
 use Rattle.pool_table.specs.Transfers.{Agrees, transfer_about}
 use Rattle.pool_table.proofs.Transfers.{DueOn, due_on, transfer_can_act, transfer_acts_next, transfer_steps}
 use Rattle.pool_table.proofs.Turns.{seat_of}
-use Rattle.versioned_records.specs.declared.load.ReadStep.{ReadStep}
 use Rattle.versioned_records.specs.declared.load.ReadStep.TheVariants.{Going, Whole, Moved}
 use Rattle.versioned_records.specs.Loads.{read_step, IsToLoad, LoadsWord, HadMovedOn, HasState}
 

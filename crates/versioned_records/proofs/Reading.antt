@@ -7,16 +7,11 @@ use Rattle.std.proofs.lemmas.Bool.Decides.{nat_tests}
 use Rattle.word_layout.specs.Sizes.{Sizes}
 use Rattle.word_layout.specs.Names.{record_words}
 use Rattle.word_layout.specs.Packing.{tag_of, value_of}
-use Rattle.word_layout.specs.declared.announced.Wish.{Wish}
 use Rattle.transfer_machine.specs.Loads.{loaded_tag, loaded_record}
 use Rattle.transfer_machine.specs.Machine.{met_at, met_of, record_word_loaded}
 use Rattle.transfer_machine.specs.Stages.{is_rest}
 use Rattle.transfer_machine.specs.declared.loaded.Loaded.{Loaded}
-use Rattle.transfer_machine.specs.declared.stage.NextStep.TheVariants.{Try}
-use Rattle.transfer_machine.specs.declared.stage.TryStep.TheVariants.{LoadRecordWord}
 use Rattle.transfer_machine.specs.declared.transfer.TransferView.{TransferView}
-use Rattle.transfer_invariant.specs.Memory.{state_value}
-use Rattle.transfer_invariant.specs.Records.{LoadedState}
 use Rattle.pool_machine.specs.declared.view.ProcessView.{ProcessView}
 use Rattle.pool_table.specs.declared.about.About.{About}
 use Rattle.pool_table.specs.declared.about.About.TheVariants.{Alone, InCall}
@@ -27,8 +22,8 @@ use Rattle.pool_table.specs.Transfers.{Agrees, transfer_about}
 use Rattle.pool_table.proofs.Transfers.{DueOn, due_there, transfer_steps, goes_on_alone}
 use Rattle.versioned_records.specs.declared.load.ReadStep.{ReadStep}
 use Rattle.versioned_records.specs.declared.load.ReadStep.TheVariants.{Going, Whole, Moved}
-use Rattle.versioned_records.specs.Loads.{IsToLoad, LoadsWord, HasState, HadMovedOn, read_step}
-use Rattle.versioned_records.specs.Reading.{Reading, CanRead, CanReadOn, HasRead, HasReadOn, ReadsOn, reading_after}
+use Rattle.versioned_records.specs.Loads.{IsToLoad, HasState, read_step}
+use Rattle.versioned_records.specs.Reading.{Reading, CanRead, CanReadOn, HasRead, HasReadOn, reading_after}
 use Rattle.versioned_records.proofs.Loading.{load_within, tag_never_lower, moved_on, whole_has_state, whole_tests}
 
 -- the room of the record words that a process loads
@@ -145,7 +140,8 @@ module _ (sizes : Sizes) (a : About) (v x : SeatView) (r : Reading) (word : ℕ)
   reads_same room moved k lt =
       let t = transfer_about a v in
       let low = not_moved (nat_lt r.tag (tag_of word)) (r.index + 1 == record_words sizes) moved in
-      let words = ap (λ (u : TransferView). u.loaded.record_words) mirrors ∙ met_words sizes t r.tag r.row r.index word reads.loads.loads low in
+      let words = ap (λ (u : TransferView). u.loaded.record_words) mirrors
+      ∙ met_words sizes t r.tag r.row r.index word reads.loads.loads low in
       let its_room = due_room v.sizes c.among.words (turning a v.mind.view) (due_there sizes a v c) in
       let low_index = reads_below sizes a v r c reads in
       let alike = set_alike r.words t.loaded.record_words r.index word k (omega (arith, room, low_index))
@@ -210,7 +206,8 @@ read_seen a b v x r old s word answer e same can reads stepped room answered aft
     (reads_on r.sizes a v x r word (subst (λ (o : Reading). CanStep o.sizes a v) (sym e) can) (subst (CanRead a v) (sym e) reads) met
     refl room answer answered))
 
-pub read_on_seen : (a b : About) (v x : SeatView) (r old s : Reading) (word : ℕ) (answer : ReadStep) → r ≡ old → b ≡ a → CanStep old.sizes a v
+pub read_on_seen : (a b : About) (v x : SeatView) (r old s : Reading) (word : ℕ) (answer : ReadStep) → r ≡ old → b ≡ a
+    → CanStep old.sizes a v
     → CanRead a v old → Stepped b v word x → length r.words ≡ 66 → answer ≡ read_step r.sizes r.tag r.index word
     → s ≡ reading_after answer word r → answer ≡ Going → CanReadOn old.sizes a x s
 read_on_seen a b v x r old s word answer e same can reads stepped room answered after goes =

@@ -14,7 +14,7 @@ use Rattle.pool_table.specs.declared.about.About.{About}
 use Rattle.pool_table.specs.Turns.{turning}
 use Rattle.pool_table.specs.Views.{SeatView}
 use Rattle.pool_table.specs.Steps.{CanStep, Stepped, answered}
-use Rattle.pool_table.specs.Transfers.{Agrees, transfer_about}
+use Rattle.pool_table.specs.Transfers.{transfer_about}
 use Rattle.pool_table.proofs.Transfers.{transfer_can_act, transfer_acts_next}
 use Rattle.versioned_records.specs.Stores.{IsToStore, StoresWord}
 

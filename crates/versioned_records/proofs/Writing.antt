@@ -3,12 +3,10 @@ use Rattle.std.proofs.Common.{◌≡◌, ℕ, ◌+◌, ◌<◌, ◌≤◌, ◌==
 use Rattle.std.specs.Prelude.{if◌then◌else◌}
 use Rattle.word_layout.specs.Sizes.{Sizes}
 use Rattle.word_layout.specs.Names.{record_words}
-use Rattle.word_layout.specs.declared.announced.Wish.{Wish}
 use Rattle.transfer_machine.specs.Machine.{met_at, met_of, after_stored}
 use Rattle.transfer_machine.specs.Stages.{is_rest}
 use Rattle.transfer_machine.specs.Tries.{drafted_value}
 use Rattle.transfer_machine.specs.declared.stage.NextStep.TheVariants.{Try}
-use Rattle.transfer_machine.specs.declared.stage.TryStep.TheVariants.{StoreRecordWord, ExchangeState}
 use Rattle.transfer_machine.specs.declared.transfer.TransferView.{TransferView}
 use Rattle.pool_table.specs.declared.about.About.{About}
 use Rattle.pool_table.specs.declared.about.About.TheVariants.{Alone, InCall}
@@ -18,7 +16,7 @@ use Rattle.pool_table.specs.Transfers.{Agrees, transfer_about}
 use Rattle.pool_table.proofs.Transfers.{due_there, transfer_steps, goes_on_alone}
 use Rattle.versioned_records.specs.declared.store.WriteStep.{WriteStep}
 use Rattle.versioned_records.specs.declared.store.WriteStep.TheVariants.{Going, Written}
-use Rattle.versioned_records.specs.Stores.{IsToStore, StoresWord, write_step}
+use Rattle.versioned_records.specs.Stores.{IsToStore, write_step}
 use Rattle.versioned_records.proofs.Storing.{store_fits}
 use Rattle.versioned_records.specs.Writing.{Writing, CanWrite, CanWriteOn, HasWrittenOn, next_word, next_value, wrote}
 
@@ -45,7 +43,8 @@ module _ (a : About) (v x : SeatView) (w : Writing) (c : CanStep w.sizes a v) (w
   own_agrees = record { same = refl; moves = writes.moves }
 
   mirrors : x.mind.view.transfer ≡ met_of w.sizes (transfer_about a v) (next_word w)
-  mirrors = transfer_steps w.sizes a v x (transfer_about a v) (met_of w.sizes (transfer_about a v) (next_word w)) (next_word w) c own_agrees s refl
+  mirrors = transfer_steps w.sizes a v x (transfer_about a v) (met_of w.sizes (transfer_about a v) (next_word w)) (next_word w) c own_agrees
+      s refl
 
   keeps_draft : x.mind.view.transfer.draft ≡ (transfer_about a v).draft
   keeps_draft =
@@ -85,7 +84,8 @@ pub can_write_seen : (a b : About) (v : SeatView) (w old : Writing) → w ≡ ol
 can_write_seen a b v w old e same writes = subst (λ z. CanWrite z v w) (sym same) (subst (CanWrite a v) (sym e) writes)
 
 pub can_step_seen : (a b : About) (v : SeatView) (w old : Writing) → w ≡ old → b ≡ a → CanStep old.sizes a v → CanStep w.sizes b v
-can_step_seen a b v w old e same can = subst (λ z. CanStep w.sizes z v) (sym same) (subst (λ (o : Writing). CanStep o.sizes a v) (sym e) can)
+can_step_seen a b v w old e same can =
+    subst (λ z. CanStep w.sizes z v) (sym same) (subst (λ (o : Writing). CanStep o.sizes a v) (sym e) can)
 
 pub below_seen : (a : About) (v : SeatView) (w old : Writing) → w ≡ old → CanStep old.sizes a v → CanWrite a v old → w.index < 66
 below_seen a v w old e can writes =
@@ -99,7 +99,8 @@ pub written_seen : (a b : About) (v x : SeatView) (w old s : Writing) (word : �
     → s ≡ wrote w → HasWrittenOn a v old x s answer
 written_seen a b v x w old s word answer e same can writes stepped stored answered after =
     let met = subst (λ n. Stepped a v n x) stored (subst (λ z. Stepped z v word x) same stepped) in
-    let written = has_written_on a v x w (can_step_seen a a v w old e refl can) (can_write_seen a a v w old e refl writes) met answer answered in
+    let can_so = can_step_seen a a v w old e refl can in
+    let written = has_written_on a v x w can_so (can_write_seen a a v w old e refl writes) met answer answered in
     subst (λ o. HasWrittenOn a v o x s answer) e (subst (λ z. HasWrittenOn a v w x z answer) (sym after) written)
 
 pub write_on_seen : (a b : About) (v x : SeatView) (w old s : Writing) (word : ℕ) (answer : WriteStep) → w ≡ old → b ≡ a
@@ -107,5 +108,6 @@ pub write_on_seen : (a b : About) (v x : SeatView) (w old s : Writing) (word : �
     → s ≡ wrote w → answer ≡ Going → CanWriteOn old.sizes a x s
 write_on_seen a b v x w old s word answer e same can writes stepped stored answered after goes =
     let met = subst (λ n. Stepped a v n x) stored (subst (λ z. Stepped z v word x) same stepped) in
-    let on = can_write_on a v x w (can_step_seen a a v w old e refl can) (can_write_seen a a v w old e refl writes) met answer answered goes in
+    let can_so = can_step_seen a a v w old e refl can in
+    let on = can_write_on a v x w can_so (can_write_seen a a v w old e refl writes) met answer answered goes in
     subst (λ (o : Writing). CanWriteOn o.sizes a x s) e (subst (CanWriteOn w.sizes a x) (sym after) on)

@@ -4,8 +4,8 @@ use mathlib.Core.Option.{some}
 use lib.ListN.{get_elem?}
 use Rattle.word_layout.specs.Sizes.{Sizes}
 use Rattle.word_layout.specs.Names.{record_words, word_at}
-use Rattle.word_layout.specs.Packing.{tag_of, value_of}
-use Rattle.word_layout.specs.declared.name.WordName.TheVariants.{State, RecordWord}
+use Rattle.word_layout.specs.Packing.{tag_of}
+use Rattle.word_layout.specs.declared.name.WordName.TheVariants.{State}
 use Rattle.transfer_machine.specs.Loads.{loaded_tag, loaded_record, record_value}
 use Rattle.transfer_machine.specs.declared.stage.NextStep.TheVariants.{Try}
 use Rattle.transfer_machine.specs.declared.stage.TryStep.TheVariants.{LoadRecordWord}

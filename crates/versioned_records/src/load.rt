@@ -1,9 +1,8 @@
 // One load of a record word.
-ghost use Rattle.std.specs.Prelude.{◌≡◌, ◌+◌, ◌<◌, ◌≤◌, ◌^◌};
-ghost use Rattle.word_layout.specs.Names.{table_words, record_words};
+ghost use Rattle.std.specs.Prelude.{◌≡◌, ◌<◌, ◌≤◌};
+ghost use Rattle.word_layout.specs.Names.{record_words};
 ghost use Rattle.word_layout.specs.Packing.{tag_of};
-ghost use Rattle.word_table.specs.Seats.{SameSeat};
-ghost use Rattle.pool_table.specs.Steps.{CanStep, Stepped};
+ghost use Rattle.pool_table.specs.Steps.{MayStep, OneStep, Stepped};
 ghost use Rattle.versioned_records.specs.declared.load.ReadStep.TheVariants.{Moved, Whole};
 ghost use Rattle.versioned_records.specs.Loads.{LoadsWord, HasState, HadMovedOn, read_step};
 
@@ -44,13 +43,9 @@ pub fn load_record_word<L: Ledger>(
     seat: &mut PoolSeat,
     steps: &mut Steps<L>,
 ) -> LoadedWord
-    requires seat { seat.old.table ≡ table.now }
-    requires words { table.now.words ≡ table_words shape.now }
-    requires steps { steps.old + 1 < 2 ^ 64 }
-    requires can { CanStep shape.now about.now seat.old.view }
+    requires may { MayStep shape.now about.now table.now seat.old steps.old }
     requires loads { LoadsWord about.now seat.old.view tag row index }
-    ensures seat { SameSeat seat.old seat.new }
-    ensures steps { steps.new ≡ steps.old + 1 }
+    ensures one { OneStep seat.old seat.new steps.old steps.new }
     ensures step { Stepped about.now seat.old.view result.word seat.new.view }
     ensures read { result.read ≡ read_step shape.now tag index result.word }
     ensures tag { tag ≤ tag_of result.word }

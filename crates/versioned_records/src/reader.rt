@@ -1,10 +1,9 @@
 // The reading of a whole record.
-ghost use Rattle.std.specs.Prelude.{◌≡◌, ◌+◌, ◌<◌, ◌^◌, MatchResult};
-ghost use Rattle.word_layout.specs.Names.{table_words, record_words, records};
+ghost use Rattle.std.specs.Prelude.{◌≡◌, ◌<◌, MatchResult};
+ghost use Rattle.word_layout.specs.Names.{record_words, records};
 ghost use Rattle.word_layout.specs.Packing.{tag_limit};
 ghost use Rattle.word_layout.specs.declared.announced.Wish.TheVariants.{Take};
-ghost use Rattle.word_table.specs.Seats.{SameSeat};
-ghost use Rattle.pool_table.specs.Steps.{CanStep};
+ghost use Rattle.pool_table.specs.Steps.{MayStep, OneStep};
 ghost use Rattle.pool_table.specs.Transfers.{about_of};
 ghost use Rattle.versioned_records.specs.declared.load.ReadStep.TheVariants.{Going, Whole};
 ghost use Rattle.versioned_records.specs.Reading.{CanRead, CanReadOn, HasReadOn, begun, opened, read_value};
@@ -80,13 +79,9 @@ impl RecordReader {
         call: Option<Call>,
         steps: &mut Steps<L>,
     ) -> ReadStep
-        requires seat { seat.old.table ≡ table.now }
-        requires words { table.now.words ≡ table_words self.old.sizes }
-        requires steps { steps.old + 1 < 2 ^ 64 }
-        requires can { CanStep self.old.sizes (about_of call Take) seat.old.view }
+        requires may { MayStep self.old.sizes (about_of call Take) table.now seat.old steps.old }
         requires reads { CanRead (about_of call Take) seat.old.view self.old }
-        ensures seat { SameSeat seat.old seat.new }
-        ensures steps { steps.new ≡ steps.old + 1 }
+        ensures one { OneStep seat.old seat.new steps.old steps.new }
         ensures read { HasReadOn (about_of call Take) seat.old.view self.old seat.new.view self.new result }
         ensures on { result ≡ Going → CanReadOn self.old.sizes (about_of call Take) seat.new.view self.new }
     {

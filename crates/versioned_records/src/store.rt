@@ -1,9 +1,8 @@
 // One store of a record word.
-ghost use Rattle.std.specs.Prelude.{◌≡◌, ◌+◌, ◌<◌, ◌^◌};
-ghost use Rattle.word_layout.specs.Names.{table_words, record_words};
+ghost use Rattle.std.specs.Prelude.{◌≡◌, ◌<◌};
+ghost use Rattle.word_layout.specs.Names.{record_words};
 ghost use Rattle.word_layout.specs.Packing.{tagged};
-ghost use Rattle.word_table.specs.Seats.{SameSeat};
-ghost use Rattle.pool_table.specs.Steps.{CanStep, Stepped};
+ghost use Rattle.pool_table.specs.Steps.{MayStep, OneStep, Stepped};
 ghost use Rattle.versioned_records.specs.Stores.{StoresWord, write_step};
 
 use pool_table::{About, PoolSeat, PoolTable, act};
@@ -40,13 +39,9 @@ pub fn store_record_word<L: Ledger>(
     seat: &mut PoolSeat,
     steps: &mut Steps<L>,
 ) -> StoredWord
-    requires seat { seat.old.table ≡ table.now }
-    requires words { table.now.words ≡ table_words shape.now }
-    requires steps { steps.old + 1 < 2 ^ 64 }
-    requires can { CanStep shape.now about.now seat.old.view }
+    requires may { MayStep shape.now about.now table.now seat.old steps.old }
     requires stores { StoresWord shape.now about.now seat.old.view tag row index value }
-    ensures seat { SameSeat seat.old seat.new }
-    ensures steps { steps.new ≡ steps.old + 1 }
+    ensures one { OneStep seat.old seat.new steps.old steps.new }
     ensures word { result.word ≡ tagged tag value }
     ensures step { Stepped about.now seat.old.view result.word seat.new.view }
     ensures written { result.write ≡ write_step shape.now index }

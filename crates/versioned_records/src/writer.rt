@@ -1,9 +1,8 @@
 // The writing of a whole record.
-ghost use Rattle.std.specs.Prelude.{◌≡◌, ◌+◌, ◌<◌, ◌^◌, length, MatchResult};
-ghost use Rattle.word_layout.specs.Names.{table_words, record_words};
+ghost use Rattle.std.specs.Prelude.{◌≡◌, length, MatchResult};
+ghost use Rattle.word_layout.specs.Names.{record_words};
 ghost use Rattle.word_layout.specs.declared.announced.Wish.TheVariants.{Take};
-ghost use Rattle.word_table.specs.Seats.{SameSeat};
-ghost use Rattle.pool_table.specs.Steps.{CanStep};
+ghost use Rattle.pool_table.specs.Steps.{MayStep, OneStep};
 ghost use Rattle.pool_table.specs.Transfers.{about_of};
 ghost use Rattle.versioned_records.specs.declared.store.WriteStep.TheVariants.{Going};
 ghost use Rattle.versioned_records.specs.Writing.{CanWrite, CanWriteOn, HasWrittenOn, begun};
@@ -79,13 +78,9 @@ impl RecordWriter {
         call: Option<Call>,
         steps: &mut Steps<L>,
     ) -> WriteStep
-        requires seat { seat.old.table ≡ table.now }
-        requires words { table.now.words ≡ table_words self.old.sizes }
-        requires steps { steps.old + 1 < 2 ^ 64 }
-        requires can { CanStep self.old.sizes (about_of call Take) seat.old.view }
+        requires may { MayStep self.old.sizes (about_of call Take) table.now seat.old steps.old }
         requires writes { CanWrite (about_of call Take) seat.old.view self.old }
-        ensures seat { SameSeat seat.old seat.new }
-        ensures steps { steps.new ≡ steps.old + 1 }
+        ensures one { OneStep seat.old seat.new steps.old steps.new }
         ensures written { HasWrittenOn (about_of call Take) seat.old.view self.old seat.new.view self.new result }
         ensures on { result ≡ Going → CanWriteOn self.old.sizes (about_of call Take) seat.new.view self.new }
     {

@@ -2,20 +2,29 @@
 ghost use Rattle.std.specs.Prelude.{◌≡◌, ◌<◌, IfOk};
 ghost use Rattle.word_layout.specs.Names.{table_words};
 ghost use Rattle.word_table.specs.Seats.{SameSeat};
+ghost use Rattle.transfer_machine.specs.Machine.{CanAct};
 ghost use Rattle.pool_table.specs.Views.{seat_of_process};
 ghost use Rattle.pool_table.specs.Steps.{Among};
 ghost use Rattle.batch_stack.specs.declared.progress.Progress.TheVariants.{Going};
 ghost use Rattle.batch_stack.specs.Running.{GoesAlone};
 
-use super::{Made, Transfer, step_part};
+use super::Transfer;
 use crate::progress::Progress;
 use pool_model::NoMemory;
-use pool_table::{PoolSeat, PoolTable, about_of, next_seat, open_table};
+use pool_table::{PoolSeat, PoolTable, next_seat, open_table};
 use std::alloc::Global;
 use std::process::Abort;
 use std::test::Fail;
 use step_counter::{Kept, Steps};
+use transfer_machine::Action;
 use word_layout::Shape;
+
+/// A step that was made.
+#[derive(Drop)]
+struct Made {
+    word: u64,
+    progress: Progress,
+}
 
 /// A take of a process at the opening.
 #[tactic(auto, using(crate::proofs::Alone::opening_take))]
@@ -38,7 +47,30 @@ fn take(
     Ok(transfer)
 }
 
-/// Makes the next step of a transfer alone.
+/// The word at this place. Its load turns no view.
+#[tactic(auto, using(pool_table::proofs::Joins::look_keeps))]
+fn look(table: &PoolTable, seat: &mut PoolSeat, place: u32) -> u64
+    requires seat { seat.old.table ≡ table.now }
+    requires place { place < table.now.words }
+    ensures seat { SameSeat seat.old seat.new }
+    ensures view { seat.new.view ≡ seat.old.view }
+{
+    table.load(seat, place, &mut Steps::new(Kept::new()))
+}
+
+/// The place of the next step's word, and whether it stores one there.
+fn next_word(transfer: &Transfer) -> (u32, bool)
+    requires { CanAct transfer.now.sizes transfer.now.part }
+    ensures { result.0 < table_words transfer.now.sizes }
+{
+    let shape = &transfer.shape;
+    match transfer.view.action(shape) {
+        Action::Load { name } | Action::Exchange { name, .. } => (shape.place(name), false),
+        Action::Store { name, .. } => (shape.place(name), true),
+    }
+}
+
+/// Makes the next step of a transfer alone. Its word is the one that stood there, and of a store the one that it left.
 #[tactic(auto, using(crate::proofs::Alone::alone_goes_on, crate::proofs::Alone::alone_can, crate::proofs::Alone::alone_agrees))]
 fn step(transfer: &mut Transfer, table: &PoolTable, seat: &mut PoolSeat) -> Made
     requires seat { seat.old.table ≡ table.now }
@@ -48,16 +80,15 @@ fn step(transfer: &mut Transfer, table: &PoolTable, seat: &mut PoolSeat) -> Made
     ensures seat { SameSeat seat.old seat.new }
     ensures goes { result.progress ≡ Going → GoesAlone transfer.old.sizes seat.new.view transfer.new.part }
 {
+    let (place, stores) = next_word(transfer);
+    let met = look(table, seat, place);
     let mut steps = Steps::new(Kept::new());
-    let about = about_of(None, transfer.view.wish);
-    step_part(
-        &mut transfer.view,
-        &transfer.shape,
-        &about,
-        table,
-        seat,
-        &mut steps,
-    )
+    let progress = transfer.step(table, seat, None, &mut steps);
+    let left = look(table, seat, place);
+    Made {
+        word: if stores { left } else { met },
+        progress,
+    }
 }
 
 /// Makes at most so many steps, and answers how many it made and how far the transfer is.

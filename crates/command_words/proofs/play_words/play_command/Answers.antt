@@ -1,8 +1,9 @@
 use Rattle.std.proofs.Common.{rules, ◌≡◌, ◌∙◌, ap, ap₂}
 use Rattle.std.proofs.lemmas.Result.{IfOk-weaker}
 use Rattle.clap.specs.Words.{rule_of, with_rule}
-use Rattle.command_words.specs.Play.{files_rule, play_app, without_help}
-use Rattle.command_words.proofs.Plays.{app_of-without_help}
+use Rattle.command_words.specs.Options.{without_help}
+use Rattle.command_words.specs.Play.{files_rule, play_app}
+use Rattle.command_words.proofs.Parses.{app_of-without_help}
 use Rattle.command_words.proofs.play_words.play_command.Goals as goal
 
 pub returns : goal.returns

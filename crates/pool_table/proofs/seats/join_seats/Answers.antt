@@ -11,7 +11,7 @@ pub join-requires-clause-join : goal.join-requires-clause-join
 join-requires-clause-join g c = joins _ _ _ _ c.requires.can
 
 pub join-requires-clause-rule : goal.join-requires-clause-rule
-join-requires-clause-rule g c = look_keeps _ _
+join-requires-clause-rule g c = look_keeps _ _ _
 
 pub returns-clause-joined : goal.returns-clause-joined
 returns-clause-joined g c = joined _ _ _ _ _ c.requires.can c.join.ensures.step.1

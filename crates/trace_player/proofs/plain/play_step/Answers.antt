@@ -1,6 +1,7 @@
 use Rattle.std.proofs.Common.{◌-◌, ◌^◌, refl, arith, sym}
 use Rattle.trace_player.proofs.Naming.{place_within, leave_within}
-use Rattle.trace_player.proofs.Steps.{played_got, played_dry, played_back, played_passed, refused_few}
+use Rattle.trace_player.proofs.Plays.{refused_few}
+use Rattle.trace_player.proofs.Steps.{played_got, played_dry, played_back, played_passed}
 use Rattle.trace_player.proofs.plain.play_step.Goals as goal
 
 pub bounds-slots-slot : goal.bounds-slots-slot
@@ -9,12 +10,12 @@ bounds-slots-slot c =
 
 pub count_refused-requires : goal.count_refused-requires
 count_refused-requires c =
-    omega (arith, refused_few _ _ _ _ _ _ _ (2 ^ 64 - 1) c.requires.played c.requires.few)
+    omega (arith, refused_few _ _ _ _ _ _ _ _ _ (2 ^ 64 - 1) c.requires.played.plays c.requires.few)
 
 pub bounds-slots-slot-in-Leave : goal.bounds-slots-slot-in-Leave
 bounds-slots-slot-in-Leave c =
     let next = rw c.in-Leave.is at c.requires.may_come in
-    leave_within _ _ c.requires.done _ _ c.requires.played.names next.0 (rw c.in-Leave.is at c.requires.room)
+    leave_within _ _ c.requires.done _ _ c.requires.played.plays.names next.0 (rw c.in-Leave.is at c.requires.room)
 
 pub returns-in-Some : goal.returns-in-Some
 returns-in-Some c = λ script done old may played.
@@ -30,7 +31,7 @@ returns-in-None c = λ script done old may played.
 pub returns-in-Some-take : goal.returns-in-Some-take
 returns-in-Some-take c = λ script done old may played.
     let own = rw c.in-Leave.is at c.requires.may_come in
-    let within = leave_within _ _ c.requires.done _ _ c.requires.played.names own.0 (rw c.in-Leave.is at c.requires.room) in
+    let within = leave_within _ _ c.requires.done _ _ c.requires.played.plays.names own.0 (rw c.in-Leave.is at c.requires.room) in
     let next = rw c.in-Leave.is at may in
     rw (c.in-Leave.is, c.take.ensures.after)
     (played_back _ script done old _ _ _ _ _ c.in-Leave.slot c.in-Some-take.block next.0 within (sym c.in-Some-take.ensures.value) c.back.ensures.freed c.count_freed.ensures played)
@@ -38,7 +39,7 @@ returns-in-Some-take c = λ script done old may played.
 pub returns-in_default : goal.returns-in_default
 returns-in_default c = λ script done old may played.
     let own = rw c.in-Leave.is at c.requires.may_come in
-    let within = leave_within _ _ c.requires.done _ _ c.requires.played.names own.0 (rw c.in-Leave.is at c.requires.room) in
+    let within = leave_within _ _ c.requires.done _ _ c.requires.played.plays.names own.0 (rw c.in-Leave.is at c.requires.room) in
     let next = rw c.in-Leave.is at may in
     rw (c.in-Leave.is, c.take.ensures.after)
     (played_passed _ script done old _ _ _ c.in-Leave.slot next.0 next.1 within (sym c.in_default.ensures.value) played)

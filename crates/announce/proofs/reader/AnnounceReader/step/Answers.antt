@@ -3,7 +3,7 @@ use Rattle.announce.proofs.Reading.{few_seen, heard_seen}
 use Rattle.announce.proofs.reader.AnnounceReader.step.Goals as goal
 
 pub overflow_add-self : goal.overflow_add-self
-overflow_add-self g c = let low = few_seen _ _ _ _ c.self.view_is c.requires.can c.requires.hears in omega (arith, low)
+overflow_add-self g c = let low = few_seen _ _ _ _ c.self.view_is c.requires.may.can c.requires.hears in omega (arith, low)
 
 pub returns-clause-heard : goal.returns-clause-heard
 returns-clause-heard g c =

@@ -1,5 +1,4 @@
 use Rattle.std.specs.Prelude.{◌≡◌}
-use Rattle.word_layout.specs.Names.{table_words}
 use Rattle.word_table.specs.Seats.{SameSeat}
 use Rattle.batch_stack.specs.Running.{GoesAlone}
 use Rattle.batch_stack.proofs.transfer.tests.make.Given as goal

@@ -3,19 +3,21 @@ use Rattle.versioned_records.proofs.Reading.{below_seen, read_seen, read_on_seen
 use Rattle.versioned_records.proofs.reader.RecordReader.step.Goals as goal
 
 pub bounds-self-inside-index : goal.bounds-self-inside-index
-bounds-self-inside-index g c = below_seen _ _ _ _ c.self.view_is c.requires.can c.requires.reads
+bounds-self-inside-index g c = below_seen _ _ _ _ c.self.view_is c.requires.may.can c.requires.reads
 
 pub overflow_add-self : goal.overflow_add-self
-overflow_add-self g c = let low = below_seen _ _ _ _ c.self.view_is c.requires.can c.requires.reads in omega (arith, low)
+overflow_add-self g c = let low = below_seen _ _ _ _ c.self.view_is c.requires.may.can c.requires.reads in omega (arith, low)
 
 pub returns-clause-read : goal.returns-clause-read
 returns-clause-read g c =
     let room : length c.self.inside.words ≡ 66 = search rules in
     let loaded = c.load_record_word-loaded.ensures in
-    read_seen _ _ _ _ _ _ _ _ _ c.self.view_is c.about_of-about.ensures c.requires.can c.requires.reads loaded.step room loaded.read refl
+    read_seen _ _ _ _ _ _ _ _ _ c.self.view_is c.about_of-about.ensures c.requires.may.can c.requires.reads loaded.step room
+    loaded.read refl
 
 pub returns-clause-on : goal.returns-clause-on
 returns-clause-on g c goes =
     let room : length c.self.inside.words ≡ 66 = search rules in
     let loaded = c.load_record_word-loaded.ensures in
-    read_on_seen _ _ _ _ _ _ _ _ _ c.self.view_is c.about_of-about.ensures c.requires.can c.requires.reads loaded.step room loaded.read refl goes
+    read_on_seen _ _ _ _ _ _ _ _ _ c.self.view_is c.about_of-about.ensures c.requires.may.can c.requires.reads loaded.step room
+    loaded.read refl goes

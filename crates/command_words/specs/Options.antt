@@ -1,0 +1,23 @@
+-- The options of a command, as `clap` reads one simple command.
+use Rattle.std.specs.Prelude.{ℕ, List, [], ◌∷◌, Option, Some, None, true, option_and_then}
+use Rattle.clap.specs.Simple.{on_top}
+use Rattle.clap.specs.Words.{App, Kinds, Row, Rule, first_of, new_rule}
+use Rattle.clap.specs.declared.builder.action.ArgAction.TheVariants.{Set}
+use Rattle.command_words.specs.Number.{number_of}
+
+-- an option `--NAME V` or `--NAME=V`, and what it is where it isn't given
+abbrev pub option_rule : List ℕ → List ℕ → Rule
+option_rule name default = record (new_rule name) { long = Some name; action = Some Set; defaults = default ∷ [] }
+
+-- a command without the flags that ask for help
+abbrev pub without_help : App → App
+without_help = on_top (λ command. record command { disable_help_flag = true })
+
+-- the number of at most so many bits that the matches have for an option
+abbrev pub number_at : ℕ → List ℕ → List Row → Option ℕ
+number_at bits name matches = option_and_then (number_of bits) (first_of name matches)
+
+-- the meaning, where no kind of fault was found
+abbrev pub if_faultless : {Asked : Type 0} → Kinds → Option Asked → Option Asked
+if_faultless [] meaning = meaning
+if_faultless (kind ∷ kinds) meaning = None

@@ -1,0 +1,59 @@
+// The words of `drill`.
+ghost use Rattle.std.specs.Prelude.{◌≡◌, Some, None, IfOk, IfErr, map, string_bytes};
+ghost use Rattle.clap.specs.Words.{app_of, found_of, rows_of};
+ghost use Rattle.command_words.specs.Drill.{drill_app, drill_in, drill_meant};
+ghost use Rattle.command_words.specs.declared.fault.WordsFault.TheVariants.{Faulty};
+
+use crate::options::{long_number_of_option, number_of_option, option};
+use crate::{Drill, MOST_CALLS, WordsFault};
+use clap::ArgMatches;
+use clap::error::ErrorKind;
+use std::alloc::{AllocError, Global};
+
+/// Reads `drill` and the words after it.
+///
+/// `Faulty` exactly where they ask for nothing; `NoMemory` for want of memory.
+pub fn read_drill(alloc: Global, words: &[String]) -> Result<Drill, WordsFault>
+    ensures ok { IfOk result (λ drill. drill_meant (map string_bytes words.now) ≡ Some drill) }
+    ensures faulty { IfErr result (λ fault. fault ≡ Faulty → drill_meant (map string_bytes words.now) ≡ None) }
+{
+    let command = drill_command(alloc)?;
+    match command.try_get_matches_from(words) {
+        Ok(matches) => drill_of(&matches).ok_or(WordsFault::Faulty),
+        Err(error) => match error.kind() {
+            ErrorKind::OutOfMemory => Err(WordsFault::NoMemory),
+            _ => Err(WordsFault::Faulty),
+        },
+    }
+}
+
+/// The command `drill` as `clap` reads it.
+fn drill_command<'a>(alloc: Global) -> Result<clap::Command<'a>, AllocError>
+    ensures { IfOk result (λ command. app_of command ≡ drill_app) }
+{
+    clap::Command::new(alloc, "drill")
+        .disable_help_flag(true)
+        .arg(option(alloc, "seed", "1"))?
+        .arg(option(alloc, "processes", "4"))?
+        .arg(option(alloc, "calls", "1000"))?
+        .arg(option(alloc, "quantum", "8"))
+}
+
+/// What the matches of `drill` ask for.
+fn drill_of(matches: &ArgMatches<'_>) -> Option<Drill>
+    ensures { result ≡ drill_in (rows_of (found_of matches.now)) }
+{
+    let seed = long_number_of_option(matches, "seed")?;
+    let processes = number_of_option(matches, "processes")?;
+    let calls = number_of_option(matches, "calls")?;
+    let quantum = number_of_option(matches, "quantum")?;
+    if calls > MOST_CALLS {
+        return None;
+    }
+    Some(Drill {
+        seed,
+        processes,
+        calls,
+        quantum,
+    })
+}
