@@ -7,3 +7,4 @@ pub mod Passing
 pub mod Opened
 pub mod Joined
 pub mod Settling
+pub mod Ordered

@@ -1,5 +1,5 @@
 -- what closing a pool asks of its passes, and what it leaves
-use Rattle.std.specs.Prelude.{◌≡◌, ℕ, zero, suc, ◌<◌, ◌==◌, if◌then◌else◌, Some, List, [], ◌∷◌, ◌++◌, length, take, slice_get, count_by}
+use Rattle.std.specs.Prelude.{◌≡◌, ℕ, zero, suc, ◌<◌, ◌==◌, if◌then◌else◌, Some, List, [], ◌∷◌, ◌++◌, length, take, slice_get, slice_set, count_by}
 use Rattle.std.specs.List.{All}
 use Rattle.word_layout.specs.Sizes.{Sizes, limits_of}
 use Rattle.pool_model.specs.declared.entry.Entry.{Entry}
@@ -8,12 +8,30 @@ use Rattle.pool_model.specs.Legal.{IsLegal}
 use Rattle.pool_table.specs.Minds.{Mind, number_of}
 use Rattle.pool_table.specs.Views.{SeatView, longest_in}
 use Rattle.block_pool.specs.Passing.{Pooled, Passed, IsOf}
+use Rattle.block_pool.specs.Opening.{AreOpenedPasses}
+use Rattle.block_pool.specs.Calls.{SamePass}
 
 -- the passes are all those of the pool, in whatever order: each is of it, and that of each process is there once
 pub record AreAllPasses (pool : Pooled) (passes : List Passed) : Type 0 where
   pub many : length passes ≡ pool.sizes.processes
   pub each : All (IsOf pool) passes
   pub once : (n : ℕ) → n < pool.sizes.processes → count_by (λ pass. pass.number == n) passes ≡ 1
+
+-- so they are where they stand in the order of their processes
+pub record AreInOrder (pool : Pooled) (passes : List Passed) : Type 0 where
+  pub many : length passes ≡ pool.sizes.processes
+  pub each : (n : ℕ) (pass : Passed) → slice_get passes n ≡ Some pass → IsOf pool pass × (pass.number ≡ n)
+
+abbrev pub OrderedAreAll : Type 0
+OrderedAreAll = (pool : Pooled) (passes : List Passed) → AreInOrder pool passes → AreAllPasses pool passes
+
+-- at the opening they do, and a call of one of them leaves it so
+abbrev pub OpenedAreInOrder : Type 0
+OpenedAreInOrder = (pool : Pooled) (passes : List Passed) → AreOpenedPasses pool passes → AreInOrder pool passes
+
+abbrev pub CallsKeepOrder : Type 0
+CallsKeepOrder = (pool : Pooled) (passes : List Passed) (n : ℕ) (old new : Passed) → AreInOrder pool passes → slice_get passes n ≡ Some old
+    → SamePass old new → AreInOrder pool (slice_set passes n new)
 
 -- a settled pool: its shape, how many moves each process had made, by its number, and the one history
 pub record Settlement : Type 0 where

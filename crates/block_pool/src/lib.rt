@@ -7,6 +7,7 @@
 
 mod calling;
 mod closing;
+pub mod laws;
 mod opening;
 mod pass;
 mod pool;

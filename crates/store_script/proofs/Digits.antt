@@ -20,7 +20,9 @@ with_digit-below number count digit below small =
     rw (add-one, pow-suc) (omega arith)
 
 -- one digit more
-pub ReadsDigits-more : (digits : List ℕ) (count number byte : ℕ) → count < length digits → byte ≡ get_or digits count 0 → digit_value byte < 10 → ReadsDigits (take count digits) count number → ReadsDigits (take (count + 1) digits) (count + 1) (number * 10 + digit_value byte)
+pub ReadsDigits-more : (digits : List ℕ) (count number byte : ℕ) → count < length digits → byte ≡ get_or digits count 0
+    → digit_value byte < 10 → ReadsDigits (take count digits) count number
+    → ReadsDigits (take (count + 1) digits) (count + 1) (number * 10 + digit_value byte)
 ReadsDigits-more digits count number byte within at small read =
     let next = digits_value_more 10 digits count within in
     record {

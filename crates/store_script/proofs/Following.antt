@@ -1,5 +1,6 @@
 -- A plain store that goes along with a walk.
-use Rattle.std.proofs.Common.{◌≡◌, ℕ, Bool, true, false, cond, not, eqb, List, [], ◌∷◌, ◌++◌, Option, Some, None, option_map, refl, ap, sym, ◌∙◌, arith}
+use Rattle.std.proofs.Common.{◌≡◌, ℕ, Bool, true, false, cond, not, eqb, [], ◌∷◌, ◌++◌, Option, Some, None, option_map, refl, ap, sym}
+use Rattle.std.proofs.Common.{◌∙◌, arith}
 use Rattle.std.specs.Map.{lookup}
 use Rattle.std.specs.Ordering.{nat_cmp}
 use Rattle.std.specs.BTreeMap.{get}
@@ -19,7 +20,8 @@ kept-present_but walk key q =
     ∙ cond_not (eqb key q) (kept walk q) None
 
 -- the numbers of a choice
-value_of_choice : (b : Bool) (x : Option Quad) (y z : Option Kept) → x ≡ option_map (λ k. k.value) y → (v : Option Quad) → v ≡ option_map (λ k. k.value) z → cond b x v ≡ option_map (λ k. k.value) (cond b y z)
+value_of_choice : (b : Bool) (x : Option Quad) (y z : Option Kept) → x ≡ option_map (λ k. k.value) y → (v : Option Quad)
+    → v ≡ option_map (λ k. k.value) z → cond b x v ≡ option_map (λ k. k.value) (cond b y z)
 value_of_choice true x y z is v same = is
 value_of_choice false x y z is v same = same
 
@@ -31,13 +33,15 @@ kept_some (Some k) value is = (k, refl, cc)
 eqb-sym : (x y : ℕ) → eqb x y ≡ eqb y x
 eqb-sym x y = grind (arith, nat_tests)
 
-module _ (before after : PlainStore) (walk : Walk) (key : ℕ) (value : Quad) (at : IsAfter before walk) (there : get nat_cmp before.present key ≡ Some value)
+module _ (before after : PlainStore) (walk : Walk) (key : ℕ) (value : Quad) (at : IsAfter before walk)
+    (there : get nat_cmp before.present key ≡ Some value)
     (same_puts : after.puts ≡ before.puts) (answered : after.answers.items ≡ before.answers.items ++ Done ∷ []) where
   here : (k : Kept) × (kept walk key ≡ Some k) × (k.value ≡ value)
   here = kept_some (kept walk key) value (sym there ∙ at.values key)
 
   -- a key goes
-  pub follows_del : ((q : ℕ) → get nat_cmp after.present q ≡ cond (eqb key q) None (get nat_cmp before.present q)) → IsAfter after (after_del walk key (kept walk key))
+  pub follows_del : ((q : ℕ) → get nat_cmp after.present q ≡ cond (eqb key q) None (get nat_cmp before.present q))
+      → IsAfter after (after_del walk key (kept walk key))
   follows_del updated =
       rw here.1
       (record {
@@ -49,7 +53,8 @@ module _ (before after : PlainStore) (walk : Walk) (key : ℕ) (value : Quad) (a
       })
 
   -- a key gets other numbers
-  pub follows_set : (index number : ℕ) → ((q : ℕ) → get nat_cmp after.present q ≡ cond (eqb key q) (Some (changed value index number)) (get nat_cmp before.present q))
+  pub follows_set : (index number : ℕ)
+      → ((q : ℕ) → get nat_cmp after.present q ≡ cond (eqb key q) (Some (changed value index number)) (get nat_cmp before.present q))
       → IsAfter after (after_set walk key index number (kept walk key))
   follows_set index number updated =
       let k = here.0 in

@@ -1,5 +1,6 @@
 -- The words at the beginning of a line, and numbers that are read one by one.
-use Rattle.std.proofs.Common.{◌≡◌, ◌≢◌, ℕ, ◌<◌, ◌≤◌, false, List, [], ◌∷◌, ◌++◌, length, get_or, take, drop, drop-cons, suc, Option, None, Some, inl, inr, refl, ap, sym, ◌∙◌, append_assoc, append-nil, arith}
+use Rattle.std.proofs.Common.{◌≡◌, ◌≢◌, ℕ, ◌<◌, ◌≤◌, false, List, [], ◌∷◌, ◌++◌, length, get_or, take, drop, drop-cons, suc, Option, None}
+use Rattle.std.proofs.Common.{Some, inl, inr, refl, ap, sym, ◌∙◌, append_assoc, append-nil, arith}
 use Rattle.std.proofs.lemmas.Bool.{cases_lt, lt-leb, le-leb}
 use Rattle.std.proofs.lemmas.Bool.Decides.{nat_tests}
 use Rattle.std.proofs.lemmas.List.{length-append, length-take-le, get_or-take, take_all, drop_all}
@@ -40,7 +41,8 @@ module _ (line : List ℕ) (end : ℕ) (within : end ≤ length line) (run : (k 
       rw nothing (ap words (sym whole) ∙ word_is longer)
 
   -- the words of a line that is cut where its first word ends
-  pub words_at_first_run : 0 < length line → get_or line 0 0 ≢ 32 → (end < length line → get_or line end 0 ≡ 32) → words line ≡ take end line ∷ words (drop end line)
+  pub words_at_first_run : 0 < length line → get_or line 0 0 ≢ 32 → (end < length line → get_or line end 0 ≡ 32)
+      → words line ≡ take end line ∷ words (drop end line)
   words_at_first_run longer begins space =
       let some_run : 0 < end = elim (cases_lt 0 end) as (λ _. 0 < end) [
         | inl above ↦ above
@@ -58,12 +60,14 @@ behind_none None = refl
 behind_none (Some numbers) = refl
 
 -- one more number was found
-pub behind_more : (found : List ℕ) (number : ℕ) (numbers : Option (List ℕ)) → behind found (with_number (Some number) numbers) ≡ behind (found ++ number ∷ []) numbers
+pub behind_more : (found : List ℕ) (number : ℕ) (numbers : Option (List ℕ))
+    → behind found (with_number (Some number) numbers) ≡ behind (found ++ number ∷ []) numbers
 behind_more found number None = refl
 behind_more found number (Some numbers) = ap Some (sym (append_assoc found (number ∷ []) numbers))
 
 -- five numbers and one more are too many
-pub few_full : (found : List ℕ) (number : ℕ) (numbers : Option (List ℕ)) → length found ≡ 5 → few (behind found (with_number (Some number) numbers)) ≡ None
+pub few_full : (found : List ℕ) (number : ℕ) (numbers : Option (List ℕ)) → length found ≡ 5
+    → few (behind found (with_number (Some number) numbers)) ≡ None
 few_full found number None full = refl
 few_full found number (Some numbers) full =
     let long : 5 < length (found ++ number ∷ numbers) = omega (arith, length-append found (number ∷ numbers)) in

@@ -12,7 +12,8 @@ use Rattle.store_script.specs.declared.line.Meaning.{Meaning}
 use Rattle.store_script.specs.declared.line.Meaning.TheVariants.{Skipped, Says, Bad}
 use Rattle.store_script.specs.declared.line.Request.{Request}
 use Rattle.store_script.specs.declared.line.Request.TheVariants.{Put, Get, Set, Del}
-use Rattle.store_script.specs.Line.{AreNumbers, Spells, Means, with_number, numbers_of, said_of_one, said_of_three, said_of_five, said_of, said, meaning_said, meaning_of_words, meaning_of}
+use Rattle.store_script.specs.Line.{AreNumbers, Spells, Means, with_number, numbers_of, said_of_one, said_of_three, said_of_five, said_of}
+use Rattle.store_script.specs.Line.{said, meaning_said, meaning_of_words, meaning_of}
 
 -- numbers that words spell are computed
 numbers_complete : (ws : List (List ℕ)) (ns : List ℕ) → AreNumbers ws ns → numbers_of ws ≡ Some ns
@@ -59,7 +60,8 @@ Decides-set : (name : List ℕ) (index : ℕ) → Decides (bytes_eq name (codes 
 Decides-set name index =
     Decides-and (bytes_eq name (codes "set")) (nat_lt index 4) (bytes_eq-Decides name (codes "set")) (Decides-ltb index 4)
 
-three_sound : (name : List ℕ) (key index value : ℕ) (request : Request) → said_of_three name key index value ≡ Some request → SaysOf name (key ∷ index ∷ value ∷ []) request
+three_sound : (name : List ℕ) (key index value : ℕ) (request : Request) → said_of_three name key index value ≡ Some request
+    → SaysOf name (key ∷ index ∷ value ∷ []) request
 three_sound name key index value request is =
     elim (chosen (bytes_eq name (codes "set") && nat_lt index 4) (Some (Set key index value)) None (Some request) is) as (λ _. SaysOf name (key ∷ index ∷ value ∷ []) request) [
       | inl set ↦
@@ -68,7 +70,8 @@ three_sound name key index value request is =
       | inr other ↦ absurd (cc (other.1))
     ]
 
-five_sound : (name : List ℕ) (key : ℕ) (value : Quad) (request : Request) → said_of_five name key value ≡ Some request → SaysOf name (key ∷ value.a ∷ value.b ∷ value.c ∷ value.d ∷ []) request
+five_sound : (name : List ℕ) (key : ℕ) (value : Quad) (request : Request) → said_of_five name key value ≡ Some request
+    → SaysOf name (key ∷ value.a ∷ value.b ∷ value.c ∷ value.d ∷ []) request
 five_sound name key value request is =
     elim (chosen (bytes_eq name (codes "put")) (Some (Put key value)) None (Some request) is) as (λ _. SaysOf name (key ∷ value.a ∷ value.b ∷ value.c ∷ value.d ∷ []) request) [
       | inl put ↦
@@ -86,13 +89,15 @@ said_of_sound name (key ∷ a ∷ b ∷ c ∷ d ∷ []) request is = five_sound 
 said_of_sound name (key ∷ a ∷ b ∷ c ∷ d ∷ e ∷ more) request is = cc
 
 -- a name and numbers that words spell
-spelled : (name : List ℕ) (ws : List (List ℕ)) (ns : List ℕ) (request : Request) → AreNumbers ws ns → SaysOf name ns request → Spells (name ∷ ws) request
+spelled : (name : List ℕ) (ws : List (List ℕ)) (ns : List ℕ) (request : Request) → AreNumbers ws ns → SaysOf name ns request
+    → Spells (name ∷ ws) request
 spelled name ws ns (Put key value) are says = (says.0, subst (AreNumbers ws) says.1 are)
 spelled name ws ns (Get key) are says = (says.0, subst (AreNumbers ws) says.1 are)
 spelled name ws ns (Set key index value) are says = (says.0, subst (AreNumbers ws) says.1 are, says.2)
 spelled name ws ns (Del key) are says = (says.0, subst (AreNumbers ws) says.1 are)
 
-said_sound : (name : List ℕ) (ws : List (List ℕ)) (request : Request) → said name (numbers_of ws) ≡ Some request → Spells (name ∷ ws) request
+said_sound : (name : List ℕ) (ws : List (List ℕ)) (request : Request) → said name (numbers_of ws) ≡ Some request
+    → Spells (name ∷ ws) request
 said_sound name ws request is =
     elim (numbers_of ws) as (λ o. numbers_of ws ≡ o → said name o ≡ Some request → Spells (name ∷ ws) request) [
       | None ↦ λ _ e. absurd (cc)
@@ -102,7 +107,8 @@ said_sound name ws request is =
     is
 
 -- what is spelled is computed
-said_complete : (name : List ℕ) (ws : List (List ℕ)) (request : Request) → Spells (name ∷ ws) request → said name (numbers_of ws) ≡ Some request
+said_complete : (name : List ℕ) (ws : List (List ℕ)) (request : Request) → Spells (name ∷ ws) request
+    → said name (numbers_of ws) ≡ Some request
 said_complete name ws (Put key value) spells = rw (numbers_complete ws _ spells.1, spells.0) refl
 said_complete name ws (Get key) spells = rw (numbers_complete ws _ spells.1, spells.0) refl
 said_complete name ws (Set key index value) spells =
@@ -116,7 +122,8 @@ WordsMean ws (Says request) = Spells ws request
 WordsMean ws Bad = ¬ (ws ≡ []) × ((request : Request) → ¬ (Spells ws request))
 
 -- the meaning that is computed is one that the words have
-said_is_meant : (name : List ℕ) (ws : List (List ℕ)) (o : Option Request) → said name (numbers_of ws) ≡ o → WordsMean (name ∷ ws) (meaning_said o)
+said_is_meant : (name : List ℕ) (ws : List (List ℕ)) (o : Option Request) → said name (numbers_of ws) ≡ o
+    → WordsMean (name ∷ ws) (meaning_said o)
 said_is_meant name ws None is = (λ e. cc, λ request spells. let says = said_complete name ws request spells in cc)
 said_is_meant name ws (Some request) is = said_sound name ws request is
 
@@ -125,7 +132,8 @@ computed_is_meant [] = refl
 computed_is_meant (name ∷ ws) = said_is_meant name ws (said name (numbers_of ws)) refl
 
 -- and no other
-unsaid : (name : List ℕ) (ws : List (List ℕ)) (o : Option Request) → said name (numbers_of ws) ≡ o → ((request : Request) → ¬ (Spells (name ∷ ws) request)) → meaning_said o ≡ Bad
+unsaid : (name : List ℕ) (ws : List (List ℕ)) (o : Option Request) → said name (numbers_of ws) ≡ o
+    → ((request : Request) → ¬ (Spells (name ∷ ws) request)) → meaning_said o ≡ Bad
 unsaid name ws None is no_request = refl
 unsaid name ws (Some request) is no_request = absurd (no_request request (said_sound name ws request is))
 
@@ -147,7 +155,8 @@ words_by_means line Skipped means = means
 words_by_means line (Says request) means = means
 words_by_means line Bad means = means
 
-pub each_line_means_one_thing : (line : List ℕ) (meaning : Meaning) → (Means line meaning → meaning_of line ≡ meaning) × (meaning_of line ≡ meaning → Means line meaning)
+pub each_line_means_one_thing : (line : List ℕ) (meaning : Meaning)
+    → (Means line meaning → meaning_of line ≡ meaning) × (meaning_of line ≡ meaning → Means line meaning)
 each_line_means_one_thing line meaning = (
   λ means. meant_is_computed (words line) meaning (words_by_means line meaning means),
   λ is. means_by_words line meaning (subst (WordsMean (words line)) is (computed_is_meant (words line))),

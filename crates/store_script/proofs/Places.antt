@@ -1,5 +1,6 @@
 -- The places of keys among keys.
-use Rattle.std.proofs.Common.{◌≡◌, ℕ, ◌+◌, true, false, cond, eqb, List, [], ◌∷◌, ◌++◌, length, None, Some, option_map, refl, sym, ◌∙◌, arith}
+use Rattle.std.proofs.Common.{◌≡◌, ℕ, ◌+◌, true, false, cond, eqb, List, [], ◌∷◌, ◌++◌, length, None, Some, option_map, refl, sym, ◌∙◌}
+use Rattle.std.proofs.Common.{arith}
 use Rattle.std.proofs.lemmas.Bool.Decides.{nat_tests}
 use Rattle.std.specs.Ordering.{nat_cmp}
 use Rattle.std.specs.BTreeMap.{get, btree_map_len}
@@ -9,7 +10,8 @@ use Rattle.store_script.specs.Slots.{NamesNext}
 use Rattle.store_script.specs.declared.slots.SlotTable.{SlotTable}
 
 -- a key that isn't among some isn't the first of them, nor among the others
-not_first : (key first : ℕ) (others : List ℕ) → place_of key (first ∷ others) ≡ None → (eqb first key ≡ false) × (place_of key others ≡ None)
+not_first : (key first : ℕ) (others : List ℕ) → place_of key (first ∷ others) ≡ None
+    → (eqb first key ≡ false) × (place_of key others ≡ None)
 not_first key first others h =
     elim (eqb first key) as (λ b. cond b (Some 0) (option_map (λ place. place + 1) (place_of key others)) ≡ None → (b ≡ false) × (place_of key others ≡ None)) [
       | true ↦ λ e. absurd (cc)
@@ -21,7 +23,8 @@ not_first key first others h =
     h
 
 -- behind some keys a new key has the next place, and the others keep theirs
-pub place_of-push : (key q : ℕ) (keys : List ℕ) → place_of key keys ≡ None → place_of q (keys ++ key ∷ []) ≡ cond (eqb key q) (Some (length keys)) (place_of q keys)
+pub place_of-push : (key q : ℕ) (keys : List ℕ) → place_of key keys ≡ None
+    → place_of q (keys ++ key ∷ []) ≡ cond (eqb key q) (Some (length keys)) (place_of q keys)
 place_of-push key q [] fresh = refl
 place_of-push key q (first ∷ others) fresh =
     let apart = not_first key first others fresh in
@@ -33,8 +36,10 @@ with_new_key : (key : ℕ) (keys : List ℕ) → place_of key keys ≡ None → 
 with_new_key key keys fresh = rw fresh refl
 
 -- a new key gets the next slot
-pub named_next : (before after : SlotTable) (key slot : ℕ) → ((q : ℕ) → get nat_cmp after.slots q ≡ cond (eqb key q) (Some slot) (get nat_cmp before.slots q))
-    → get nat_cmp before.slots key ≡ None → slot ≡ btree_map_len before.slots → btree_map_len after.slots ≡ btree_map_len before.slots + 1 → NamesNext before after key slot
+pub named_next : (before after : SlotTable) (key slot : ℕ)
+    → ((q : ℕ) → get nat_cmp after.slots q ≡ cond (eqb key q) (Some slot) (get nat_cmp before.slots q))
+    → get nat_cmp before.slots key ≡ None → slot ≡ btree_map_len before.slots
+    → btree_map_len after.slots ≡ btree_map_len before.slots + 1 → NamesNext before after key slot
 named_next before after key slot updated new_key next longer keys names =
     let fresh : place_of key keys ≡ None = sym (names.each key) ∙ new_key in
     let grown = with_new_key key keys fresh in

@@ -1,5 +1,6 @@
 -- What lines say, one after the other.
-use Rattle.std.proofs.Common.{◌≡◌, ℕ, ◌+◌, ◌≤◌, true, false, cond, List, [], ◌∷◌, ◌++◌, length, map, None, Some, refl, ap, sym, ◌∙◌, subst, append_assoc, arith}
+use Rattle.std.proofs.Common.{◌≡◌, ℕ, ◌+◌, ◌≤◌, true, false, cond, List, [], ◌∷◌, ◌++◌, length, map, None, Some, refl, ap, sym, ◌∙◌}
+use Rattle.std.proofs.Common.{subst, append_assoc, arith}
 use Rattle.std.specs.Prelude.{Err}
 use Rattle.std.specs.List.{slice_split, onto_first}
 use Rattle.std.proofs.lemmas.List.{length-append, length-map}
@@ -19,7 +20,8 @@ use Rattle.store_script.specs.Reading.{meanings, requested, first_bad, is_bad, b
 use Rattle.store_script.specs.ScriptWriter.{IsAt, HasRead, ReadsLine, StopsAt}
 
 -- a line and what stands behind its end
-pub meanings_at_end : (bytes line after : List ℕ) → HasNoEnd line → bytes ≡ line ++ 10 ∷ after → meanings bytes ≡ meaning_of line ∷ meanings after
+pub meanings_at_end : (bytes line after : List ℕ) → HasNoEnd line → bytes ≡ line ++ 10 ∷ after
+    → meanings bytes ≡ meaning_of line ∷ meanings after
 meanings_at_end bytes line after open_end is =
     ap meanings is ∙ ap (map meaning_of) (slice_split_at is_end line 10 after open_end refl)
 
@@ -28,19 +30,22 @@ pub meanings_of_last : (bytes : List ℕ) → HasNoEnd bytes → meanings bytes 
 meanings_of_last bytes open_end = ap (map meaning_of) (slice_split_none is_end bytes open_end)
 
 -- what the first line asks for, and then the others
-pub requested-cons : (meaning : Meaning) (others : List Meaning) → requested (meaning ∷ others) ≡ requested (meaning ∷ []) ++ requested others
+pub requested-cons : (meaning : Meaning) (others : List Meaning)
+    → requested (meaning ∷ others) ≡ requested (meaning ∷ []) ++ requested others
 requested-cons Skipped others = refl
 requested-cons (Says request) others = refl
 requested-cons Bad others = refl
 
 -- a good line is passed
-pub first_bad-good : (number : ℕ) (meaning : Meaning) (others : List Meaning) → is_bad meaning ≡ false → first_bad number (meaning ∷ others) ≡ first_bad (number + 1) others
+pub first_bad-good : (number : ℕ) (meaning : Meaning) (others : List Meaning) → is_bad meaning ≡ false
+    → first_bad number (meaning ∷ others) ≡ first_bad (number + 1) others
 first_bad-good number Skipped others good = refl
 first_bad-good number (Says request) others good = refl
 first_bad-good number Bad others good = absurd (cc)
 
 -- and a bad one is the first
-pub first_bad-bad : (number : ℕ) (meaning : Meaning) (others : List Meaning) → is_bad meaning ≡ true → first_bad number (meaning ∷ others) ≡ Some number
+pub first_bad-bad : (number : ℕ) (meaning : Meaning) (others : List Meaning) → is_bad meaning ≡ true
+    → first_bad number (meaning ∷ others) ≡ Some number
 first_bad-bad number Skipped others bad = absurd (cc)
 first_bad-bad number (Says request) others bad = absurd (cc)
 first_bad-bad number Bad others bad = refl
@@ -72,14 +77,16 @@ module _ (bytes rest : List ℕ) (number : ℕ) (before now : ScriptWriter) (rea
       )
 
   -- the line that stops the reading is the first bad one
-  stops_at : (others : List Meaning) (meaning : Meaning) (fault : ScriptFault) → meanings rest ≡ meaning ∷ others → StopsAt number meaning fault → AnswersTo bytes (Err fault)
+  stops_at : (others : List Meaning) (meaning : Meaning) (fault : ScriptFault) → meanings rest ≡ meaning ∷ others
+      → StopsAt number meaning fault → AnswersTo bytes (Err fault)
   stops_at others meaning ReadFault is stops = stops
   stops_at others meaning TooLong is stops = stops
   stops_at others meaning (BadLine line) is stops =
       sym read.good ∙ ap (first_bad number) is ∙ first_bad-bad number meaning others stops.1 ∙ ap Some (sym stops.0)
   stops_at others meaning NoMemory is stops = tt
 
-  pub stops_at_line : (line after : List ℕ) (fault : ScriptFault) → HasNoEnd line → rest ≡ line ++ 10 ∷ after → StopsAt number (meaning_of line) fault → AnswersTo bytes (Err fault)
+  pub stops_at_line : (line after : List ℕ) (fault : ScriptFault) → HasNoEnd line → rest ≡ line ++ 10 ∷ after
+      → StopsAt number (meaning_of line) fault → AnswersTo bytes (Err fault)
   stops_at_line line after fault open_end is stops =
       stops_at (meanings after) (meaning_of line) fault (meanings_at_end rest line after open_end is) stops
 
@@ -91,8 +98,10 @@ pub has_read_none : (bytes : List ℕ) (writer : ScriptWriter) → IsAt writer [
 has_read_none bytes writer at = record { so_far = []; at = at; others = refl; good = refl }
 
 -- the script of a writer that has read all
-pub is_reading : (bytes : List ℕ) (writer : ScriptWriter) (script : StoreScript) → IsAt writer (requested (meanings bytes)) × (bad_line bytes ≡ None)
-    → script.commands ≡ writer.commands.items → script.slots ≡ btree_map_len writer.slots.slots → script.bytes ≡ length bytes → IsReading bytes script
+pub is_reading : (bytes : List ℕ) (writer : ScriptWriter) (script : StoreScript)
+    → IsAt writer (requested (meanings bytes)) × (bad_line bytes ≡ None)
+    → script.commands ≡ writer.commands.items → script.slots ≡ btree_map_len writer.slots.slots → script.bytes ≡ length bytes
+    → IsReading bytes script
 is_reading bytes writer script read commands slots count =
     let at = read.0 in
     record {

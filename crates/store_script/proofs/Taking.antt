@@ -14,7 +14,8 @@ use Rattle.store_script.specs.Taken.{IsTaken, ReadsOf}
 use Rattle.store_script.proofs.Readings.{few_commands}
 
 -- one more piece was taken
-pub is_taken_more : (start before now : Option (List ℕ)) (bytes piece all : List ℕ) (taken : ℕ) → IsTaken start before bytes taken → HandsOut before now piece
+pub is_taken_more : (start before now : Option (List ℕ)) (bytes piece all : List ℕ) (taken : ℕ) → IsTaken start before bytes taken
+    → HandsOut before now piece
     → all ≡ bytes ++ piece → IsTaken start now all (taken + length piece)
 is_taken_more start before now bytes piece all taken so_far handed is =
     rw is
@@ -29,6 +30,7 @@ pub reads_without_memory : (limit : ℕ) (before now : List (Option ℕ)) (bytes
 reads_without_memory limit before now bytes result within took is = rw is (record { bytes = bytes; within = within; took = took })
 
 -- a script has at most as many commands as bytes
-pub few_answered : (bytes : List ℕ) (result : Result StoreScript ScriptFault) → AnswersTo bytes result → IfOk result (λ script. length script.commands ≤ script.bytes)
+pub few_answered : (bytes : List ℕ) (result : Result StoreScript ScriptFault) → AnswersTo bytes result
+    → IfOk result (λ script. length script.commands ≤ script.bytes)
 few_answered bytes (Ok script) answer = few_commands bytes script answer
 few_answered bytes (Err fault) answer = tt

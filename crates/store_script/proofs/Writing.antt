@@ -1,5 +1,6 @@
 -- One more request of a script.
-use Rattle.std.proofs.Common.{◌≡◌, ℕ, true, false, cond, eqb, List, [], ◌∷◌, ◌++◌, length, map, All, None, Some, is_some, refl, ap, sym, ◌∙◌, subst}
+use Rattle.std.proofs.Common.{◌≡◌, ℕ, true, false, cond, eqb, List, [], ◌∷◌, ◌++◌, length, map, All, None, Some, is_some, refl, ap, sym}
+use Rattle.std.proofs.Common.{◌∙◌, subst}
 use Rattle.std.proofs.lemmas.Bool.{eqb-true}
 use Rattle.std.proofs.lemmas.List.{map-append}
 use Rattle.std.proofs.lemmas.List.Elements.{All-push, All-weaker}
@@ -8,7 +9,8 @@ use Rattle.store_script.specs.declared.line.Request.{Request}
 use Rattle.store_script.specs.declared.line.Request.TheVariants as asks
 use Rattle.store_script.specs.declared.command.Command.{Command}
 use Rattle.store_script.specs.declared.reading.ScriptWriter.{ScriptWriter}
-use Rattle.store_script.specs.Script.{request_of, key_of, slot_of, key_asked, command_of, place_of, with_key, keys_of, HasSlotIn, HasIndex, HasIndexOf}
+use Rattle.store_script.specs.Script.{request_of, key_of, slot_of, key_asked, command_of, place_of, with_key, keys_of, HasSlotIn}
+use Rattle.store_script.specs.Script.{HasIndex, HasIndexOf}
 use Rattle.store_script.specs.Slots.{Names, NamesNext}
 use Rattle.store_script.specs.ScriptWriter.{Keeps}
 use Rattle.store_script.proofs.Places.{place_of-push}
@@ -54,7 +56,8 @@ HasIndex-command (asks.Set key index value) slot h = h
 HasIndex-command (asks.Del key) slot h = h
 
 -- one more command may bring one more key
-keys_of-push : (commands : List Command) (command : Command) → keys_of (commands ++ command ∷ []) ≡ with_key (keys_of commands) (key_of command)
+keys_of-push : (commands : List Command) (command : Command)
+    → keys_of (commands ++ command ∷ []) ≡ with_key (keys_of commands) (key_of command)
 keys_of-push commands command = fold-append (λ keys c. with_key keys (key_of c)) [] commands (command ∷ [])
 
 -- commands and one more, whose key has its slot

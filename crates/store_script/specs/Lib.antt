@@ -10,4 +10,5 @@ pub mod Script
 pub mod ScriptWriter
 pub mod Slots
 pub mod Taken
+pub mod Text
 pub mod Words4

@@ -1,5 +1,6 @@
 -- What a store answers to commands, by which of its puts are refused.
-use Rattle.std.specs.Prelude.{◌≡◌, ℕ, ◌+◌, Bool, false, ◌==◌, nat_eq, not, List, [], ◌∷◌, ◌++◌, length, fold, filter, slice_index_or, Option, Some, None, if◌then◌else◌}
+use Rattle.std.specs.Prelude.{ℕ, ◌+◌, Bool, false, ◌==◌, nat_eq, not, List, [], ◌∷◌, ◌++◌, fold, filter, slice_index_or, Option, Some}
+use Rattle.std.specs.Prelude.{None, if◌then◌else◌}
 use Rattle.std.specs.Map.{lookup}
 use Rattle.store_script.specs.declared.quad.Quad.{Quad}
 use Rattle.store_script.specs.declared.command.Command.{Command}

@@ -1,5 +1,6 @@
 -- The keys of a script and their slots.
-use Rattle.std.specs.Prelude.{◌≡◌, ℕ, ◌+◌, ◌<◌, ◌==◌, List, [], ◌∷◌, ◌++◌, length, fold, All, Option, Some, None, option_map, is_some, if◌then◌else◌}
+use Rattle.std.specs.Prelude.{◌≡◌, ℕ, ◌+◌, ◌<◌, ◌==◌, List, [], ◌∷◌, ◌++◌, length, fold, All, Option, Some, None, option_map, is_some}
+use Rattle.std.specs.Prelude.{if◌then◌else◌}
 use Rattle.store_script.specs.declared.line.Request.{Request}
 use Rattle.store_script.specs.declared.line.Request.TheVariants as asks
 use Rattle.store_script.specs.declared.command.Command.{Command}

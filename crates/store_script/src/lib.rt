@@ -16,6 +16,7 @@ mod record;
 mod replies;
 mod slots;
 mod source;
+mod text;
 mod words;
 
 pub use answered::Answered;
@@ -26,3 +27,7 @@ pub use quad::Quad;
 pub use record::Record;
 pub use replies::answers;
 pub use source::read_script;
+pub use text::write_replies;
+
+#[cfg(test)]
+mod tests;

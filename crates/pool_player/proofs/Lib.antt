@@ -1,0 +1,5 @@
+pub mod Fresh
+pub mod Calling
+pub mod Growing
+pub mod Slots
+pub mod Playing
