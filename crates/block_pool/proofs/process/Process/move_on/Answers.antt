@@ -6,7 +6,7 @@ use Rattle.block_pool.proofs.process.Process.move_on.Goals as goal
 pub returns-then-step-clause-owning : goal.returns-then-step-clause-owning
 returns-then-step-clause-owning g c =
     let x = c.loop-made.self in
-    let go = runs_moving _ _ _ _ x c.loop-made-test.true c.loop-made.invariant.running in
+    let go = runs_moving _ _ _ _ x (omega (arith, c.loop-made-test.true)) c.loop-made.invariant.running in
     moves_end _ _ _ x c.step.new.self _ c.if-step.true go c.step.ensures.moved
 
 pub returns-then-step-clause-plan : goal.returns-then-step-clause-plan
@@ -17,7 +17,7 @@ returns-then-step-clause-plan g c =
 pub returns-then-step-clause-age : goal.returns-then-step-clause-age
 returns-then-step-clause-age g c =
     let x = c.loop-made.self in
-    let go = runs_moving _ _ _ _ x c.loop-made-test.true c.loop-made.invariant.running in
+    let go = runs_moving _ _ _ _ x (omega (arith, c.loop-made-test.true)) c.loop-made.invariant.running in
     (aged_more _ _ _ c.args.self.now.transfer x c.step.new.self _ go c.step.ensures.moved c.loop-made.invariant.age).one
 
 pub loop-made-preserved : goal.loop-made-preserved
@@ -26,7 +26,7 @@ loop-made-preserved g c =
     let h = c.loop-made.invariant in
     let same = c.step.ensures.seat in
     let moved = c.step.ensures.moved in
-    let go = runs_moving _ _ _ _ x c.loop-made-test.true h.running in
+    let go = runs_moving _ _ _ _ x (omega (arith, c.loop-made-test.true)) h.running in
     let within = (can_move _ _ _ x go).count.within in
     let same_done = ap (λ p. p.done) h.plan in
     let same_bound = ap (λ p. p.bound) h.plan in
