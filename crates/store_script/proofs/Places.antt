@@ -2,6 +2,9 @@
 use Rattle.std.proofs.Common.{◌≡◌, ℕ, ◌+◌, true, false, cond, eqb, List, [], ◌∷◌, ◌++◌, length, None, Some, option_map, refl, sym, ◌∙◌}
 use Rattle.std.proofs.Common.{arith}
 use Rattle.std.proofs.lemmas.Bool.Decides.{nat_tests}
+use Rattle.std.proofs.Common.{◌<◌, suc, get_or, ap}
+use Rattle.std.proofs.lemmas.Bool.{eqb-true}
+use Rattle.mtrace_reader.proofs.Meanings.{some_is}
 use Rattle.std.specs.Ordering.{nat_cmp}
 use Rattle.std.specs.BTreeMap.{get, btree_map_len}
 use Rattle.std.proofs.lemmas.List.{length-append}
@@ -30,6 +33,44 @@ place_of-push key q (first ∷ others) fresh =
     let apart = not_first key first others fresh in
     let rest = place_of-push key q others apart.1 in
     grind (arith, nat_tests, apart.0, rest)
+
+first_is : (key place first : ℕ) (others : List ℕ) → first ≡ key → Some 0 ≡ Some place
+    → (place < length (first ∷ others)) × (get_or (first ∷ others) place 0 ≡ key)
+first_is key place first others same is =
+    let zero_is : 0 ≡ place = cc in
+    (omega arith, ap (λ n. get_or (first ∷ others) n 0) (sym zero_is) ∙ same)
+
+later_is : (key place before first : ℕ) (others : List ℕ) → (before < length others) × (get_or others before 0 ≡ key) → Some (before + 1) ≡ Some place
+    → (place < length (first ∷ others)) × (get_or (first ∷ others) place 0 ≡ key)
+later_is key place before first others at is =
+    let next : suc before ≡ place = omega (arith, some_is (before + 1) place is) in
+    (omega (arith, at.0), ap (λ n. get_or (first ∷ others) n 0) (sym next) ∙ at.1)
+
+-- a key with a place is the one that stands there
+place_is : (key place : ℕ) (keys : List ℕ) → place_of key keys ≡ Some place → (place < length keys) × (get_or keys place 0 ≡ key)
+place_is key place [] is = cc
+place_is key place (first ∷ others) is =
+    elim (eqb first key) as (λ b. eqb first key ≡ b → cond b (Some 0) (option_map (λ n. n + 1) (place_of key others)) ≡ Some place
+    → (place < length (first ∷ others)) × (get_or (first ∷ others) place 0 ≡ key)) [
+      | true ↦ λ same e. first_is key place first others (eqb-true first key same) e
+      | false ↦ λ _.
+          elim (place_of key others) as (λ o. place_of key others ≡ o → option_map (λ n. n + 1) o ≡ Some place
+          → (place < length (first ∷ others)) × (get_or (first ∷ others) place 0 ≡ key)) [
+            | None ↦ λ _ e. cc
+            | Some before ↦ λ at e. later_is key place before first others (place_is key before others at) e
+          ]
+          refl
+    ]
+    refl
+    is
+
+-- two keys with one place are the same
+pub one_key : (one other place : ℕ) (keys : List ℕ) → place_of one keys ≡ Some place → place_of other keys ≡ Some place → one ≡ other
+one_key one other place keys here there = sym (place_is one place keys here).1 ∙ (place_is other place keys there).1
+
+-- a place is below their number
+pub place_below : (key place : ℕ) (keys : List ℕ) → place_of key keys ≡ Some place → place < length keys
+place_below key place keys is = (place_is key place keys is).0
 
 -- a new key goes behind the others
 with_new_key : (key : ℕ) (keys : List ℕ) → place_of key keys ≡ None → with_key keys key ≡ keys ++ key ∷ []
