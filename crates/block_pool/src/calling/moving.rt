@@ -4,6 +4,8 @@ ghost use Rattle.word_layout.specs.Names.{table_words};
 ghost use Rattle.word_table.specs.Seats.{SameSeat};
 ghost use Rattle.transfer_machine.specs.declared.stage.NextStep.TheVariants.{Rest, Try};
 ghost use Rattle.pool_machine.specs.Pools.{CanCount, CanMeetPool};
+ghost use Rattle.pool_table.specs.Steps.{MayStep, OneStep};
+ghost use Rattle.pool_table.specs.declared.about.About.TheVariants.{InCall};
 ghost use Rattle.block_pool.specs.Running.{counted, beginning, CanGo, IsMoving, IsOwning};
 ghost use Rattle.block_pool.specs.Moves.{PoolMoved, MovedOne, MovedOn, AgesByOne, PlanRuns};
 
@@ -61,13 +63,10 @@ impl Process {
         steps: &mut Steps<L>,
     ) -> bool
         requires next { next ≡ self.old.transfer.next }
-        requires seat { self.old.seat.table ≡ table.now }
-        requires words { table.now.words ≡ table_words shape.now }
-        requires steps { steps.old + 1 < 2 ^ 64 }
+        requires may { MayStep shape.now (InCall call) table.now self.old.seat steps.old }
         requires quantum { self.old.pool.plan.quantum ≡ shape.now.quantum }
         requires moving { IsMoving shape.now call made self.old }
-        ensures seat { SameSeat self.old.seat self.new.seat }
-        ensures steps { steps.new ≡ steps.old + 1 }
+        ensures one { OneStep self.old.seat self.new.seat steps.old steps.new }
         ensures moved { MovedOne shape.now call made self.old result self.new }
     {
         prove!(shape.quantum() <= 16);
@@ -94,13 +93,10 @@ impl Process {
         table: &PoolTable,
         steps: &mut Steps<L>,
     ) -> bool
-        requires seat { self.old.seat.table ≡ table.now }
-        requires words { table.now.words ≡ table_words shape.now }
-        requires steps { steps.old + 1 < 2 ^ 64 }
+        requires may { MayStep shape.now (InCall call) table.now self.old.seat steps.old }
         requires quantum { self.old.pool.plan.quantum ≡ shape.now.quantum }
         requires moving { IsMoving shape.now call made self.old }
-        ensures seat { SameSeat self.old.seat self.new.seat }
-        ensures steps { steps.new ≡ steps.old + 1 }
+        ensures one { OneStep self.old.seat self.new.seat steps.old steps.new }
         ensures moved { MovedOne shape.now call made self.old result self.new }
     {
         match self.transfer.next {
@@ -136,13 +132,10 @@ impl Process {
         steps: &mut Steps<L>,
     ) -> bool
         requires next { self.old.transfer.next ≡ Try second step }
-        requires seat { self.old.seat.table ≡ table.now }
-        requires words { table.now.words ≡ table_words shape.now }
-        requires steps { steps.old + 1 < 2 ^ 64 }
+        requires may { MayStep shape.now (InCall call) table.now self.old.seat steps.old }
         requires quantum { self.old.pool.plan.quantum ≡ shape.now.quantum }
         requires moving { IsMoving shape.now call made self.old }
-        ensures seat { SameSeat self.old.seat self.new.seat }
-        ensures steps { steps.new ≡ steps.old + 1 }
+        ensures one { OneStep self.old.seat self.new.seat steps.old steps.new }
         ensures moved { MovedOne shape.now call made self.old result self.new }
     {
         match step {

@@ -24,7 +24,7 @@ pub loop-made-preserved : goal.loop-made-preserved
 loop-made-preserved g c =
     let x = c.loop-made.self in
     let h = c.loop-made.invariant in
-    let same = c.step.ensures.seat in
+    let same = c.step.ensures.one.same in
     let moved = c.step.ensures.moved in
     let go = runs_moving _ _ _ _ x (omega (arith, c.loop-made-test.true)) h.running in
     let within = (can_move _ _ _ x go).count.within in
@@ -32,7 +32,7 @@ loop-made-preserved g c =
     let same_bound = ap (λ p. p.bound) h.plan in
     record {
       seat = (same.0 ∙ h.seat.0, same.1 ∙ h.seat.1);
-      steps = omega (arith, h.steps, c.step.ensures.steps);
+      steps = omega (arith, h.steps, c.step.ensures.one.tick);
       running = moves_on _ _ _ _ x c.step.new.self _ c.requires.most c.if-step.false go moved;
       moved = moved_more _ _ _ c.args.self.now.seat.view x c.step.new.self _ go moved h.moved;
       plan = plan_stays _ _ _ _ _ c.if-step.false h.plan moved.pool.plan;
