@@ -18,7 +18,7 @@ grows_none pass = record {
 }
 
 -- a list that another begins with is no longer
-begins_le : (first second : List Entry) → take (length first) second ≡ first → length first ≤ length second
+pub begins_le : (first second : List Entry) → take (length first) second ≡ first → length first ≤ length second
 begins_le first second begins = omega (arith, length-take (length first) second, ap length begins)
 
 -- what begins with a list begins with what that one begins with

@@ -5,3 +5,4 @@ pub mod Slots
 pub mod Playing
 pub mod Gathering
 pub mod Parting
+pub mod Closed

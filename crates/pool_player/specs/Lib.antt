@@ -2,3 +2,4 @@ pub mod Calling
 pub mod Playing
 pub mod Players
 pub mod Together
+pub mod All
