@@ -1,5 +1,6 @@
 -- Passes that played their scripts, and the pool that was closed with them.
-use Rattle.std.proofs.Common.{◌≡◌, ℕ, ◌<◌, ◌≤◌, zero, suc, Some, List, [], ◌∷◌, ◌++◌, length, get_or, take, refl, sym, ap, ◌∙◌, subst, arith}
+use Rattle.std.proofs.Common.{◌≡◌, ℕ, ◌<◌, ◌≤◌, zero, suc, Some, List, [], ◌∷◌, ◌++◌, length, get_or, take, refl}
+use Rattle.std.proofs.Common.{sym, ap, ◌∙◌, subst, arith}
 use Rattle.std.specs.Prelude.{slice_get}
 use Rattle.std.proofs.lemmas.List.{take-take}
 use Rattle.std.proofs.lemmas.Option.{get_or_from_slice_get, slice_get_within}
@@ -60,8 +61,8 @@ played_in told settled k old new script tally number fits once =
 
 -- and that of all processes
 pub played_all_in : (told : ℕ → ℕ → Type 0) (pool : Pooled) (before after : List Passed) (scripts : List Script) (tallies : List Tally)
-    (settled : Settlement) → AreInOrder pool before → length before ≡ length scripts → PlayedTogether told before scripts after tallies → IsClosed pool after settled
-    → PlayedAll told pool before scripts tallies settled
+    (settled : Settlement) → AreInOrder pool before → length before ≡ length scripts → PlayedTogether told before scripts after tallies
+    → IsClosed pool after settled → PlayedAll told pool before scripts tallies settled
 played_all_in told pool before after scripts tallies settled ordered same t closed = record {
   shape = closed.shape;
   legal = closed.legal;
