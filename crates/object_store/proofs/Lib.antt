@@ -1,0 +1,3 @@
+pub mod Known
+pub mod Padded
+pub mod Puts
