@@ -4,7 +4,5 @@
 #![tactic(auto)]
 
 mod marks;
-#[cfg(test)]
-mod tests;
 
 pub use marks::Marks;
