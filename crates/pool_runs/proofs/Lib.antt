@@ -1,0 +1,2 @@
+mod Unrefused
+mod Enough

@@ -1,0 +1,160 @@
+-- What entries without a refusal tell of the script that they fit.
+use Rattle.std.proofs.Common.{◌≡◌, ℕ, ◌+◌, ◌<◌, ◌≤◌, zero, suc, Bool, true, false, cond, not, List, [], ◌∷◌, ◌++◌, length, take, get_or, refl, sym, ap, ◌∙◌, subst, inl, inr, arith, append_assoc, Some}
+use Rattle.std.specs.List.{Contains, flat_map, count_by, slice_get, slice_index}
+use Rattle.std.proofs.Math.Seq.{take-append_seam}
+use Rattle.std.proofs.lemmas.List.Sums.{sum_by-cons}
+use Rattle.std.proofs.lemmas.List.Elements.{Contains-append_right, Contains-append_cases}
+use Rattle.pool_model.specs.declared.entry.Entry.{Entry}
+use Rattle.pool_model.specs.declared.entry.Entry.TheVariants.{Got, Back, Dry}
+use Rattle.pool_model.specs.History.{is_got, is_back}
+use Rattle.mtrace_reader.specs.declared.steps.Step.{Step}
+use Rattle.mtrace_reader.specs.declared.steps.Step.TheVariants.{Place, Leave}
+use Rattle.mtrace_reader.specs.Script.{LeavesPlaced}
+use Rattle.trace_player.specs.Tally.{is_refused, fills, empties}
+use Rattle.trace_player.specs.Fit.{calls_of}
+
+-- no entry is a refusal
+abbrev pub NoneIsDry : List Entry → Type 0
+NoneIsDry entries = (by : ℕ) → Contains entries (Dry by) → ⊥
+
+-- the slots that these steps place were not refused
+abbrev pub Unrefused : List Bool → List Step → Type 0
+Unrefused refused steps = (slot : ℕ) → Contains steps (Place slot) → is_refused refused slot ≡ false
+
+-- the entries got and gave back as many blocks as the first so many steps do where nothing is refused
+pub record CountsSteps (free : List Bool) (steps : List Step) (entries : List Entry) : Type 0 where
+  pub count : ℕ
+  pub within : count ≤ length steps
+  pub gots : count_by is_got entries ≡ count_by (fills free) (take count steps)
+  pub backs : count_by is_back entries ≡ count_by (empties free) (take count steps)
+
+abbrev one_if : Bool → ℕ
+one_if t = cond t 1 0
+
+count_cons : {A : Type 0} (p : A → Bool) (x : A) (xs : List A) (t : Bool) → p x ≡ t → count_by p (x ∷ xs) ≡ one_if t + count_by p xs
+count_cons p x xs t e = sum_by-cons (λ y. cond (p y) 1 0) x xs ∙ ap (λ u. one_if u + count_by p xs) e
+
+first_is_in : {A : Type 0} (x y : A) (xs : List A) → x ≡ y → Contains (x ∷ xs) y
+first_is_in x y xs e = (0, omega arith, e)
+
+-- no entry but the first is a refusal either
+none_in_rest : (entry : Entry) (entries : List Entry) → NoneIsDry (entry ∷ entries) → NoneIsDry entries
+none_in_rest entry entries none by has = none by (Contains-append_right (entry ∷ []) entries (Dry by) has)
+
+slice_get_seam : (before rest : List Step) (step : Step) → slice_get (before ++ step ∷ rest) (length before) ≡ Some step
+slice_get_seam [] rest step = refl
+slice_get_seam (first ∷ before) rest step = slice_get_seam before rest step
+
+-- a step more was made, which placed no refused slot
+place_more : (refused : List Bool) (before : List Step) (slot : ℕ) → is_refused refused slot ≡ false → Unrefused refused before → Unrefused refused (before ++ Place slot ∷ [])
+place_more refused before slot given so_far other has = elim (Contains-append_cases before (Place slot ∷ []) (Place other) has) [
+  | inl earlier ↦ so_far other earlier
+  | inr last ↦ same last.0 last.1 last.2
+]
+  where
+    same : (k : ℕ) → k < 1 → get_or (Place slot ∷ []) k (Place other) ≡ Place other → is_refused refused other ≡ false
+    same zero low at = let e : slot ≡ other = cc in subst (λ (s : ℕ). is_refused refused s ≡ false) e given
+    same (suc k) low at = absurd (omega (arith, low))
+
+leave_more : (refused : List Bool) (before : List Step) (slot : ℕ) → Unrefused refused before → Unrefused refused (before ++ Leave slot ∷ [])
+leave_more refused before slot so_far other has = elim (Contains-append_cases before (Leave slot ∷ []) (Place other) has) [
+  | inl earlier ↦ so_far other earlier
+  | inr last ↦ none last.0 last.1 last.2
+]
+  where
+    none : (k : ℕ) → k < 1 → get_or (Leave slot ∷ []) k (Place other) ≡ Place other → is_refused refused other ≡ false
+    none zero low at = absurd cc
+    none (suc k) low at = absurd (omega (arith, low))
+
+-- a slot that is left was placed before, and so wasn't refused
+left_unrefused : (refused : List Bool) (before steps : List Step) (slot : ℕ) → LeavesPlaced (before ++ Leave slot ∷ steps) → Unrefused refused before → is_refused refused slot ≡ false
+left_unrefused refused before steps slot leaves so_far =
+    let placed = (leaves (length before) slot (slice_get_seam before steps (Leave slot))).0 in
+    so_far slot (subst (λ (front : List Step). Contains front (Place slot)) (take-append_seam before (Leave slot ∷ steps)) placed)
+
+one_on : (before steps : List Step) (step : Step) → LeavesPlaced (before ++ step ∷ steps) → LeavesPlaced ((before ++ step ∷ []) ++ steps)
+one_on before steps step leaves = subst LeavesPlaced (sym (append_assoc before (step ∷ []) steps)) leaves
+
+module _ (i : ℕ) (refused free : List Bool) (blocks : List ℕ) (frees : (slot : ℕ) → is_refused free slot ≡ false) where
+  -- the call for a step, where the slot was refused or not
+  abbrev calls_at : Step → Bool → List Entry
+  calls_at (Place slot) dry = cond dry (Dry i) (Got i (slice_index blocks slot)) ∷ []
+  calls_at (Leave slot) dry = cond dry [] (Back i (slice_index blocks slot) ∷ [])
+
+  -- one entry more, of one step more
+  place_counted : (slot : ℕ) (steps : List Step) (entry : Entry) (entries : List Entry) → entry ≡ Got i (slice_index blocks slot)
+      → CountsSteps free steps entries → CountsSteps free (Place slot ∷ steps) (entry ∷ entries)
+  place_counted slot steps entry entries is counted = record {
+    count = suc counted.count;
+    within = omega (arith, counted.within);
+    gots = omega (arith, counted.gots, count_cons is_got entry entries true (ap is_got is), count_cons (fills free) (Place slot) (take counted.count steps) true (ap not (frees slot)));
+    backs = omega (arith, counted.backs, count_cons is_back entry entries false (ap is_back is), count_cons (empties free) (Place slot) (take counted.count steps) false refl);
+  }
+
+  leave_counted : (slot : ℕ) (steps : List Step) (entry : Entry) (entries : List Entry) → entry ≡ Back i (slice_index blocks slot)
+      → CountsSteps free steps entries → CountsSteps free (Leave slot ∷ steps) (entry ∷ entries)
+  leave_counted slot steps entry entries is counted = record {
+    count = suc counted.count;
+    within = omega (arith, counted.within);
+    gots = omega (arith, counted.gots, count_cons is_got entry entries false (ap is_got is), count_cons (fills free) (Leave slot) (take counted.count steps) false refl);
+    backs = omega (arith, counted.backs, count_cons is_back entry entries true (ap is_back is), count_cons (empties free) (Leave slot) (take counted.count steps) true (ap not (frees slot)));
+  }
+
+  -- the first of the calls for steps, where none of these is a refusal
+  pub counts_steps : (before steps : List Step) (entries rest : List Entry) → LeavesPlaced (before ++ steps) → Unrefused refused before → NoneIsDry entries
+      → entries ++ rest ≡ flat_map (calls_of i refused blocks) steps → CountsSteps free steps entries
+  counts_steps before steps [] rest leaves so_far none made = record { count = 0; within = omega arith; gots = refl; backs = refl }
+  counts_steps before [] (entry ∷ entries) rest leaves so_far none made = absurd cc
+  counts_steps before (Place slot ∷ steps) (entry ∷ entries) rest leaves so_far none made =
+      by_answer (λ unrefused more. counts_steps (before ++ Place slot ∷ []) steps entries rest (one_on before steps (Place slot) leaves) unrefused (none_in_rest entry entries none) more)
+      (is_refused refused slot) refl
+    where
+      by_answer : (Unrefused refused (before ++ Place slot ∷ []) → entries ++ rest ≡ flat_map (calls_of i refused blocks) steps → CountsSteps free steps entries)
+          → (dry : Bool) → is_refused refused slot ≡ dry → CountsSteps free (Place slot ∷ steps) (entry ∷ entries)
+      by_answer on true answered =
+          let first : entry ∷ (entries ++ rest) ≡ Dry i ∷ flat_map (calls_of i refused blocks) steps
+          = made ∙ ap (λ dry. calls_at (Place slot) dry ++ flat_map (calls_of i refused blocks) steps) answered in
+          let is : entry ≡ Dry i = cc in
+          absurd (none i (first_is_in entry (Dry i) entries is))
+      by_answer on false answered =
+          let first : entry ∷ (entries ++ rest) ≡ Got i (slice_index blocks slot) ∷ flat_map (calls_of i refused blocks) steps
+          = made ∙ ap (λ dry. calls_at (Place slot) dry ++ flat_map (calls_of i refused blocks) steps) answered in
+          let is : entry ≡ Got i (slice_index blocks slot) = cc in
+          let more : entries ++ rest ≡ flat_map (calls_of i refused blocks) steps = cc in
+          place_counted slot steps entry entries is (on (place_more refused before slot answered so_far) more)
+  counts_steps before (Leave slot ∷ steps) (entry ∷ entries) rest leaves so_far none made =
+      let given = left_unrefused refused before steps slot leaves so_far in
+      let first : entry ∷ (entries ++ rest) ≡ Back i (slice_index blocks slot) ∷ flat_map (calls_of i refused blocks) steps
+      = made ∙ ap (λ dry. calls_at (Leave slot) dry ++ flat_map (calls_of i refused blocks) steps) given in
+      let is : entry ≡ Back i (slice_index blocks slot) = cc in
+      let more : entries ++ rest ≡ flat_map (calls_of i refused blocks) steps = cc in
+      leave_counted slot steps entry entries is
+      (counts_steps (before ++ Leave slot ∷ []) steps entries rest (one_on before steps (Leave slot) leaves) (leave_more refused before slot so_far)
+      (none_in_rest entry entries none) more)
+
+  -- all calls for steps, where none is a refusal, are those where nothing is refused
+  pub calls_without_refusals : (before steps : List Step) → LeavesPlaced (before ++ steps) → Unrefused refused before → NoneIsDry (flat_map (calls_of i refused blocks) steps)
+      → flat_map (calls_of i refused blocks) steps ≡ flat_map (calls_of i free blocks) steps
+  calls_without_refusals before [] leaves so_far none = refl
+  calls_without_refusals before (Place slot ∷ steps) leaves so_far none =
+      by_answer (λ unrefused rest_none. calls_without_refusals (before ++ Place slot ∷ []) steps (one_on before steps (Place slot) leaves) unrefused rest_none)
+      (is_refused refused slot) refl
+    where
+      by_answer : (Unrefused refused (before ++ Place slot ∷ []) → NoneIsDry (flat_map (calls_of i refused blocks) steps)
+          → flat_map (calls_of i refused blocks) steps ≡ flat_map (calls_of i free blocks) steps) → (dry : Bool) → is_refused refused slot ≡ dry
+          → flat_map (calls_of i refused blocks) (Place slot ∷ steps) ≡ flat_map (calls_of i free blocks) (Place slot ∷ steps)
+      by_answer on true answered =
+          absurd (none i (first_is_in (cond (is_refused refused slot) (Dry i) (Got i (slice_index blocks slot))) (Dry i) (flat_map (calls_of i refused blocks) steps)
+          (ap (λ dry. cond dry (Dry i) (Got i (slice_index blocks slot))) answered)))
+      by_answer on false answered =
+          let more = on (place_more refused before slot answered so_far)
+          (none_in_rest (cond (is_refused refused slot) (Dry i) (Got i (slice_index blocks slot))) (flat_map (calls_of i refused blocks) steps) none) in
+          ap (λ dry. calls_at (Place slot) dry ++ flat_map (calls_of i refused blocks) steps) (answered ∙ sym (frees slot))
+          ∙ ap (λ calls. calls_at (Place slot) (is_refused free slot) ++ calls) more
+  calls_without_refusals before (Leave slot ∷ steps) leaves so_far none =
+      let given = left_unrefused refused before steps slot leaves so_far in
+      let rest_none : NoneIsDry (flat_map (calls_of i refused blocks) steps)
+      = λ by has. none by (Contains-append_right (calls_at (Leave slot) (is_refused refused slot)) (flat_map (calls_of i refused blocks) steps) (Dry by) has) in
+      let more = calls_without_refusals (before ++ Leave slot ∷ []) steps (one_on before steps (Leave slot) leaves) (leave_more refused before slot so_far) rest_none in
+      ap (λ dry. calls_at (Leave slot) dry ++ flat_map (calls_of i refused blocks) steps) (given ∙ sym (frees slot))
+      ∙ ap (λ calls. calls_at (Leave slot) (is_refused free slot) ++ calls) more

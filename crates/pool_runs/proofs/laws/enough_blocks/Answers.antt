@@ -1,0 +1,5 @@
+use Rattle.pool_runs.proofs.Enough as enough
+use Rattle.pool_runs.proofs.laws.enough_blocks.Goals as goal
+
+pub returns : goal.returns
+returns c = enough.enough_blocks
