@@ -96,7 +96,8 @@ pub one_joined : (pool : Pooled) (passes before further : List Passed) (pass : P
     → before ≡ pass ∷ further → pass ≡ pass_of process.seat → PassFits sizes process holding
     → SameSeat kept after → ticked ≡ steps + 2 → Joined kept.view process.seat.view after.view
     → IsJoining pool passes further ticked after (held + holding)
-one_joined pool passes before further pass kept after sizes process steps ticked held holding shape joining split is fits same ticks joined =
+one_joined pool passes before further pass kept after sizes process steps ticked held holding shape joining split is fits same ticks
+    joined =
     let mind = process.seat.view.mind in
     let old = kept.view in
     let passed : before ≡ pass_of process.seat ∷ further = split ∙ ap (λ p. p ∷ further) is in

@@ -18,9 +18,11 @@ pub record PassesMade (table : TableId) (sizes : Sizes) (rest : List (Seated Sea
   pub each : (number : ℕ) → number < length passes → slice_get passes number ≡ Some (opened_pass table sizes number)
 
 -- before any is made
-pub none_made : (table : TableId) (sizes : Sizes) (seats : List (Seated SeatView)) (passes : List Passed) → AllOpeningSeats sizes table seats
+pub none_made : (table : TableId) (sizes : Sizes) (seats : List (Seated SeatView)) (passes : List Passed)
+    → AllOpeningSeats sizes table seats
     → passes ≡ [] → PassesMade table sizes seats passes
-none_made table sizes seats passes all none = rw none (record { further = all.each; many = omega (arith, all.many); each = λ number low. absurd (omega arith) })
+none_made table sizes seats passes all none =
+    rw none (record { further = all.each; many = omega (arith, all.many); each = λ number low. absurd (omega arith) })
 
 -- the next one may be made
 pub next_is_low : (table : TableId) (sizes : Sizes) (rest more : List (Seated SeatView)) (seat : Seated SeatView) (passes : List Passed)
@@ -37,8 +39,8 @@ next_is_opening table sizes rest more seat passes shape number made e is same =
     (record { at_table = refl; view = opening.view; among = opening.among }))
 
 -- the next one is made
-pub one_made : (table : TableId) (sizes : Sizes) (rest more : List (Seated SeatView)) (seat : Seated SeatView) (passes : List Passed) (pass : Passed)
-    (shape : Sizes) (number : ℕ) → PassesMade table sizes rest passes → rest ≡ seat ∷ more → number ≡ length passes → shape ≡ sizes
+pub one_made : (table : TableId) (sizes : Sizes) (rest more : List (Seated SeatView)) (seat : Seated SeatView) (passes : List Passed)
+    (pass : Passed) (shape : Sizes) (number : ℕ) → PassesMade table sizes rest passes → rest ≡ seat ∷ more → number ≡ length passes → shape ≡ sizes
     → pass ≡ opened_pass seat.table shape number
     → PassesMade table sizes more (passes ++ pass ∷ [])
 one_made table sizes rest more seat passes pass shape number made e next same is_opened =

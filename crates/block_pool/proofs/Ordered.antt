@@ -63,8 +63,10 @@ opened_are_in_order pool passes opened = record {
   many = opened.many;
   each = λ n pass at.
       let within = slice_get_within passes n pass at in
-      let is = same_Some _ pass (sym (opened.each n (omega (arith, opened.many))) ∙ at) in
-      (record { table = ap (λ (p : Passed). p.table) (sym is); sizes = ap (λ (p : Passed). p.sizes) (sym is) }, ap (λ (p : Passed). p.number) (sym is));
+      let is = same_Some _ pass (sym (opened.each n (omega (arith, opened.many))) ∙ at) in (
+        record { table = ap (λ (p : Passed). p.table) (sym is); sizes = ap (λ (p : Passed). p.sizes) (sym is) },
+        ap (λ (p : Passed). p.number) (sym is),
+      );
 }
 
 -- what stands in a list where one place was written

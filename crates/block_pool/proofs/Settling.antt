@@ -30,7 +30,8 @@ same_rest x y xs ys e = cc
 -- as many minds as passes are those of a process
 one_counted : (number n : ℕ) (pass : Passed) (passes : List Passed) → number ≡ pass.number
     → count_by (λ p. p.number == n) (pass ∷ passes) ≡ one_if (number == n) + count_by (λ p. p.number == n) passes
-one_counted number n pass passes e = sum_by-cons (λ (p : Passed). if p.number == n then 1 else 0) pass passes ∙ ap (λ k. one_if (k == n) + count_by (λ p. p.number == n) passes) (sym e)
+one_counted number n pass passes e = sum_by-cons (λ (p : Passed). if p.number == n then 1 else 0) pass passes
+    ∙ ap (λ k. one_if (k == n) + count_by (λ p. p.number == n) passes) (sym e)
 
 count_told : (n : ℕ) (minds : List Mind) (passes : List Passed) → map told_by_mind minds ≡ map told_by_pass passes
     → count_in n minds ≡ count_by (λ pass. pass.number == n) passes
@@ -38,8 +39,10 @@ count_told n [] [] e = refl
 count_told n [] (pass ∷ passes) e = absurd (cc)
 count_told n (mind ∷ minds) [] e = absurd (cc)
 count_told n (mind ∷ minds) (pass ∷ passes) e =
-    let first = ap (λ (t : Told). t.number) (same_first (told_by_mind mind) (told_by_pass pass) (map told_by_mind minds) (map told_by_pass passes) e) in
-    let more = count_told n minds passes (same_rest (told_by_mind mind) (told_by_pass pass) (map told_by_mind minds) (map told_by_pass passes) e) in
+    let first = ap (λ (t : Told). t.number)
+    (same_first (told_by_mind mind) (told_by_pass pass) (map told_by_mind minds) (map told_by_pass passes) e) in
+    let more = count_told n minds passes
+    (same_rest (told_by_mind mind) (told_by_pass pass) (map told_by_mind minds) (map told_by_pass passes) e) in
     omega (arith, more, one_counted (number_of mind) n pass passes first)
 
 -- the moves of each process, by its number
@@ -93,7 +96,8 @@ all_found processes (first ∷ minds) low once = (
 )
 
 -- two facts of all minds
-both_facts : (Fact More : Mind → Type 0) (minds : List Mind) → EachMind Fact minds → EachMind More minds → EachMind (λ mind. Fact mind × More mind) minds
+both_facts : (Fact More : Mind → Type 0) (minds : List Mind) → EachMind Fact minds → EachMind More minds
+    → EachMind (λ mind. Fact mind × More mind) minds
 both_facts Fact More [] each more = tt
 both_facts Fact More (mind ∷ minds) each more = ((each.0, more.0), both_facts Fact More minds each.1 more.1)
 
@@ -134,8 +138,8 @@ fits_passes settled (mind ∷ minds) (pass ∷ passes) e each = (
 )
 
 -- all minds fit, by the seat that has taken in those of all passes
-joined_fit : (pool : Pooled) (passes : List Passed) (v : SeatView) (holding : ℕ) → AreAllPasses pool passes → HasJoined pool passes v holding
-    → AllFit pool.sizes (v.mind ∷ v.taken)
+joined_fit : (pool : Pooled) (passes : List Passed) (v : SeatView) (holding : ℕ) → AreAllPasses pool passes
+    → HasJoined pool passes v holding → AllFit pool.sizes (v.mind ∷ v.taken)
 joined_fit pool passes v holding all joined =
     let minds = v.mind ∷ v.taken in
     let once : HasEachOnce pool.sizes.processes minds = λ n low. count_told n minds passes joined.minds ∙ all.once n low in

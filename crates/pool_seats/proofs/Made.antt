@@ -15,7 +15,8 @@ pub record HasMade (sizes : Sizes) (table : TableId) (made : ℕ) (first : Seate
   pub among : Among first.view
 
 -- the loop that makes them: so many seats are made, the last ones in this list
-pub record AreMade (sizes : Sizes) (table : TableId) (made steps : ℕ) (first : Seated SeatView) (seats : List (Seated SeatView)) : Type 0 where
+pub record AreMade (sizes : Sizes) (table : TableId) (made steps : ℕ) (first : Seated SeatView)
+    (seats : List (Seated SeatView)) : Type 0 where
   pub maker : HasMade sizes table made first
   pub many : length seats + 1 ≡ made
   pub counted : steps + 1 ≡ made
@@ -48,13 +49,14 @@ pub made_is_opening : (sizes : Sizes) (table : TableId) (made next : ℕ) (first
     → IsOpeningSeat sizes table next seat
 made_is_opening sizes table made next first seat has same at new among above = record {
   at_table = at;
-  view = new ∙ ap (λ (v : SeatView). seat_of_process v.sizes v.made 0) has.view ∙ ap (λ n. seat_of_process sizes n 0) (sym same) ∙ sym (opening_further sizes next above);
+  view = new ∙ ap (λ (v : SeatView). seat_of_process v.sizes v.made 0) has.view
+      ∙ ap (λ n. seat_of_process sizes n 0) (sym same) ∙ sym (opening_further sizes next above);
   among = among;
 }
 
 -- the seat of process 0 may make one more
-pub may_make : (sizes : Sizes) (table : TableId) (made : ℕ) (first : Seated SeatView) → HasMade sizes table made first → made < sizes.processes
-    → CanSplit first.view
+pub may_make : (sizes : Sizes) (table : TableId) (made : ℕ) (first : Seated SeatView) → HasMade sizes table made first
+    → made < sizes.processes → CanSplit first.view
 may_make sizes table made first has room =
     subst CanSplit (sym has.view) (record { of_process = refl; first = refl; room = room; among = subst Among has.view has.among })
 
@@ -69,8 +71,8 @@ none_yet sizes table first at view among = record {
 }
 
 -- after it has made one more
-pub made_one : (sizes : Sizes) (table : TableId) (made steps ticked : ℕ) (first kept seat : Seated SeatView) (seats : List (Seated SeatView))
-    → AreMade sizes table made steps first seats
+pub made_one : (sizes : Sizes) (table : TableId) (made steps ticked : ℕ) (first kept seat : Seated SeatView)
+    (seats : List (Seated SeatView)) → AreMade sizes table made steps first seats
     → SameSeat first kept → kept.view ≡ one_more_made first.view → Among kept.view
     → seat.table ≡ table → seat.view ≡ seat_of_process first.view.sizes first.view.made 0 → Among seat.view
     → ticked ≡ steps + 1

@@ -43,7 +43,8 @@ sum_over number [] = 0
 sum_over number (mind ∷ minds) = number (number_of mind) + sum_over number minds
 
 -- a term counts where its process's mind does
-counted_term : (number : ℕ → ℕ) (first n count : ℕ) → (one_if (first == n) + count) * number n ≡ one_if (first == n) * number n + count * number n
+counted_term : (number : ℕ → ℕ) (first n count : ℕ)
+    → (one_if (first == n) + count) * number n ≡ one_if (first == n) * number n + count * number n
 counted_term number first n count = grind arith
 
 term_of_other : (number : ℕ → ℕ) (first n : ℕ) → n ≢ first → one_if (first == n) * number n ≡ 0
@@ -97,7 +98,8 @@ all_fit : (sizes : Sizes) (words : List ℕ) (minds : Minds) (history : List Ent
     → AllFit sizes list
 all_fit sizes words minds history seats list few holds each once is =
     let fits = each_mind_becomes (IsSeated seats minds) (FitsIn history) (fits_in sizes words minds history seats few holds) list each in
-    let low = each_mind_becomes (IsSeated seats minds) (λ mind. number_of mind < sizes.processes) (λ mind s. let l = s.0 in omega arith) list each in
+    let low = each_mind_becomes (IsSeated seats minds) (λ mind. number_of mind < sizes.processes) (λ mind s. let l = s.0 in omega arith)
+    list each in
     let legal : IsLegal (limits_of sizes) history = holds.meets.1.entries.legal in
     let shared = legal_shared (limits_of sizes) history legal in
     let sum = sum_once sizes.processes (λ n. length (grip (own history n))) list low once in

@@ -6,7 +6,8 @@ use Rattle.block_pool.proofs.opening.open_passes.Goals as goal
 
 pub loop-seat-init : goal.loop-seat-init
 loop-seat-init c =
-    let same : into_iter_items c.into_iter-seat-iterator.result ≡ c.args.seats.items = c.into_iter-seat-iterator.ensures.into_iter_gives.0 in
+    let same : into_iter_items c.into_iter-seat-iterator.result ≡ c.args.seats.items =
+    c.into_iter-seat-iterator.ensures.into_iter_gives.0 in
     subst (λ rest. PassesMade c.args.pool.now.table c.args.pool.now.sizes rest c.in_ok-passes.passes.items)
     (sym same)
     (none_made _ _ _ _ c.requires.seats c.in_ok-passes.ensures.items)
@@ -14,7 +15,8 @@ loop-seat-init c =
 pub overflow_cast-number : goal.overflow_cast-number
 overflow_cast-number c =
     let low = next_is_low _ _ _ _ _ _ _ c.loop-seat.invariant c.in-Some.ensures.steps.0 (c.len-number.ensures ∙ c.loop-seat.passes.ok.0) in
-    let fits : c.len-number.result < 2 ^ 32 = omega (arith, low, c.processes-processes.ensures.value, ap (λ (s : Sizes). s.processes) c.shape.ensures) in
+    let fits : c.len-number.result < 2 ^ 32 =
+    omega (arith, low, c.processes-processes.ensures.value, ap (λ (s : Sizes). s.processes) c.shape.ensures) in
     search rules
 
 pub open_pass-requires-clause-process : goal.open_pass-requires-clause-process

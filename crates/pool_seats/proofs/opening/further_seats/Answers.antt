@@ -22,7 +22,8 @@ pub next_seat-requires-clause-can : goal.next_seat-requires-clause-can
 next_seat-requires-clause-can c = may_make _ _ _ _ c.loop-made.invariant.maker (omega arith)
 
 pub loop-made-preserved : goal.loop-made-preserved
-loop-made-preserved c = subst (AreMade c.args.shape.now c.args.table.now (c.loop-made._made + 1) c.next_seat.new.steps c.next_seat.new.first)
+loop-made-preserved c =
+    subst (AreMade c.args.shape.now c.args.table.now (c.loop-made._made + 1) c.next_seat.new.steps c.next_seat.new.first)
     (sym (c.in_ok-push.ensures.items))
     (made_one _ _ _ _ _ _ _ _ _ c.loop-made.invariant c.next_seat.ensures.seat c.next_seat.ensures.left c.next_seat.ensures.left_among
     c.next_seat.ensures.new c.next_seat.ensures.right c.next_seat.ensures.right_among c.next_seat.ensures.steps)
