@@ -23,9 +23,10 @@ use Rattle.pool_table.specs.Views.{SeatView}
 use Rattle.pool_table.specs.Turns.{turning}
 use Rattle.pool_table.specs.Steps.{CanStep, Stepped}
 use Rattle.pool_table.specs.Transfers.{Agrees}
-use Rattle.pool_table.proofs.Transfers.{DueOn, due_there, transfer_is_going, goes_on_alone}
+use Rattle.pool_table.proofs.Transfers.{DueOn, due_there, transfer_is_going, transfer_steps, goes_on_alone}
 use Rattle.batch_stack.specs.declared.progress.Progress.{Progress}
 use Rattle.batch_stack.specs.declared.progress.Progress.TheVariants.{Going}
+use Rattle.batch_stack.proofs.Calls.{goes_on_in_calls}
 use Rattle.batch_stack.specs.Running.{ComesNearer, GoesOn, ended_as, progress_at}
 
 -- what the invariant says of the place of the next step and of the loaded overlay
@@ -86,4 +87,8 @@ goes_on sizes (about.Alone wish) v x t u word answer c agrees s part answered go
     let on = moving_not_rest (met_of sizes t word).next (going_moves sizes t word u.answer t.next moving (sym answered ∙ goes)) in
     let rest : is_rest u.next ≡ false = ap (λ (z : TransferView). is_rest z.next) part ∙ on in
     λ next. goes_on_alone sizes wish next v x t u word c agrees s part rest
-goes_on sizes (about.InCall call) v x t u word answer c agrees s part answered goes = tt
+goes_on sizes (about.InCall call) v x t u word answer c agrees s part answered goes =
+    let moving = moving_unless_rest t.next (transfer_is_going sizes (about.InCall call) v t c agrees) in
+    let on = moving_not_rest (met_of sizes t word).next (going_moves sizes t word u.answer t.next moving (sym answered ∙ goes)) in
+    let rest : is_rest u.next ≡ false = ap (λ (z : TransferView). is_rest z.next) part ∙ on in
+    goes_on_in_calls sizes call v x t u word c agrees s (transfer_steps sizes (about.InCall call) v x t u word c agrees s part) part rest

@@ -1,4 +1,6 @@
 pub mod Made
 pub mod Bounds
+pub mod Calls
+pub mod Ended
 pub mod Parts
 pub mod Alone

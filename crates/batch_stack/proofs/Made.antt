@@ -12,7 +12,9 @@ use Rattle.pool_table.proofs.Transfers.{transfer_can_act, transfer_can_meet, tra
 use Rattle.batch_stack.specs.declared.progress.Progress.{Progress}
 use Rattle.batch_stack.specs.declared.progress.Progress.TheVariants.{Going}
 use Rattle.batch_stack.specs.Running.{Running, MadeStep, ComesNearer, GoesOn, progress_at, step_about}
+use Rattle.batch_stack.specs.Ended.{EndTells}
 use Rattle.batch_stack.proofs.Bounds.{comes_nearer, goes_on}
+use Rattle.batch_stack.proofs.Ended.{end_tells}
 
 -- all that it tells
 pub record Tells (sizes : Sizes) (a : About) (v : SeatView) (t : TransferView) (x : SeatView) (u : TransferView)
@@ -20,6 +22,7 @@ pub record Tells (sizes : Sizes) (a : About) (v : SeatView) (t : TransferView) (
   pub made : MadeStep sizes a v t x u answer
   pub nearer : ComesNearer sizes t u answer
   pub on : answer ≡ Going → GoesOn sizes a x u
+  pub ends : EndTells a v x answer
 
 step_tells : (sizes : Sizes) (a : About) (v x : SeatView) (t u : TransferView) (word : ℕ) (answer : Progress) → CanStep sizes a v
     → Agrees a v t → Stepped a v word x → u ≡ met_of sizes t word → answer ≡ progress_at t.next u.answer → Tells sizes a v t x u answer
@@ -30,6 +33,7 @@ step_tells sizes a v x t u word answer c agrees s part answered = record {
   );
   nearer = comes_nearer sizes a v t u word answer c agrees part answered;
   on = goes_on sizes a v x t u word answer c agrees s part answered;
+  ends = end_tells sizes a v x t u word answer c agrees s part answered;
 }
 
 -- the same of a transfer by its fields, which are those that clauses see, and of what its step is about

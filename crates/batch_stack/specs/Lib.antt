@@ -1,3 +1,4 @@
 pub use Rattle.pool_table.specs.Steps
 pub use Rattle.pool_table.specs.Transfers
+pub mod Ended
 pub mod Running

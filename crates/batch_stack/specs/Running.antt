@@ -1,5 +1,5 @@
 -- a running transfer: what its steps make of it and of the seat, and how it is answered
-use Rattle.std.specs.Prelude.{◌≡◌, ℕ, ◌+◌, ◌≤◌, Bool, Option}
+use Rattle.std.specs.Prelude.{◌≡◌, ◌≢◌, ℕ, ◌+◌, ◌≤◌, Bool, true, Option, Some}
 use Rattle.word_layout.specs.Sizes.{Sizes, transfer_bound}
 use Rattle.word_layout.specs.declared.announced.Wish.{Wish}
 use Rattle.word_layout.specs.declared.reply.Reply.{Reply}
@@ -11,6 +11,8 @@ use Rattle.transfer_machine.specs.declared.stage.NextStep.TheVariants.{Rest, Ann
 use Rattle.transfer_machine.specs.declared.stage.TryStep.{TryStep}
 use Rattle.transfer_machine.specs.declared.transfer.TransferView.{TransferView}
 use Rattle.pool_machine.specs.declared.call.Call.{Call}
+use Rattle.pool_machine.specs.declared.call.CallStage.TheVariants.{Between, Moving, Own}
+use Rattle.call_invariant.specs.Phases.{changes_pool}
 use Rattle.pool_invariant.specs.StepCount.{steps_before}
 use Rattle.pool_table.specs.declared.about.About.{About}
 use Rattle.pool_table.specs.declared.about.About.TheVariants.{Alone, InCall}
@@ -72,10 +74,18 @@ pub record ComesNearer (sizes : Sizes) (t u : TransferView) (answer : Progress) 
   pub left : steps_before sizes t + 1 ≤ transfer_bound sizes
   pub nearer : answer ≡ Going → steps_before sizes t + 1 ≤ steps_before sizes u
 
--- a transfer that has another step goes on outside any call: its process may make that step, whatever wish it is said to begin with
+-- a transfer in a call that has another step: its process may make that step in this call, until the call has made a quantum of them; after
+-- the call's own step it may make it in the next call that makes steps of transfers
+pub record GoesOnInCalls (sizes : Sizes) (call : Call) (x : SeatView) (u : TransferView) : Type 0 where
+  pub now : x.mind.view.calls.stage ≡ Moving → CanStep sizes (InCall call) x × Agrees (InCall call) x u
+  pub quantum : x.mind.view.calls.stage ≢ Moving → (x.mind.view.calls.stage ≡ Own) × (x.mind.view.calls.steps ≡ sizes.quantum)
+  pub later : (y : SeatView) (next : Call) → y.mind.view.calls.stage ≡ Between → y.mind.view.transfer ≡ u → changes_pool (Some next) ≡ true
+      → CanStep sizes (InCall next) y → Agrees (InCall next) y u
+
+-- a transfer that has another step goes on: outside any call its process may make that step, whatever wish it is said to begin with
 abbrev pub GoesOn : Sizes → About → SeatView → TransferView → Type 0
 GoesOn sizes (Alone wish) x u = (next : Wish) → CanStep sizes (Alone next) x × Agrees (Alone next) x u
-GoesOn sizes (InCall call) x u = Unit {0}
+GoesOn sizes (InCall call) x u = GoesOnInCalls sizes call x u
 
 -- a process is in this transfer outside any call, and its next step is due, the first one or a later one
 pub record GoesAlone (sizes : Sizes) (v : SeatView) (t : TransferView) : Type 0 where

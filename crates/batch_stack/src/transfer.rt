@@ -6,6 +6,7 @@ ghost use Rattle.transfer_machine.specs.declared.stage.NextStep.TheVariants.{Res
 ghost use Rattle.pool_table.specs.Steps.{MayStep, OneStep, Stepped};
 ghost use Rattle.pool_table.specs.Transfers.{Agrees};
 ghost use Rattle.batch_stack.specs.declared.progress.Progress.TheVariants.{Going};
+ghost use Rattle.batch_stack.specs.Ended.{EndTells};
 ghost use Rattle.batch_stack.specs.Running.{Running, MadeStep, ComesNearer, GoesOn, IsInTry, opened, step_about, wishing};
 
 use crate::progress::{Progress, progress_at};
@@ -90,6 +91,7 @@ impl Transfer {
         ensures step { MadeStep self.old.sizes (step_about call self.old) seat.old.view self.old.part seat.new.view self.new.part result }
         ensures nearer { ComesNearer self.old.sizes self.old.part self.new.part result }
         ensures on { result ≡ Going → GoesOn self.old.sizes (step_about call self.old) seat.new.view self.new.part }
+        ensures ends { EndTells (step_about call self.old) seat.old.view seat.new.view result }
     {
         let about = about_of(call, self.view.wish);
         let next = self.view.next;

@@ -7,10 +7,8 @@ use Rattle.std.proofs.lemmas.Option.{same_Some, slice_get_within, slice_get-get_
 use Rattle.std.proofs.lemmas.List.Sums.{sum_by-cons}
 use Rattle.pool_table.specs.Rule.{one_if}
 use Rattle.pool_table.proofs.Numbered.{counts_for, counts_not}
-use Rattle.block_pool.specs.Passing.{Pooled, Passed, IsOf}
-use Rattle.block_pool.specs.Calls.{SamePass}
-use Rattle.block_pool.specs.Opening.{AreOpenedPasses}
-use Rattle.block_pool.specs.Closing.{AreAllPasses, AreInOrder, OrderedAreAll, OpenedAreInOrder, CallsKeepOrder}
+use Rattle.block_pool.specs.Passing.{Passed}
+use Rattle.block_pool.specs.Closing.{OrderedAreAll, OpenedAreInOrder, CallsKeepOrder}
 
 -- the passes have the numbers from `next` on, in order
 abbrev AreNumbered : ℕ → List Passed → Type 0

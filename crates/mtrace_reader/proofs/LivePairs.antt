@@ -4,10 +4,10 @@ use Rattle.std.proofs.lemmas.Bool.Decides.{nat_tests}
 use Rattle.std.proofs.lemmas.Map.Entries.{lookup-filter-keys}
 use Rattle.mtrace_reader.specs.Script.{Walk, live_but, named}
 
-same_key : (address q k : ℕ) → eqb q k ≡ true → not (eqb k address) ≡ not (eqb address q)
+pub same_key : (address q k : ℕ) → eqb q k ≡ true → not (eqb k address) ≡ not (eqb address q)
 same_key address q k e = grind (arith, nat_tests)
 
-cond_not : {A : Type 0} (b : Bool) (x y : A) → cond (not b) x y ≡ cond b y x
+pub cond_not : {A : Type 0} (b : Bool) (x y : A) → cond (not b) x y ≡ cond b y x
 cond_not true x y = refl
 cond_not false x y = refl
 

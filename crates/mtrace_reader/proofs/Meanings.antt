@@ -25,17 +25,17 @@ true-begins byte ([] ∷ others) h = absurd h
 true-begins byte ((first ∷ bytes) ∷ others) h = (Decides-eqb first byte).1 h
 
 -- how a choice went
-chosen : {A : Type 0} (b : Bool) (x y z : A) → cond b x y ≡ z → ((b ≡ true) × (x ≡ z)) ⊎ ((b ≡ false) × (y ≡ z))
+pub chosen : {A : Type 0} (b : Bool) (x y z : A) → cond b x y ≡ z → ((b ≡ true) × (x ≡ z)) ⊎ ((b ≡ false) × (y ≡ z))
 chosen b x y z h =
     elim b as (λ v. cond v x y ≡ z → ((v ≡ true) × (x ≡ z)) ⊎ ((v ≡ false) × (y ≡ z)))
     [ true ↦ λ e. inl (refl, e) | false ↦ λ e. inr (refl, e) ]
     h
 
 -- what isn't true is false
-false_from_not : (b : Bool) → (b ≡ true → ⊥) → b ≡ false
+pub false_from_not : (b : Bool) → (b ≡ true → ⊥) → b ≡ false
 false_from_not b h = elim b as (λ v. (v ≡ true → ⊥) → v ≡ false) [ true ↦ λ e. absurd (e refl) | false ↦ λ _. refl ] h
 
-some_is : {A : Type 0} (x y : A) → Some x ≡ Some y → x ≡ y
+pub some_is : {A : Type 0} (x y : A) → Some x ≡ Some y → x ≡ y
 some_is x y h = cc
 
 -- which of two words a word is

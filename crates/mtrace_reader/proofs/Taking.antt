@@ -15,7 +15,7 @@ use Rattle.mtrace_reader.specs.Taken.{Took, ReadsFor}
 use Rattle.mtrace_reader.proofs.Lines.{few_lines, few_operations}
 
 -- one piece after the other is one piece
-HandsOut-append : (before between now : Option (List ℕ)) (first second : List ℕ) → HandsOut before between first → HandsOut between now second → HandsOut before now (first ++ second)
+pub HandsOut-append : (before between now : Option (List ℕ)) (first second : List ℕ) → HandsOut before between first → HandsOut between now second → HandsOut before now (first ++ second)
 HandsOut-append before between None first second p q = p ∙ ap (option_map (λ rest. first ++ rest)) q
 HandsOut-append before between (Some rest) first second p q =
     p ∙ ap (option_map (λ rest. first ++ rest)) q ∙ ap Some (sym (append_assoc first second rest))

@@ -18,7 +18,8 @@ mod words;
 
 pub use line::Meaning;
 pub use made::{MOST_CALLS, make_trace};
-pub use source::{MOST_BYTES, read_trace};
+pub use reading::split_line;
+pub use source::{BUFFER_BYTES, MOST_BYTES, next_count, read_piece, read_trace};
 pub use steps::{Script, Step, StepList};
 pub use trace::{Operation, OperationList, Trace, TraceFault};
 pub use walk::script;

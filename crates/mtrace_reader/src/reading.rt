@@ -19,7 +19,7 @@ fn line_end(bytes: &[u8]) -> Option<usize>
 }
 
 /// The first line, without its end, and what stands after that end. `None` where no line ends.
-fn split_line(bytes: &[u8]) -> Option<(&[u8], &[u8])>
+pub fn split_line(bytes: &[u8]) -> Option<(&[u8], &[u8])>
     ensures none { IfNone result (HasNoEnd bytes.now) }
     ensures line { IfSome result (λ parts. HasNoEnd parts.0.now) }
     ensures parts { IfSome result (λ parts. bytes.now ≡ parts.0.now ++ 10 ∷ parts.1.now) }

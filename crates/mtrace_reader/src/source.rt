@@ -14,7 +14,7 @@ use std::alloc::Global;
 pub const MOST_BYTES: u64 = 1 << 24;
 
 /// How many bytes a read asks for, where so many may still come.
-const BUFFER_BYTES: usize = 1 << 16;
+pub const BUFFER_BYTES: usize = 1 << 16;
 
 /// The places that reads fill.
 fn new_buffer(alloc: Global) -> Result<Vec<u8>, TraceFault>
@@ -24,8 +24,9 @@ fn new_buffer(alloc: Global) -> Result<Vec<u8>, TraceFault>
     Ok(vec![in alloc; 0u8; BUFFER_BYTES]?)
 }
 
-/// How many bytes the next read asks for, where so many were taken.
-fn next_count(taken: u64, limit: u64) -> usize
+/// How many bytes the next read asks for, where so many were taken: at least one, and none past the byte after the
+/// limit.
+pub fn next_count(taken: u64, limit: u64) -> usize
     requires { taken ≤ limit }
     ensures some { 0 < result }
     ensures fits { result ≤ BUFFER_BYTES }
@@ -34,8 +35,8 @@ fn next_count(taken: u64, limit: u64) -> usize
     (limit - taken).min(BUFFER_BYTES as u64 - 1) as usize + 1
 }
 
-/// Reads the next bytes of a source into a buffer, and answers them: none at the end alone.
-fn read_piece<'a, F: Files>(
+/// Reads the next bytes of a source into a buffer, and answers them: none at the end alone. Fails where the source does.
+pub fn read_piece<'a, F: Files>(
     files: &mut F,
     source: &mut F::Source,
     buffer: &'a mut [u8],

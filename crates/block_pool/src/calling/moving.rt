@@ -2,8 +2,10 @@
 ghost use Rattle.std.specs.Prelude.{◌≡◌, ◌≢◌, ◌+◌, ◌<◌, ◌≤◌, ◌^◌};
 ghost use Rattle.word_layout.specs.Names.{table_words};
 ghost use Rattle.word_table.specs.Seats.{SameSeat};
-ghost use Rattle.transfer_machine.specs.declared.stage.NextStep.TheVariants.{Rest};
+ghost use Rattle.transfer_machine.specs.declared.stage.NextStep.TheVariants.{Rest, Try};
 ghost use Rattle.pool_machine.specs.Pools.{CanCount, CanMeetPool};
+ghost use Rattle.pool_table.specs.Steps.{MayStep, OneStep};
+ghost use Rattle.pool_table.specs.declared.about.About.TheVariants.{InCall};
 ghost use Rattle.block_pool.specs.Running.{counted, beginning, CanGo, IsMoving, IsOwning};
 ghost use Rattle.block_pool.specs.Moves.{PoolMoved, MovedOne, MovedOn, AgesByOne, PlanRuns};
 
@@ -11,7 +13,7 @@ use crate::process::Process;
 use pool_machine::{Call, PoolView};
 use pool_table::{About, PoolTable, act};
 use step_counter::{Ledger, Steps};
-use transfer_machine::NextStep;
+use transfer_machine::{NextStep, TryStep};
 use transfer_schedule::Pending;
 use word_layout::{Reply, Shape, Tagged};
 
@@ -40,6 +42,14 @@ fn move_pool(pool: &mut PoolView, next: NextStep, made: u32, word: u64) -> bool
     }
 }
 
+/// A step of the first try, or of the second.
+#[inline(always)]
+fn in_try(second: bool, step: TryStep) -> NextStep
+    ensures { result ≡ Try second step }
+{
+    NextStep::Try { second, step }
+}
+
 impl Process {
     /// Makes one step of the pending transfer, after so many in this call. Answers whether it was the last.
     #[inline(always)]
@@ -53,13 +63,10 @@ impl Process {
         steps: &mut Steps<L>,
     ) -> bool
         requires next { next ≡ self.old.transfer.next }
-        requires seat { self.old.seat.table ≡ table.now }
-        requires words { table.now.words ≡ table_words shape.now }
-        requires steps { steps.old + 1 < 2 ^ 64 }
+        requires may { MayStep shape.now (InCall call) table.now self.old.seat steps.old }
         requires quantum { self.old.pool.plan.quantum ≡ shape.now.quantum }
         requires moving { IsMoving shape.now call made self.old }
-        ensures seat { SameSeat self.old.seat self.new.seat }
-        ensures steps { steps.new ≡ steps.old + 1 }
+        ensures one { OneStep self.old.seat self.new.seat steps.old steps.new }
         ensures moved { MovedOne shape.now call made self.old result self.new }
     {
         prove!(shape.quantum() <= 16);
@@ -74,6 +81,97 @@ impl Process {
         );
         self.transfer.meet_at(next, shape, word);
         move_pool(&mut self.pool, next, made, word)
+    }
+
+    /// The same, each next step with code of its own.
+    #[inline(always)]
+    fn step<L: Ledger>(
+        &mut self,
+        made: u32,
+        call: Call,
+        shape: &Shape,
+        table: &PoolTable,
+        steps: &mut Steps<L>,
+    ) -> bool
+        requires may { MayStep shape.now (InCall call) table.now self.old.seat steps.old }
+        requires quantum { self.old.pool.plan.quantum ≡ shape.now.quantum }
+        requires moving { IsMoving shape.now call made self.old }
+        ensures one { OneStep self.old.seat self.new.seat steps.old steps.new }
+        ensures moved { MovedOne shape.now call made self.old result self.new }
+    {
+        match self.transfer.next {
+            NextStep::Rest => self.step_at(NextStep::Rest, made, call, shape, table, steps),
+            NextStep::Announce => self.step_at(NextStep::Announce, made, call, shape, table, steps),
+            NextStep::Try { second, step } => {
+                self.step_in_try(second, step, made, call, shape, table, steps)
+            }
+            NextStep::LoadFinalState => {
+                self.step_at(NextStep::LoadFinalState, made, call, shape, table, steps)
+            }
+            NextStep::LoadReply => self.step_at(
+                NextStep::LoadReply,
+                made,
+                call,
+                shape,
+                table,
+                steps,
+            ),
+        }
+    }
+
+    /// The same of a step of a try.
+    #[inline(always)]
+    fn step_in_try<L: Ledger>(
+        &mut self,
+        second: bool,
+        step: TryStep,
+        made: u32,
+        call: Call,
+        shape: &Shape,
+        table: &PoolTable,
+        steps: &mut Steps<L>,
+    ) -> bool
+        requires next { self.old.transfer.next ≡ Try second step }
+        requires may { MayStep shape.now (InCall call) table.now self.old.seat steps.old }
+        requires quantum { self.old.pool.plan.quantum ≡ shape.now.quantum }
+        requires moving { IsMoving shape.now call made self.old }
+        ensures one { OneStep self.old.seat self.new.seat steps.old steps.new }
+        ensures moved { MovedOne shape.now call made self.old result self.new }
+    {
+        match step {
+            TryStep::LoadState => {
+                let next = in_try(second, TryStep::LoadState);
+                self.step_at(next, made, call, shape, table, steps)
+            }
+            TryStep::LoadRecordWord { index } => {
+                let next = in_try(second, TryStep::LoadRecordWord { index });
+                self.step_at(next, made, call, shape, table, steps)
+            }
+            TryStep::LoadCoveredSlot { offset } => {
+                let next = in_try(second, TryStep::LoadCoveredSlot { offset });
+                self.step_at(next, made, call, shape, table, steps)
+            }
+            TryStep::ExchangeSlot { offset } => {
+                let next = in_try(second, TryStep::ExchangeSlot { offset });
+                self.step_at(next, made, call, shape, table, steps)
+            }
+            TryStep::LoadAnnouncement { process } => {
+                let next = in_try(second, TryStep::LoadAnnouncement { process });
+                self.step_at(next, made, call, shape, table, steps)
+            }
+            TryStep::LoadPoppedSlot { process } => {
+                let next = in_try(second, TryStep::LoadPoppedSlot { process });
+                self.step_at(next, made, call, shape, table, steps)
+            }
+            TryStep::StoreRecordWord { index } => {
+                let next = in_try(second, TryStep::StoreRecordWord { index });
+                self.step_at(next, made, call, shape, table, steps)
+            }
+            TryStep::ExchangeState => {
+                let next = in_try(second, TryStep::ExchangeState);
+                self.step_at(next, made, call, shape, table, steps)
+            }
+        }
     }
 
     /// Makes the steps of the pending transfer until the most are made or the transfer has ended. Answers how many.
@@ -102,7 +200,7 @@ impl Process {
     {
         prove!(shape.quantum() <= 16);
         for made in 0..most {
-            if self.step_at(self.transfer.next, made, call, shape, table, steps) {
+            if self.step(made, call, shape, table, steps) {
                 return made + 1;
             }
         }

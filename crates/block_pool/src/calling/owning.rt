@@ -1,11 +1,9 @@
 // The own step of each call.
-ghost use Rattle.std.specs.Prelude.{◌≡◌, ◌+◌, ◌<◌, ◌^◌, ◌↔◌, None};
-ghost use Rattle.word_layout.specs.Names.{table_words};
-ghost use Rattle.word_table.specs.Seats.{SameSeat};
+ghost use Rattle.std.specs.Prelude.{◌≡◌, ◌↔◌, None};
 ghost use Rattle.transfer_schedule.specs.Numbers.{after_took_one, after_gave_one};
 ghost use Rattle.pool_machine.specs.OwnSteps.{allocate_action, next_block};
 ghost use Rattle.pool_machine.specs.declared.call.Call.TheVariants.{Allocate, Free, Read, Write};
-ghost use Rattle.pool_table.specs.Steps.{Stepped};
+ghost use Rattle.pool_table.specs.Steps.{MayStep, OneStep, Stepped};
 ghost use Rattle.pool_table.specs.declared.about.About.TheVariants.{InCall};
 ghost use Rattle.block_pool.specs.Running.{IsOwning};
 ghost use Rattle.block_pool.specs.Owning.{OwnMade};
@@ -44,12 +42,9 @@ impl Process {
         table: &PoolTable,
         steps: &mut Steps<L>,
     ) -> Option<u32>
-        requires seat { self.old.seat.table ≡ table.now }
-        requires words { table.now.words ≡ table_words shape.now }
-        requires steps { steps.old + 1 < 2 ^ 64 }
+        requires may { MayStep shape.now (InCall Allocate) table.now self.old.seat steps.old }
         requires owning { IsOwning shape.now Allocate made self.old }
-        ensures seat { SameSeat self.old.seat self.new.seat }
-        ensures steps { steps.new ≡ steps.old + 1 }
+        ensures one { OneStep self.old.seat self.new.seat steps.old steps.new }
         ensures made { OwnMade Allocate self.old self.new }
         ensures block { result ≡ next_block self.old.pool }
         ensures plan { self.new.pool.plan ≡ after_took_one self.old.pool.plan }
@@ -77,12 +72,9 @@ impl Process {
         table: &PoolTable,
         steps: &mut Steps<L>,
     )
-        requires seat { self.old.seat.table ≡ table.now }
-        requires words { table.now.words ≡ table_words shape.now }
-        requires steps { steps.old + 1 < 2 ^ 64 }
+        requires may { MayStep shape.now (InCall (Free block)) table.now self.old.seat steps.old }
         requires owning { IsOwning shape.now (Free block) made self.old }
-        ensures seat { SameSeat self.old.seat self.new.seat }
-        ensures steps { steps.new ≡ steps.old + 1 }
+        ensures one { OneStep self.old.seat self.new.seat steps.old steps.new }
         ensures made { OwnMade (Free block) self.old self.new }
         ensures plan { self.new.pool.plan ≡ after_gave_one self.old.pool.plan }
     {
@@ -110,12 +102,9 @@ impl Process {
         table: &PoolTable,
         steps: &mut Steps<L>,
     ) -> u64
-        requires seat { self.old.seat.table ≡ table.now }
-        requires words { table.now.words ≡ table_words shape.now }
-        requires steps { steps.old + 1 < 2 ^ 64 }
+        requires may { MayStep shape.now (InCall (Read block index)) table.now self.old.seat steps.old }
         requires owning { IsOwning shape.now (Read block index) 0 self.old }
-        ensures seat { SameSeat self.old.seat self.new.seat }
-        ensures steps { steps.new ≡ steps.old + 1 }
+        ensures one { OneStep self.old.seat self.new.seat steps.old steps.new }
         ensures transfer { self.new.transfer ≡ self.old.transfer }
         ensures pool { self.new.pool ≡ self.old.pool }
         ensures step { Stepped (InCall (Read block index)) self.old.seat.view result self.new.seat.view }
@@ -140,12 +129,9 @@ impl Process {
         table: &PoolTable,
         steps: &mut Steps<L>,
     )
-        requires seat { self.old.seat.table ≡ table.now }
-        requires words { table.now.words ≡ table_words shape.now }
-        requires steps { steps.old + 1 < 2 ^ 64 }
+        requires may { MayStep shape.now (InCall (Write block index value)) table.now self.old.seat steps.old }
         requires owning { IsOwning shape.now (Write block index value) 0 self.old }
-        ensures seat { SameSeat self.old.seat self.new.seat }
-        ensures steps { steps.new ≡ steps.old + 1 }
+        ensures one { OneStep self.old.seat self.new.seat steps.old steps.new }
         ensures made { OwnMade (Write block index value) self.old self.new }
     {
         let about = About::InCall {

@@ -22,3 +22,8 @@ pub returns-clause-on : goal.returns-clause-on
 returns-clause-on g c e =
     (tells_seen _ _ _ _ _ c.self.view_is c.about_of-about.ensures c.requires.may.can c.requires.agrees _ _ _ _
     c.make_step-word.ensures.step c.meet.ensures c.progress_at.ensures).on e
+
+pub returns-clause-ends : goal.returns-clause-ends
+returns-clause-ends g c =
+    (tells_seen _ _ _ _ _ c.self.view_is c.about_of-about.ensures c.requires.may.can c.requires.agrees _ _ _ _
+    c.make_step-word.ensures.step c.meet.ensures c.progress_at.ensures).ends

@@ -30,7 +30,7 @@ returns-clause-called g c =
       record {
         moved = ran.result;
         few = ran.ensures.few;
-        steps = omega (arith, ran.ensures.steps, c.own_allocate.ensures.steps);
+        steps = omega (arith, ran.ensures.steps, c.own_allocate.ensures.one.tick);
         made = call_made _ _ _ _ x.seat.view r _ ran.ensures.owning moved own entries;
         ran = r.pool.plan;
         runs = subst (λ p. PlanRuns c.args.shape.now.quantum p ran.result r.pool.plan) plan ran.ensures.plan;

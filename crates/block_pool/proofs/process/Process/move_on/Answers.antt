@@ -3,41 +3,41 @@ use Rattle.block_pool.proofs.Going.{can_move}
 use Rattle.block_pool.proofs.Moving.{runs_moving, moves_on, moves_end, moved_more, aged_more, plan_stays, plan_ends, plan_goes_on}
 use Rattle.block_pool.proofs.process.Process.move_on.Goals as goal
 
-pub returns-then-step_at-clause-owning : goal.returns-then-step_at-clause-owning
-returns-then-step_at-clause-owning g c =
+pub returns-then-step-clause-owning : goal.returns-then-step-clause-owning
+returns-then-step-clause-owning g c =
     let x = c.loop-made.self in
-    let go = runs_moving _ _ _ _ x c.loop-made-test.true c.loop-made.invariant.running in
-    moves_end _ _ _ x c.step_at.new.self _ c.if-step_at.true go c.step_at.ensures.moved
+    let go = runs_moving _ _ _ _ x (omega (arith, c.loop-made-test.true)) c.loop-made.invariant.running in
+    moves_end _ _ _ x c.step.new.self _ c.if-step.true go c.step.ensures.moved
 
-pub returns-then-step_at-clause-plan : goal.returns-then-step_at-clause-plan
-returns-then-step_at-clause-plan g c =
-    plan_ends _ _ _ _ _ _ c.if-step_at.true c.requires.pending (omega arith) (omega (arith, c.loop-made-test.true))
-    c.loop-made.invariant.plan c.step_at.ensures.moved.pool.plan
+pub returns-then-step-clause-plan : goal.returns-then-step-clause-plan
+returns-then-step-clause-plan g c =
+    plan_ends _ _ _ _ _ _ c.if-step.true c.requires.pending (omega arith) (omega (arith, c.loop-made-test.true))
+    c.loop-made.invariant.plan c.step.ensures.moved.pool.plan
 
-pub returns-then-step_at-clause-age : goal.returns-then-step_at-clause-age
-returns-then-step_at-clause-age g c =
+pub returns-then-step-clause-age : goal.returns-then-step-clause-age
+returns-then-step-clause-age g c =
     let x = c.loop-made.self in
-    let go = runs_moving _ _ _ _ x c.loop-made-test.true c.loop-made.invariant.running in
-    (aged_more _ _ _ c.args.self.now.transfer x c.step_at.new.self _ go c.step_at.ensures.moved c.loop-made.invariant.age).one
+    let go = runs_moving _ _ _ _ x (omega (arith, c.loop-made-test.true)) c.loop-made.invariant.running in
+    (aged_more _ _ _ c.args.self.now.transfer x c.step.new.self _ go c.step.ensures.moved c.loop-made.invariant.age).one
 
 pub loop-made-preserved : goal.loop-made-preserved
 loop-made-preserved g c =
     let x = c.loop-made.self in
     let h = c.loop-made.invariant in
-    let same = c.step_at.ensures.seat in
-    let moved = c.step_at.ensures.moved in
-    let go = runs_moving _ _ _ _ x c.loop-made-test.true h.running in
+    let same = c.step.ensures.one.same in
+    let moved = c.step.ensures.moved in
+    let go = runs_moving _ _ _ _ x (omega (arith, c.loop-made-test.true)) h.running in
     let within = (can_move _ _ _ x go).count.within in
     let same_done = ap (λ p. p.done) h.plan in
     let same_bound = ap (λ p. p.bound) h.plan in
     record {
       seat = (same.0 ∙ h.seat.0, same.1 ∙ h.seat.1);
-      steps = omega (arith, h.steps, c.step_at.ensures.steps);
-      running = moves_on _ _ _ _ x c.step_at.new.self _ c.requires.most c.if-step_at.false go moved;
-      moved = moved_more _ _ _ c.args.self.now.seat.view x c.step_at.new.self _ go moved h.moved;
-      plan = plan_stays _ _ _ _ _ c.if-step_at.false h.plan moved.pool.plan;
+      steps = omega (arith, h.steps, c.step.ensures.one.tick);
+      running = moves_on _ _ _ _ x c.step.new.self _ c.requires.most c.if-step.false go moved;
+      moved = moved_more _ _ _ c.args.self.now.seat.view x c.step.new.self _ go moved h.moved;
+      plan = plan_stays _ _ _ _ _ c.if-step.false h.plan moved.pool.plan;
       within = λ _. omega (arith, within, same_done, same_bound);
-      age = aged_more _ _ _ c.args.self.now.transfer x c.step_at.new.self _ go moved h.age;
+      age = aged_more _ _ _ c.args.self.now.transfer x c.step.new.self _ go moved h.age;
     }
 
 pub returns-clause-plan : goal.returns-clause-plan

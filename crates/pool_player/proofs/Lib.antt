@@ -1,0 +1,8 @@
+pub mod Fresh
+pub mod Calling
+pub mod Growing
+pub mod Slots
+pub mod Playing
+pub mod Gathering
+pub mod Parting
+pub mod Closed

@@ -1,0 +1,30 @@
+-- Scripts that were all played over one pool, which was closed then.
+use Rattle.std.specs.Prelude.{◌≡◌, ℕ, Some, List, ◌++◌, length, slice_get, take}
+use Rattle.word_layout.specs.Sizes.{limits_of}
+use Rattle.pool_model.specs.declared.entry.Entry.{Entry}
+use Rattle.pool_model.specs.History.{own}
+use Rattle.pool_model.specs.Legal.{IsLegal}
+use Rattle.mtrace_reader.specs.declared.steps.Script.{Script}
+use Rattle.trace_player.specs.declared.tally.Tally.{Tally}
+use Rattle.trace_player.specs.Fit.{IsTallied}
+use Rattle.pool_io.specs.Gates.{ToldBefore}
+use Rattle.block_pool.specs.Closing.{Settlement}
+use Rattle.block_pool.specs.Passing.{Passed, Pooled}
+
+-- the history begins with what the pass of process k had seen, and its entries of process k are those that the pass had, and then calls
+-- that fit the script, with refusals that they determine; the tally is that of these calls, and the gate was told of each of them
+pub record PlayedIn (told : ℕ → ℕ → Type 0) (history : List Entry) (k : ℕ) (pass : Passed) (script : Script) (tally : Tally) : Type 0 where
+  pub entries : List Entry
+  pub its_own : own history k ≡ pass.own ++ entries
+  pub begins : take (length pass.seen) history ≡ pass.seen
+  pub tallied : IsTallied k script entries tally
+  pub told_all : ToldBefore told k (length entries)
+
+-- one legal history has the calls of all processes for their scripts
+pub record PlayedAll (told : ℕ → ℕ → Type 0) (pool : Pooled) (passes : List Passed) (scripts : List Script) (tallies : List Tally)
+    (settled : Settlement) : Type 0 where
+  pub shape : settled.sizes ≡ pool.sizes
+  pub legal : IsLegal (limits_of pool.sizes) settled.history
+  pub one_each : length tallies ≡ length scripts
+  pub each : (k : ℕ) (pass : Passed) (script : Script) (tally : Tally) → slice_get passes k ≡ Some pass → slice_get scripts k ≡ Some script
+      → slice_get tallies k ≡ Some tally → PlayedIn told settled.history k pass script tally

@@ -1,0 +1,5 @@
+pub mod Calling
+pub mod Playing
+pub mod Players
+pub mod Together
+pub mod All

@@ -1,0 +1,77 @@
+// One script, played by the process of one pass.
+ghost use Rattle.std.specs.Prelude.{◌≡◌, ℕ, ◌+◌, ◌-◌, ◌^◌, ◌≤◌, ◌∷◌, ◌++◌, [], None, List, length, replicate};
+ghost use Rattle.pool_io.specs.Gates.{ToldBefore};
+ghost use Rattle.mtrace_reader.specs.declared.steps.Step.{Step};
+ghost use Rattle.mtrace_reader.specs.declared.steps.Script.{Script};
+ghost use Rattle.mtrace_reader.specs.Script.{IsWellFormed};
+ghost use Rattle.trace_player.specs.Playing.{MayCome};
+ghost use Rattle.block_pool.specs.Passing.{IsOf, Passed};
+ghost use Rattle.pool_player.specs.Playing.{IsNext, IsPlayedBy, PlaysSoFar};
+
+use crate::calls::{allocate, free};
+use block_pool::{Answer, Block, Pass, Pool};
+use mtrace_reader::{Script, Step};
+use pool_io::Gate;
+use trace_player::Tally;
+
+/// Plays a script with a pass of the pool: a Place is an allocate, and a Leave a free of the slot's block, where the
+/// slot wasn't refused one. Answers the tally of what it was answered. The gate is told of each call before it.
+///
+/// It takes no memory and waits for nobody. The slots are empty, one for each of the script; afterwards those that are
+/// filled have the blocks that are left: what the pass then holds besides what it held before.
+pub fn play_one<G: Gate>(
+    pool: &Pool,
+    pass: &mut Pass,
+    script: &Script,
+    slots: &mut [Option<Block>],
+    gate: &G,
+) -> Tally
+    requires pool { IsOf pool.now pass.old }
+    requires well_formed { IsWellFormed script.now }
+    requires empty { slots.old ≡ replicate script.now.news None }
+    requires age { pass.old.age + length script.now.steps ≤ 2 ^ 32 }
+    ensures played { IsPlayedBy script.now pass.old pass.new slots.new result }
+    ensures told { ToldBefore (G.told gate.now) pass.old.number (length pass.new.own - length pass.old.own) }
+{
+    let mut tally = Tally::begin(script);
+    let mut made = 0;
+    for step in script.steps.as_slice() {
+        play_step(pool, pass, *step, slots, &mut tally, gate, &mut made);
+    }
+    tally
+}
+
+/// Plays one step, and counts its call among those that were made.
+fn play_step<G: Gate>(
+    pool: &Pool,
+    pass: &mut Pass,
+    step: Step,
+    slots: &mut [Option<Block>],
+    tally: &mut Tally,
+    gate: &G,
+    made: &mut u64,
+)
+    requires next { IsNext step pool.now pass.old slots.old tally.old made.old }
+    requires told { ToldBefore (G.told gate.now) pass.old.number made.old }
+    ensures played { (script : Script) (done : List Step) (start : Passed)
+        → MayCome done step
+        → PlaysSoFar script done start pass.old slots.old tally.old made.old
+        → PlaysSoFar script (done ++ step ∷ []) start pass.new slots.new tally.new made.new }
+    ensures told { ToldBefore (G.told gate.now) pass.new.number made.new }
+{
+    match step {
+        Step::Place { slot } => match allocate(pool, pass, gate, made) {
+            Answer::Got(block) => {
+                slots[slot as usize] = Some(block);
+                tally.count_given();
+            }
+            Answer::Dry => tally.count_refused(),
+        },
+        Step::Leave { slot } => {
+            if let Some(block) = slots[slot as usize].take() {
+                free(pool, pass, block, gate, made);
+                tally.count_freed();
+            }
+        }
+    }
+}

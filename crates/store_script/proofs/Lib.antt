@@ -1,0 +1,9 @@
+pub mod Digits
+pub mod Following
+pub mod Lines
+pub mod Meanings
+pub mod Pages
+pub mod Places
+pub mod Readings
+pub mod Taking
+pub mod Writing

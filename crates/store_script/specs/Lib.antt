@@ -1,0 +1,14 @@
+pub mod Fault
+pub mod Fit
+pub mod Line
+pub mod Number
+pub mod Numbers
+pub mod PlainStore
+pub mod Reading
+pub mod Replies
+pub mod Script
+pub mod ScriptWriter
+pub mod Slots
+pub mod Taken
+pub mod Text
+pub mod Words4
