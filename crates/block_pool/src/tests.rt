@@ -4,6 +4,7 @@ ghost use Rattle.block_pool.specs.Passing.{IsOf};
 ghost use Rattle.block_pool.specs.Calls.{SamePass};
 
 use crate::{Answer, Pass, Pool};
+use std::alloc::Global;
 use std::process::Abort;
 use std::test::Fail;
 use step_counter::{Kept, Steps};
@@ -30,13 +31,7 @@ fn allocate(pool: &Pool, pass: &mut Pass, steps: &mut Steps<Kept>) -> (Option<u3
 }
 
 /// Gets the first so many blocks, in the order of their numbers.
-fn get_first(
-    rt: &impl Abort,
-    pool: &Pool,
-    pass: &mut Pass,
-    count: u32,
-    steps: &mut Steps<Kept>,
-)
+fn get_first(rt: &impl Abort, pool: &Pool, pass: &mut Pass, count: u32, steps: &mut Steps<Kept>)
     requires pass { IsOf pool.now pass.old }
     requires quantum { pass.old.sizes.quantum ≤ 16 }
     requires young { pass.old.age + count < 2 ^ 32 }
@@ -89,20 +84,35 @@ fn one_pass_of_two_gets_half(rt: HostRuntime) -> Result<(), Fail> {
     Ok(())
 }
 
+/// Opens a pool of one process and ten batches, and gets these blocks in turn, each in so many steps.
+fn get_of_ten_batches(
+    rt: &impl Abort,
+    alloc: Global,
+    quantum: u32,
+    wanted: &[(u32, u64)],
+) -> Result<(), Fail>
+    requires { length wanted.now ≤ 5 }
+{
+    let Ok(shape) = Shape::with_quantum(1, 10, 0, quantum) else {
+        panic!(rt; "a process and 10 batches are refused");
+    };
+    let (pool, mut passes) = Pool::open(alloc, &shape)?;
+    let mut steps = Steps::new(Kept::new());
+    let pass = &mut passes[0];
+    get_each(rt, &pool, pass, wanted, &mut steps);
+    let settled = pool.finish(passes);
+    assert_eq!(rt; settled.held() as usize, wanted.len(), "quantum {quantum}");
+    Ok(())
+}
+
 #[test]
 fn first_blocks_and_their_steps(rt: HostRuntime) -> Result<(), Fail> {
     // The batch that is taken in the first two calls is used before the spare of the opening.
-    let eight = [(0, 9), (1, 8), (2, 1), (3, 1), (36, 1)];
-    let sixteen = [(0, 16), (1, 1), (18, 1), (19, 16)];
-    for (quantum, wanted) in [(8, eight.as_slice()), (16, sixteen.as_slice())] {
-        let Ok(shape) = Shape::with_quantum(1, 10, 0, quantum) else {
-            panic!(rt; "a process and 10 batches are refused");
-        };
-        let (pool, mut passes) = Pool::open(rt.alloc(), &shape)?;
-        let mut steps = Steps::new(Kept::new());
-        get_each(&rt, &pool, &mut passes[0], wanted, &mut steps);
-        let settled = pool.finish(passes);
-        assert_eq!(rt; settled.held() as usize, wanted.len(), "quantum {quantum}");
-    }
-    Ok(())
+    get_of_ten_batches(
+        &rt,
+        rt.alloc(),
+        8,
+        &[(0, 9), (1, 8), (2, 1), (3, 1), (36, 1)],
+    )?;
+    get_of_ten_batches(&rt, rt.alloc(), 16, &[(0, 16), (1, 1), (18, 1), (19, 16)])
 }
