@@ -8,3 +8,4 @@ pub mod Opened
 pub mod Joined
 pub mod Settling
 pub mod Ordered
+pub mod TestedCalls

@@ -12,6 +12,8 @@ mod opening;
 mod pass;
 mod pool;
 mod process;
+#[cfg(test)]
+mod tests;
 
 pub use closing::Settled;
 pub use pass::{Block, Pass};
