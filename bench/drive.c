@@ -1,0 +1,184 @@
+/* Drives an allocator with threads, and prints what a call costs.
+ *
+ *   drive ALLOCATOR THREADS CALLS [QUANTUM]
+ *
+ * ALLOCATOR: plain (the algorithm of plain_pool.h), mutex (a list of blocks under one lock), treiber (a lock-free stack
+ * of blocks), malloc (the C library's, or another one that is preloaded). Each thread makes CALLS calls, at random an
+ * allocate or a free, with at most 256 blocks of 64 bytes live. Printed are the nanoseconds a call of the whole run,
+ * and the slowest call of all threads, each timed by itself in a second run of a tenth of the calls. */
+#define _GNU_SOURCE
+#include "plain_pool.h"
+#include <pthread.h>
+#include <stdio.h>
+#include <string.h>
+#include <time.h>
+
+enum { LIVE = 256, BLOCK_BYTES = 64, MOST_THREADS = 32 };
+
+typedef struct worker worker;
+typedef struct {
+    const char *name;
+    bool (*open)(uint32_t threads, uint32_t quantum);
+    void *(*allocate)(worker *);
+    void (*release)(worker *, void *);
+    void (*close)(void);
+} allocator;
+
+struct worker {
+    const allocator *with;
+    uint32_t number;
+    uint64_t calls, seed, slowest, refused;
+    bool timed;
+};
+
+static uint64_t now(void) {
+    struct timespec at;
+    clock_gettime(CLOCK_MONOTONIC, &at);
+    return (uint64_t)at.tv_sec * 1000000000u + (uint64_t)at.tv_nsec;
+}
+
+/* Blocks by their numbers, over one array of bytes. */
+static char *blocks;
+static uint32_t block_count;
+static void *block_at(uint32_t number) { return blocks + (size_t)number * BLOCK_BYTES; }
+static uint32_t number_of(void *block) { return (uint32_t)(((char *)block - blocks) / BLOCK_BYTES); }
+
+static plain_pool pool;
+static plain_pass *passes;
+static bool plain_opens(uint32_t threads, uint32_t quantum) {
+    uint32_t length = (16 * threads + 15 + quantum - 1) / quantum;
+    passes = plain_open(&pool, threads, 5 * threads + threads * LIVE / length + 2, 0, quantum);
+    block_count = pool.batches * pool.length;
+    blocks = malloc((size_t)block_count * BLOCK_BYTES);
+    return passes && blocks;
+}
+static void *plain_allocates(worker *it) {
+    uint32_t number = plain_allocate(&passes[it->number]);
+    return number == DRY ? NULL : block_at(number);
+}
+static void plain_releases(worker *it, void *block) { plain_free(&passes[it->number], number_of(block)); }
+static void plain_closes(void) { plain_close(&pool, passes); free(blocks); }
+
+static pthread_mutex_t lock = PTHREAD_MUTEX_INITIALIZER;
+static uint32_t *next_of, first;
+static bool list_opens(uint32_t threads, uint32_t quantum) {
+    (void)quantum;
+    block_count = threads * LIVE;
+    blocks = malloc((size_t)block_count * BLOCK_BYTES);
+    next_of = malloc(block_count * sizeof *next_of);
+    if (!blocks || !next_of) return false;
+    for (uint32_t i = 0; i < block_count; i++) next_of[i] = i + 2 > block_count ? 0 : i + 2;
+    first = 1;
+    return true;
+}
+static void list_closes(void) { free(blocks); free(next_of); }
+static void *mutex_allocates(worker *it) {
+    (void)it;
+    pthread_mutex_lock(&lock);
+    uint32_t got = first;
+    if (got) first = next_of[got - 1];
+    pthread_mutex_unlock(&lock);
+    return got ? block_at(got - 1) : NULL;
+}
+static void mutex_releases(worker *it, void *block) {
+    (void)it;
+    uint32_t number = number_of(block);
+    pthread_mutex_lock(&lock);
+    next_of[number] = first;
+    first = number + 1;
+    pthread_mutex_unlock(&lock);
+}
+
+/* The top's number plus 1 in the low half, a count of changes in the high one. */
+static _Atomic uint64_t top;
+static _Atomic uint32_t *below;
+static bool treiber_opens(uint32_t threads, uint32_t quantum) {
+    (void)quantum;
+    block_count = threads * LIVE;
+    blocks = malloc((size_t)block_count * BLOCK_BYTES);
+    below = malloc(block_count * sizeof *below);
+    if (!blocks || !below) return false;
+    for (uint32_t i = 0; i < block_count; i++) atomic_init(&below[i], i + 2 > block_count ? 0 : i + 2);
+    atomic_store(&top, 1);
+    return true;
+}
+static void treiber_closes(void) { free(blocks); free((void *)below); }
+static void *treiber_allocates(worker *it) {
+    (void)it;
+    uint64_t seen = atomic_load(&top);
+    for (;;) {
+        uint32_t got = (uint32_t)seen;
+        if (!got) return NULL;
+        uint64_t left = ((seen >> 32) + 1) << 32 | atomic_load(&below[got - 1]);
+        if (atomic_compare_exchange_weak(&top, &seen, left)) return block_at(got - 1);
+    }
+}
+static void treiber_releases(worker *it, void *block) {
+    (void)it;
+    uint32_t number = number_of(block);
+    uint64_t seen = atomic_load(&top);
+    do atomic_store(&below[number], (uint32_t)seen);
+    while (!atomic_compare_exchange_weak(&top, &seen, ((seen >> 32) + 1) << 32 | (number + 1)));
+}
+
+static bool malloc_opens(uint32_t threads, uint32_t quantum) { (void)threads; (void)quantum; return true; }
+static void *malloc_allocates(worker *it) { (void)it; return malloc(BLOCK_BYTES); }
+static void malloc_releases(worker *it, void *block) { (void)it; free(block); }
+static void malloc_closes(void) {}
+
+static const allocator allocators[] = {
+    { "plain", plain_opens, plain_allocates, plain_releases, plain_closes },
+    { "mutex", list_opens, mutex_allocates, mutex_releases, list_closes },
+    { "treiber", treiber_opens, treiber_allocates, treiber_releases, treiber_closes },
+    { "malloc", malloc_opens, malloc_allocates, malloc_releases, malloc_closes },
+};
+
+static void *work(void *given) {
+    worker *it = given;
+    void *held[LIVE] = { 0 };
+    for (uint64_t i = 0; i < it->calls; i++) {
+        it->seed ^= it->seed << 13; it->seed ^= it->seed >> 7; it->seed ^= it->seed << 17;
+        void **slot = &held[it->seed % LIVE];
+        uint64_t began = it->timed ? now() : 0;
+        if (*slot) { it->with->release(it, *slot); *slot = NULL; }
+        else if (!(*slot = it->with->allocate(it))) it->refused++;
+        if (it->timed) { uint64_t took = now() - began; if (took > it->slowest) it->slowest = took; }
+    }
+    for (uint32_t i = 0; i < LIVE; i++) if (held[i]) it->with->release(it, held[i]);
+    return NULL;
+}
+
+/* Nanoseconds of one run; the slowest call and the refusals go to the workers. */
+static uint64_t run(const allocator *with, uint32_t threads, uint64_t calls, uint32_t quantum, bool timed, worker *workers) {
+    pthread_t started[MOST_THREADS];
+    if (!with->open(threads, quantum)) { fprintf(stderr, "no memory\n"); exit(1); }
+    uint64_t began = now();
+    for (uint32_t i = 0; i < threads; i++) {
+        workers[i] = (worker){ .with = with, .number = i, .calls = calls, .seed = 88172645463325252u + i, .timed = timed };
+        if (pthread_create(&started[i], NULL, work, &workers[i])) { fprintf(stderr, "no thread\n"); exit(1); }
+    }
+    for (uint32_t i = 0; i < threads; i++) pthread_join(started[i], NULL);
+    uint64_t took = now() - began;
+    with->close();
+    return took;
+}
+
+int main(int count, char **words) {
+    if (count < 4) { fprintf(stderr, "usage: drive ALLOCATOR THREADS CALLS [QUANTUM]\n"); return 2; }
+    uint32_t threads = (uint32_t)atoi(words[2]), quantum = count > 4 ? (uint32_t)atoi(words[4]) : 8;
+    uint64_t calls = strtoull(words[3], NULL, 10), slowest = 0, refused = 0;
+    if (threads < 1 || threads > MOST_THREADS) { fprintf(stderr, "drive: 1 to 32 threads\n"); return 2; }
+    for (size_t k = 0; k < sizeof allocators / sizeof *allocators; k++) {
+        if (strcmp(words[1], allocators[k].name)) continue;
+        worker workers[MOST_THREADS];
+        uint64_t took = run(&allocators[k], threads, calls, quantum, false, workers);
+        for (uint32_t i = 0; i < threads; i++) refused += workers[i].refused;
+        run(&allocators[k], threads, calls / 10, quantum, true, workers);
+        for (uint32_t i = 0; i < threads; i++) if (workers[i].slowest > slowest) slowest = workers[i].slowest;
+        printf("%s %u %.1f %llu %llu\n", words[1], threads, (double)took / (double)calls,
+               (unsigned long long)slowest, (unsigned long long)refused);
+        return 0;
+    }
+    fprintf(stderr, "drive: no such allocator\n");
+    return 2;
+}
