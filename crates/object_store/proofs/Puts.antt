@@ -1,0 +1,152 @@
+-- What a call of a store does, by the calls of the pool that it makes.
+use Rattle.std.proofs.Common.{◌≡◌, ◌≢◌, ℕ, ◌+◌, ◌≤◌, List, [], ◌∷◌, refl, sym, ap, ◌∙◌, subst, arith}
+use Rattle.std.specs.List.{Contains}
+use Rattle.pool_model.specs.declared.entry.Entry.{Entry}
+use Rattle.pool_model.specs.declared.entry.Entry.TheVariants as entry
+use Rattle.pool_model.proofs.Members.{contains_head, contains_tail, without_contains}
+use Rattle.pool_table.specs.Minds.{KnownWord, known_in}
+use Rattle.pool_table.specs.Turns.{forget}
+use Rattle.pool_table.specs.Steps.{SeesMore}
+use Rattle.block_pool.specs.Calls.{Allocated, Counted, Entered, SamePass}
+use Rattle.block_pool.specs.Passing.{Passed}
+use Rattle.block_pool.specs.Standing.{StandsWell}
+use Rattle.block_pool.specs.declared.pool.Answer.{Answer}
+use Rattle.block_pool.specs.declared.pool.Answer.TheVariants.{Got}
+use Rattle.pool_player.proofs.Calling.{got_is_free}
+use Rattle.object_store.specs.Objects.{HoldsWords, KnowsWords, ObjectView}
+use Rattle.object_store.specs.Calls.{AllocatedFirst, CountedWithin, KeepsOthers, written}
+use Rattle.object_store.specs.Putting.{IsStored}
+use Rattle.object_store.proofs.Known.{written_here, written_there, forgotten_there}
+
+-- ---- writes after a call
+
+pub same_after : (old between new : Passed) (moves : ℕ) (known : List KnownWord) → new ≡ record between { moves = moves; known = known }
+    → SamePass old between → SamePass old new
+same_after old between new moves known is same = record {
+  table = ap (λ (p : Passed). p.table) is ∙ same.table;
+  sizes = ap (λ (p : Passed). p.sizes) is ∙ same.sizes;
+  number = ap (λ (p : Passed). p.number) is ∙ same.number;
+}
+
+pub entered_after : (made : Entry) (old between new : Passed) (moves : ℕ) (known : List KnownWord)
+    → new ≡ record between { moves = moves; known = known } → Entered made old between → Entered made old new
+entered_after made old between new moves known is entered = record {
+  own = ap (λ (p : Passed). p.own) is ∙ entered.own;
+  seen = subst (λ (seen : List Entry). SeesMore old.seen seen (made ∷ [])) (sym (ap (λ (p : Passed). p.seen) is)) entered.seen;
+  held = ap (λ (p : Passed). p.held) is ∙ entered.held;
+}
+
+pub allocated_after : (answer : Answer) (old between new : Passed) (moves : ℕ) (known : List KnownWord)
+    → new ≡ record between { moves = moves; known = known } → Allocated answer old between → AllocatedFirst answer old new
+allocated_after answer old between new moves known is allocated = record {
+  between = between;
+  allocated = allocated;
+  after = is ∙ sym (ap (λ (p : Passed). record between { known = p.known; moves = p.moves }) is);
+}
+
+pub counted_after : (quantum count before middle after : ℕ) (old between new : Passed) → Counted quantum before middle old between
+    → after ≡ middle + count → new.moves ≡ between.moves + count → CountedWithin (count + 1) (quantum + 1 + count) before after old new
+counted_after quantum count before middle after old between new counted steps moves = record {
+  made = counted.moved + 1 + count;
+  least = omega arith;
+  most = omega (arith, counted.few);
+  steps = omega (arith, counted.steps);
+  moves = omega (arith, counted.moves);
+}
+
+-- nothing was written
+pub counted_alone : (quantum count before after : ℕ) (old new : Passed) → Counted quantum before after old new
+    → CountedWithin 1 (quantum + 1 + count) before after old new
+counted_alone quantum count before after old new counted = record {
+  made = counted.moved + 1;
+  least = omega arith;
+  most = omega (arith, counted.few);
+  steps = omega (arith, counted.steps);
+  moves = omega (arith, counted.moves);
+}
+
+-- the words of a value were written to the block that was got
+pub stored_by : {R : Type 0} (count : ℕ) (words_of : R → List ℕ) (value : R) (old between new : Passed) (object : ObjectView R) (moves : ℕ)
+    → SamePass old between → StandsWell between → Entered (entry.Got old.number object.block) old between → between.known ≡ old.known
+    → new ≡ record between { moves = moves; known = written object.block (words_of value) count between.known }
+    → object.value ≡ value → IsStored count words_of value old new object
+stored_by count words_of value old between new object moves same well entered unchanged is has =
+    let block = object.block in
+    let held : new.held ≡ block ∷ old.held = ap (λ (p : Passed). p.held) is ∙ entered.held in
+    let known : new.known ≡ written block (words_of value) count between.known = ap (λ (p : Passed). p.known) is in
+    record {
+      value = has;
+      fresh = got_is_free old between (Got block) block same well refl entered;
+      holds = record {
+        held = subst (λ (bs : List ℕ). Contains bs block) (sym held) (contains_head block old.held);
+        known = subst (λ (k : List KnownWord). KnowsWords k block count (words_of value)) (sym known)
+            (written_here block (words_of value) count between.known);
+      };
+      others = record {
+        held = λ other differs was. subst (λ (bs : List ℕ). Contains bs other) (sym held) (contains_tail other block old.held was);
+        known = λ other differs index. ap (λ (k : List KnownWord). known_in k other index) known
+            ∙ written_there block (words_of value) count between.known other index differs
+            ∙ ap (λ (k : List KnownWord). known_in k other index) unchanged;
+      };
+    }
+
+-- ---- reads before a call
+
+pub same_before : (old between new : Passed) (moves : ℕ) → between ≡ record old { moves = moves } → SamePass between new → SamePass old new
+same_before old between new moves is same = record {
+  table = same.table ∙ ap (λ (p : Passed). p.table) is;
+  sizes = same.sizes ∙ ap (λ (p : Passed). p.sizes) is;
+  number = same.number ∙ ap (λ (p : Passed). p.number) is;
+}
+
+pub entered_before : (block : ℕ) (old between new : Passed) (moves : ℕ) → between ≡ record old { moves = moves }
+    → Entered (entry.Back between.number block) between new → Entered (entry.Back old.number block) old new
+entered_before block old between new moves is entered =
+    let at : Entered (entry.Back old.number block) (record old { moves = moves }) new =
+    subst (λ (p : Passed). Entered (entry.Back p.number block) p new) is entered in
+    record { own = at.own; seen = at.seen; held = at.held }
+
+pub counted_before : (count before middle after : ℕ) (old between new : Passed) → middle ≡ before + count
+    → between ≡ record old { moves = old.moves + count } → Counted between.sizes.quantum middle after between new
+    → CountedWithin (count + 1) (old.sizes.quantum + 1 + count) before after old new
+counted_before count before middle after old between new steps is counted =
+    let moves : between.moves ≡ old.moves + count = ap (λ (p : Passed). p.moves) is in
+    let quantum : between.sizes.quantum ≡ old.sizes.quantum = ap (λ (p : Passed). p.sizes.quantum) is in
+    record {
+      made = counted.moved + 1 + count;
+      least = omega arith;
+      most = omega (arith, counted.few);
+      steps = omega (arith, counted.steps);
+      moves = omega (arith, counted.moves);
+    }
+
+pub forgotten_before : (block : ℕ) (old between new : Passed) (moves : ℕ) → between ≡ record old { moves = moves }
+    → new.known ≡ forget block between.known → new.known ≡ forget block old.known
+forgotten_before block old between new moves is known = known ∙ ap (λ (p : Passed). forget block p.known) is
+
+-- the block was freed
+pub others_freed : (block : ℕ) (old new : Passed) → Entered (entry.Back old.number block) old new → new.known ≡ forget block old.known
+    → KeepsOthers block old new
+others_freed block old new entered known = record {
+  held = λ other differs was.
+      subst (λ (bs : List ℕ). Contains bs other) (sym entered.held) (without_contains block other old.held was differs);
+  known = λ other differs index.
+      ap (λ (k : List KnownWord). known_in k other index) known ∙ forgotten_there block old.known other index differs;
+}
+
+-- ---- writes alone
+
+pub kept_by_writes : (block count moves : ℕ) (words : List ℕ) (old new : Passed) → Contains old.held block
+    → new ≡ record old { moves = moves; known = written block words count old.known } → HoldsWords count words block new
+kept_by_writes block count moves words old new held is = record {
+  held = subst (λ (p : Passed). Contains p.held block) (sym is) held;
+  known = subst (λ (p : Passed). KnowsWords p.known block count words) (sym is) (written_here block words count old.known);
+}
+
+pub others_by_writes : (block count moves : ℕ) (words : List ℕ) (old new : Passed)
+    → new ≡ record old { moves = moves; known = written block words count old.known } → KeepsOthers block old new
+others_by_writes block count moves words old new is = record {
+  held = λ other differs was. subst (λ (p : Passed). Contains p.held other) (sym is) was;
+  known = λ other differs index.
+      ap (λ (p : Passed). known_in p.known other index) is ∙ written_there block words count old.known other index differs;
+}

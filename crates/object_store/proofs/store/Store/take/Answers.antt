@@ -1,0 +1,15 @@
+use Rattle.std.proofs.Common.{ap}
+use Rattle.object_store.proofs.Puts.{counted_before, entered_before, forgotten_before, others_freed}
+use Rattle.object_store.proofs.store.Store.take.Goals as goal
+
+pub returns-clause-steps : goal.returns-clause-steps
+returns-clause-steps g c =
+    counted_before _ _ _ _ _ _ _ (rw c.WORDS.ensures at c.read_words-words.ensures.steps)
+    (rw c.WORDS.ensures at c.read_words-words.ensures.pass)
+    c.free.ensures.steps
+
+pub returns-clause-others : goal.returns-clause-others
+returns-clause-others g c =
+    let block = ap (λ o. o.block) c.object.view_is in
+    others_freed _ _ _ (entered_before _ _ _ _ _ c.read_words-words.ensures.pass (rw block at c.free.ensures.entry))
+    (forgotten_before _ _ _ _ _ c.read_words-words.ensures.pass (rw block at c.free.ensures.known))

@@ -1,0 +1,4 @@
+pub mod Objects
+pub mod Calls
+pub mod Putting
+pub mod Playing
