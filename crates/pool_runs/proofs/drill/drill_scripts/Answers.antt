@@ -16,6 +16,6 @@ loop-process-preserved c =
     let before = c.loop-process.invariant in
     rw c.in_ok-push.ensures.items (
       ap (λ scripts. scripts ++ script ∷ []) before.0 ∙ ap (λ one. drill_scripts c.args.seed c.args.calls c.loop-process.process ++ one ∷ []) c.in_ok-process_script.ensures.script
-          ∙ sym (map-range_with_len_more (drill_script c.args.seed c.args.calls) 0 c.loop-process.process c.loop-process.process refl),
+          ∙ sym (map-range_with_len_more (drill_script c.args.seed c.args.calls) 0 c.loop-process.process c.loop-process.process (omega arith)),
       All-append IsPlayable c.loop-process.scripts.items (script ∷ []) before.1 (all_of_one script c.in_ok-process_script.ensures.playable),
     )
