@@ -1,2 +1,4 @@
 pub mod Calling
 pub mod Playing
+pub mod Players
+pub mod Together

@@ -60,8 +60,9 @@ pub(crate) fn allocate<G: Gate>(pool: &Pool, pass: &mut Pass, gate: &G, made: &m
     ensures told { ToldBefore (G.told gate.now) pass.new.number made.new }
     ensures made { made.new ≡ made.old + 1 }
 {
-    tell(gate, pass, *made);
-    let answer = allocate_told(pool, pass, gate, *made);
+    let call = *made;
+    tell(gate, pass, call);
+    let answer = allocate_told(pool, pass, gate, call);
     *made += 1;
     answer
 }
