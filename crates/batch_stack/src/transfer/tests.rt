@@ -198,3 +198,41 @@ fn a_take_ends_beside_one_that_stopped_anywhere(rt: HostRuntime) -> Result<(), F
     }
     Ok(())
 }
+
+/// Process 0 announces a take and stops, process 1 takes on these words, and process 0 goes on, on those: how each take ends.
+fn help(
+    rt: &impl Abort,
+    alloc: Global,
+    helpers: &[u64],
+    helped: &[u64],
+) -> Result<(Progress, Progress), Fail> {
+    let shape = Shape::new(2, 6, 0)?;
+    let mut steps = Steps::new(Kept::new());
+    let (table, mut first) = open_table(alloc, &shape)?;
+    let mut second = next_seat(&table, &mut first, &mut steps);
+    let mut announced = take(alloc, &shape, 0, &first, 2)?;
+    let mut helping = take(alloc, &shape, 1, &second, 0)?;
+    let begun = make(rt, &mut announced, &table, &mut first, &[16777216]);
+    let helper = make(rt, &mut helping, &table, &mut second, helpers);
+    let end = match begun {
+        Progress::Going => make(rt, &mut announced, &table, &mut first, helped),
+        Progress::Took(_) | Progress::Empty | Progress::Gave => begun,
+    };
+    Ok((helper, end))
+}
+
+#[test]
+fn a_take_is_helped(rt: HostRuntime) -> Result<(), Fail> {
+    let helpers = [
+        16777216, 16777220, 16777218, 16777216, 16777216, 16777216, 16777216, 16777216, 16777216,
+        30, 16777216, 24, 33554432, 33554432, 33554432, 33554432, 41943071, 41943065, 16777220,
+        33554434, 41943065,
+    ];
+    let helped = [
+        33554434, 33554432, 33554432, 33554432, 33554432, 41943071, 41943065, 16777216, 16777216,
+        50331648, 50331648, 50331648, 50331648, 58720287, 58720281, 33554434, 50331648, 58720287,
+    ];
+    let ends = help(&rt, rt.alloc(), &helpers, &helped)?;
+    assert_eq!(rt; ends, (Progress::Took(24), Progress::Took(30)));
+    Ok(())
+}
