@@ -1,4 +1,4 @@
--- `into_box` hands what the parts own to `from_raw`.
+-- the walk of `into_box`: what the parts own is what `from_raw` asks for, and it gives the box
 use Rattle.std.proofs.Common.{◌≡◌, List, [], ◌∷◌, ◌++◌, refl, sym, ap, subst}
 use lib.Dec.{T}
 use mir.Syntax.{Body, place, copy, assign, rv_opd, seq, return}
