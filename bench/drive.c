@@ -42,15 +42,20 @@ static char *blocks;
 static uint32_t block_count;
 static void *block_at(uint32_t number) { return blocks + (size_t)number * BLOCK_BYTES; }
 static uint32_t number_of(void *block) { return (uint32_t)(((char *)block - blocks) / BLOCK_BYTES); }
+static bool blocks_open(uint32_t count) {
+    block_count = count;
+    blocks = malloc((size_t)count * BLOCK_BYTES);
+    return blocks;
+}
+/* The number that follows block i, plus 1, in a list of all blocks in their order; 0 after the last. */
+static uint32_t following(uint32_t i) { return i + 2 > block_count ? 0 : i + 2; }
 
 static plain_pool pool;
 static plain_pass *passes;
 static bool plain_opens(uint32_t threads, uint32_t quantum) {
     uint32_t length = (16 * threads + 15 + quantum - 1) / quantum;
     passes = plain_open(&pool, threads, 5 * threads + threads * LIVE / length + 2, 0, quantum);
-    block_count = pool.batches * pool.length;
-    blocks = malloc((size_t)block_count * BLOCK_BYTES);
-    return passes && blocks;
+    return blocks_open(pool.batches * pool.length) && passes;
 }
 static void *plain_allocates(worker *it) {
     uint32_t number = plain_allocate(&passes[it->number]);
@@ -63,11 +68,8 @@ static pthread_mutex_t lock = PTHREAD_MUTEX_INITIALIZER;
 static uint32_t *next_of, first;
 static bool list_opens(uint32_t threads, uint32_t quantum) {
     (void)quantum;
-    block_count = threads * LIVE;
-    blocks = malloc((size_t)block_count * BLOCK_BYTES);
-    next_of = malloc(block_count * sizeof *next_of);
-    if (!blocks || !next_of) return false;
-    for (uint32_t i = 0; i < block_count; i++) next_of[i] = i + 2 > block_count ? 0 : i + 2;
+    if (!blocks_open(threads * LIVE) || !(next_of = malloc(block_count * sizeof *next_of))) return false;
+    for (uint32_t i = 0; i < block_count; i++) next_of[i] = following(i);
     first = 1;
     return true;
 }
@@ -94,11 +96,8 @@ static _Atomic uint64_t top;
 static _Atomic uint32_t *below;
 static bool treiber_opens(uint32_t threads, uint32_t quantum) {
     (void)quantum;
-    block_count = threads * LIVE;
-    blocks = malloc((size_t)block_count * BLOCK_BYTES);
-    below = malloc(block_count * sizeof *below);
-    if (!blocks || !below) return false;
-    for (uint32_t i = 0; i < block_count; i++) atomic_init(&below[i], i + 2 > block_count ? 0 : i + 2);
+    if (!blocks_open(threads * LIVE) || !(below = malloc(block_count * sizeof *below))) return false;
+    for (uint32_t i = 0; i < block_count; i++) atomic_init(&below[i], following(i));
     atomic_store(&top, 1);
     return true;
 }

@@ -59,7 +59,7 @@ static plain_pass *plain_open(plain_pool *pool, uint32_t p, uint32_t batches, ui
     size_t count = pool->data + (size_t)batches * length * data_words;
     pool->words = calloc(count, sizeof *pool->words);
     plain_pass *passes = aligned_alloc(_Alignof(plain_pass), p * sizeof *passes);
-    if (!pool->words || !passes) { free(pool->words); free(passes); return NULL; }
+    if (!pool->words || !passes) { free(pool->words); free(passes); pool->words = NULL; return NULL; }
     atomic_init(&pool->words[0], plain_tagged(1, 2 * p));
     for (uint32_t i = 0; i < pool->record_words; i++)
         atomic_init(plain_record(pool, 2 * p, i), plain_tagged(1, i == 0 ? batches - 2 * p : 0));
