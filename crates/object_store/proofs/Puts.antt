@@ -20,30 +20,6 @@ use Rattle.object_store.proofs.Known.{written_here, written_there, forgotten_the
 
 -- ---- writes after a call
 
-pub same_after : (old between new : Passed) (moves : ℕ) (known : List KnownWord) → new ≡ record between { moves = moves; known = known }
-    → SamePass old between → SamePass old new
-same_after old between new moves known is same = record {
-  table = ap (λ (p : Passed). p.table) is ∙ same.table;
-  sizes = ap (λ (p : Passed). p.sizes) is ∙ same.sizes;
-  number = ap (λ (p : Passed). p.number) is ∙ same.number;
-}
-
-pub entered_after : (made : Entry) (old between new : Passed) (moves : ℕ) (known : List KnownWord)
-    → new ≡ record between { moves = moves; known = known } → Entered made old between → Entered made old new
-entered_after made old between new moves known is entered = record {
-  own = ap (λ (p : Passed). p.own) is ∙ entered.own;
-  seen = subst (λ (seen : List Entry). SeesMore old.seen seen (made ∷ [])) (sym (ap (λ (p : Passed). p.seen) is)) entered.seen;
-  held = ap (λ (p : Passed). p.held) is ∙ entered.held;
-}
-
-pub allocated_after : (answer : Answer) (old between new : Passed) (moves : ℕ) (known : List KnownWord)
-    → new ≡ record between { moves = moves; known = known } → Allocated answer old between → AllocatedFirst answer old new
-allocated_after answer old between new moves known is allocated = record {
-  between = between;
-  allocated = allocated;
-  after = is ∙ sym (ap (λ (p : Passed). record between { known = p.known; moves = p.moves }) is);
-}
-
 pub counted_after : (quantum count before middle after : ℕ) (old between new : Passed) → Counted quantum before middle old between
     → after ≡ middle + count → new.moves ≡ between.moves + count → CountedWithin (count + 1) (quantum + 1 + count) before after old new
 counted_after quantum count before middle after old between new counted steps moves = record {
@@ -91,13 +67,6 @@ stored_by count words_of value old between new object moves same well entered un
     }
 
 -- ---- reads before a call
-
-pub same_before : (old between new : Passed) (moves : ℕ) → between ≡ record old { moves = moves } → SamePass between new → SamePass old new
-same_before old between new moves is same = record {
-  table = same.table ∙ ap (λ (p : Passed). p.table) is;
-  sizes = same.sizes ∙ ap (λ (p : Passed). p.sizes) is;
-  number = same.number ∙ ap (λ (p : Passed). p.number) is;
-}
 
 pub entered_before : (block : ℕ) (old between new : Passed) (moves : ℕ) → between ≡ record old { moves = moves }
     → Entered (entry.Back between.number block) between new → Entered (entry.Back old.number block) old new
