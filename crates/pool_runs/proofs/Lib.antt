@@ -1,2 +1,3 @@
-mod Unrefused
 mod Enough
+mod Playable
+mod Unrefused

@@ -1,1 +1,3 @@
+pub mod Drills
 pub mod Enough
+pub mod Playable

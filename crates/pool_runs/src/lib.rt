@@ -1,4 +1,7 @@
-//! Runs over the pool: what a history of all processes owes to the scripts that they play.
+//! Runs over the pool: the scripts that a run plays, and what its history owes to them.
 #![tactic(auto)]
 
+mod drill;
 pub mod laws;
+
+pub use drill::drill_scripts;
