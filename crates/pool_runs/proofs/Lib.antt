@@ -1,3 +1,4 @@
 mod Enough
 mod Playable
+mod Settling
 mod Unrefused
