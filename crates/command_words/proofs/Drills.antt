@@ -1,8 +1,10 @@
 -- What a parse of `drill` says of its words.
-use Rattle.std.proofs.Common.{◌≡◌, ℕ, List, [], true, Option, Some, None, Result, Ok, Err, refl}
-use Rattle.std.specs.Prelude.{IfErr, IfOk}
+use Rattle.std.proofs.Common.{◌≡◌, ℕ, ◌≤◌, List, [], ◌∷◌, Bool, true, false, cond, Option, Some, None, Result, Ok, Err, refl, arith}
+use Rattle.std.specs.Prelude.{IfErr, IfOk, codes, nat_le}
+use Rattle.std.proofs.lemmas.Bool.Decides.{nat_tests}
 use Rattle.std.specs.Result.{result_ok}
 use Rattle.clap.specs.Kinds.{HasKind}
+use Rattle.clap.specs.Words.{Kinds}
 use Rattle.clap.specs.Simple.{App, is_simple, matches_of}
 use Rattle.clap.specs.Faults.{fault_of, is_simple_and_free}
 use Rattle.clap.specs.Values.{kind_of}
@@ -11,7 +13,8 @@ use Rattle.clap.specs.declared.error.Error.{Error}
 use Rattle.clap.specs.declared.error.kind.ErrorKind.TheVariants.{OutOfMemory}
 use Rattle.clap.specs.declared.parser.matches.Found.{Found}
 use Rattle.clap.proofs.OnLiterals.{clap_on_literals}
-use Rattle.command_words.specs.Drill.{drill_app, drill_in, drill_meant}
+use Rattle.command_words.specs.Options.{if_faultless, number_at}
+use Rattle.command_words.specs.Drill.{drill_app, drill_in, drill_meant, drill_with, most_calls}
 use Rattle.command_words.specs.declared.command.Drill.{Drill}
 use Rattle.command_words.specs.declared.fault.WordsFault.{WordsFault}
 use Rattle.command_words.specs.declared.fault.WordsFault.TheVariants.{Faulty}
@@ -45,3 +48,32 @@ pub asked_or_none : (meaning : Option Drill) (answer : Result Drill WordsFault) 
     → IfOk answer (λ drill. meaning ≡ Some drill) × IfErr answer (λ fault. fault ≡ Faulty → meaning ≡ None)
 asked_or_none meaning (Ok drill) is = (is, tt)
 asked_or_none meaning (Err _) is = (tt, λ _. is)
+
+-- numbers that ask for a drill ask for at most so many calls
+few_calls_with : (seed processes calls quantum : Option ℕ) (drill : Drill) → drill_with seed processes calls quantum ≡ Some drill → drill.calls ≤ most_calls
+few_calls_with (Some seed) (Some processes) (Some calls) (Some quantum) drill is = by_test (nat_le calls most_calls) refl is
+  where
+    by_test : (few : Bool) → nat_le calls most_calls ≡ few
+        → cond few (Some (record { seed = seed; processes = processes; calls = calls; quantum = quantum })) None ≡ Some drill → drill.calls ≤ most_calls
+    by_test true few same = let asked : calls ≡ drill.calls = cc in let low : calls ≤ most_calls = grind (arith, nat_tests) in omega (arith, asked, low)
+    by_test false few same = absurd cc
+few_calls_with None processes calls quantum drill is = absurd cc
+few_calls_with (Some seed) None calls quantum drill is = absurd cc
+few_calls_with (Some seed) (Some processes) None quantum drill is = absurd cc
+few_calls_with (Some seed) (Some processes) (Some calls) None drill is = absurd cc
+
+faultless : (kinds : Kinds) (meaning : Option Drill) (drill : Drill) → if_faultless kinds meaning ≡ Some drill → meaning ≡ Some drill
+faultless [] meaning drill is = is
+faultless (kind ∷ kinds) meaning drill is = absurd cc
+
+few_calls : (words : List (List ℕ)) (drill : Drill) → drill_meant words ≡ Some drill → drill.calls ≤ most_calls
+unfolding drill_meant
+few_calls words drill is =
+    let matches = matches_of drill_app words in
+    few_calls_with (number_at 64 (codes "seed") matches) (number_at 32 (codes "processes") matches) (number_at 32 (codes "calls") matches) (number_at 32 (codes "quantum") matches) drill
+    (faultless (fault_of drill_app words) (drill_in (matches_of drill_app words)) drill is)
+
+-- a drill that is answered makes at most so many calls
+pub answered_few : (words : List (List ℕ)) (answer : Result Drill WordsFault) → IfOk answer (λ drill. drill_meant words ≡ Some drill) → IfOk answer (λ drill. drill.calls ≤ most_calls)
+answered_few words (Ok drill) is = few_calls words drill is
+answered_few words (Err fault) is = tt

@@ -6,9 +6,10 @@ use Rattle.std.proofs.lemmas.List.{drop-map, take_rest}
 use Rattle.std.proofs.lemmas.Option.{slice_get-map, slice_get_read}
 use Rattle.std.proofs.lemmas.Slice.Eq.{bytes_eq-Decides}
 use Rattle.command_words.specs.Meant.{meant}
+use Rattle.command_words.specs.Drill.{drill_meant}
 use Rattle.command_words.specs.Play.{play_meant}
 use Rattle.command_words.specs.declared.command.Command.{Command}
-use Rattle.command_words.specs.declared.command.Command.TheVariants.{Play}
+use Rattle.command_words.specs.declared.command.Command.TheVariants.{Drill, Play}
 use Rattle.command_words.specs.declared.fault.WordsFault.{WordsFault}
 use Rattle.command_words.specs.declared.fault.WordsFault.TheVariants.{Faulty}
 
@@ -36,16 +37,29 @@ meant-play [] some = cc
 meant-play (program ∷ []) some = cc
 meant-play (program ∷ name ∷ rest) some = let same : name ≡ codes "play" = cc in rw same refl
 
--- where no command has that name, nothing is meant
-pub meant-unknown : (words : List (List ℕ)) (name : List ℕ) → slice_get words 1 ≡ Some name → ¬ (name ≡ codes "play") → meant words ≡ None
+-- where it is `drill`, what they ask of `drill`
+pub meant-drill : (words : List (List ℕ)) → slice_get words 1 ≡ Some (codes "drill") → meant words ≡ option_map Drill (drill_meant (drop 1 words))
 unfolding meant
-meant-unknown [] name some other = refl
-meant-unknown (program ∷ []) name some other = refl
-meant-unknown (program ∷ second ∷ rest) name some other = go (bytes_eq second (codes "play")) refl
+meant-drill [] some = cc
+meant-drill (program ∷ []) some = cc
+meant-drill (program ∷ name ∷ rest) some = let same : name ≡ codes "drill" = cc in rw same refl
+
+-- a name that isn't this one is not equal to it
+is_other : (name known : List ℕ) → ¬ (name ≡ known) → bytes_eq name known ≡ false
+is_other name known other = go (bytes_eq name known) refl
   where
-    go : (b : Bool) → bytes_eq second (codes "play") ≡ b → meant (program ∷ second ∷ rest) ≡ None
-    go true is = let same : second ≡ name = cc in absurd (other (sym same ∙ (bytes_eq-Decides second (codes "play")).0 is))
-    go false is = rw is refl
+    go : (b : Bool) → bytes_eq name known ≡ b → bytes_eq name known ≡ false
+    go true is = absurd (other ((bytes_eq-Decides name known).0 is))
+    go false is = is
+
+-- where no command has that name, nothing is meant
+pub meant-unknown : (words : List (List ℕ)) (name : List ℕ) → slice_get words 1 ≡ Some name → ¬ (name ≡ codes "play") → ¬ (name ≡ codes "drill") → meant words ≡ None
+unfolding meant
+meant-unknown [] name some no_play no_drill = refl
+meant-unknown (program ∷ []) name some no_play no_drill = refl
+meant-unknown (program ∷ second ∷ rest) name some no_play no_drill =
+    let same : second ≡ name = cc in
+    rw (same, is_other name (codes "play") no_play, is_other name (codes "drill") no_drill) refl
 
 -- a fault that is handed on comes where it came before
 pub handed_on : (answer : Result Command WordsFault) (first : WordsFault) (Cause : Type 0) → IsErrAnd answer (λ fault. fault ≡ first)

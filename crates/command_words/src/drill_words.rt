@@ -1,5 +1,5 @@
 // The words of `drill`.
-ghost use Rattle.std.specs.Prelude.{◌≡◌, Some, None, IfOk, IfErr, map, string_bytes};
+ghost use Rattle.std.specs.Prelude.{◌≡◌, ◌≤◌, Some, None, IfOk, IfErr, map, string_bytes};
 ghost use Rattle.clap.specs.Words.{app_of, found_of, rows_of};
 ghost use Rattle.command_words.specs.Drill.{drill_app, drill_in, drill_meant};
 ghost use Rattle.command_words.specs.declared.fault.WordsFault.TheVariants.{Faulty};
@@ -15,6 +15,7 @@ use std::alloc::{AllocError, Global};
 /// `Faulty` exactly where they ask for nothing; `NoMemory` for want of memory.
 pub fn read_drill(alloc: Global, words: &[String]) -> Result<Drill, WordsFault>
     ensures ok { IfOk result (λ drill. drill_meant (map string_bytes words.now) ≡ Some drill) }
+    ensures few { IfOk result (λ drill. drill.calls ≤ MOST_CALLS) }
     ensures faulty { IfErr result (λ fault. fault ≡ Faulty → drill_meant (map string_bytes words.now) ≡ None) }
 {
     let command = drill_command(alloc)?;
