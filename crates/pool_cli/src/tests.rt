@@ -426,6 +426,7 @@ fn large_drill(rt: HostRuntime) -> Result<(), Fail> {
 }
 
 // A gate at which each of two processes waits before its first call until the other is before its own.
+#[derive(Drop)]
 struct Meeting {
     first: AtomicBool,
     second: AtomicBool,
