@@ -7,3 +7,4 @@ pub mod Readers
 pub mod Taking
 pub mod Meanings
 pub mod Making
+pub mod Short
