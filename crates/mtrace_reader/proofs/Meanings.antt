@@ -5,13 +5,16 @@ use Rattle.std.proofs.lemmas.Bool.{false≢true}
 use Rattle.std.proofs.lemmas.Bool.Decides.{Decides-eqb, Decides-or}
 use Rattle.std.proofs.lemmas.List.{reverse-append, reverse-reverse}
 use Rattle.std.proofs.lemmas.Slice.Eq.{bytes_eq-Decides}
-use Rattle.mtrace_reader.specs.declared.line.Meaning.{Meaning}
-use Rattle.mtrace_reader.specs.declared.line.Meaning.TheVariants.{Skipped, Says, Bad}
+use Rattle.line_text.specs.declared.meaning.Meaning.{Meaning}
+use Rattle.line_text.specs.declared.meaning.Meaning.TheVariants.{Skipped, Says, Bad}
+use Rattle.line_text.specs.Meanings.{meaning_said}
+use Rattle.line_text.specs.Words.{words}
+use Rattle.line_text.proofs.Choices.{chosen, some_is}
 use Rattle.mtrace_reader.specs.declared.trace.Operation.{Operation}
 use Rattle.mtrace_reader.specs.declared.trace.Operation.TheVariants.{New, Release, Failed}
-use Rattle.mtrace_reader.specs.Words.{words, NoneOrBeginsWith, none_or_begins_with}
+use Rattle.mtrace_reader.specs.Words.{NoneOrBeginsWith, none_or_begins_with}
 use Rattle.mtrace_reader.specs.Value.{address_of, size_of}
-use Rattle.mtrace_reader.specs.Line.{at_sign, equals_sign, IsSkipped, Spells, IsOperation, Means, said_by_sign, said_before, said_by_release, said_by, meaning_said, meaning_of}
+use Rattle.mtrace_reader.specs.Line.{at_sign, equals_sign, IsSkipped, Spells, IsOperation, Means, said_by_sign, said_before, said_by_release, said_by, meaning_of}
 
 -- the test of the first word
 pub begins-true : (byte : ℕ) (ws : List (List ℕ)) → none_or_begins_with byte ws ≡ true → NoneOrBeginsWith byte ws
@@ -24,19 +27,9 @@ true-begins byte [] h = refl
 true-begins byte ([] ∷ others) h = absurd h
 true-begins byte ((first ∷ bytes) ∷ others) h = (Decides-eqb first byte).1 h
 
--- how a choice went
-pub chosen : {A : Type 0} (b : Bool) (x y z : A) → cond b x y ≡ z → ((b ≡ true) × (x ≡ z)) ⊎ ((b ≡ false) × (y ≡ z))
-chosen b x y z h =
-    elim b as (λ v. cond v x y ≡ z → ((v ≡ true) × (x ≡ z)) ⊎ ((v ≡ false) × (y ≡ z)))
-    [ true ↦ λ e. inl (refl, e) | false ↦ λ e. inr (refl, e) ]
-    h
-
 -- what isn't true is false
 pub false_from_not : (b : Bool) → (b ≡ true → ⊥) → b ≡ false
 false_from_not b h = elim b as (λ v. (v ≡ true → ⊥) → v ≡ false) [ true ↦ λ e. absurd (e refl) | false ↦ λ _. refl ] h
-
-pub some_is : {A : Type 0} (x y : A) → Some x ≡ Some y → x ≡ y
-some_is x y h = cc
 
 -- which of two words a word is
 Decides-either : (word a b : List ℕ) → Decides (bytes_eq word a || bytes_eq word b) ((word ≡ a) ⊎ (word ≡ b))
@@ -204,7 +197,7 @@ unsaid ws none =
     refl
 
 -- A line that has a meaning has the one that is computed.
-pub meant_is_computed : (line : List ℕ) (meaning : Meaning) → Means line meaning → meaning_of line ≡ meaning
+pub meant_is_computed : (line : List ℕ) (meaning : Meaning Operation) → Means line meaning → meaning_of line ≡ meaning
 meant_is_computed line Skipped means = rw (true-begins equals_sign (words line) means) refl
 meant_is_computed line (Says operation) means =
     let other = false_from_not (none_or_begins_with equals_sign (words line)) (λ e. operation_not_skipped (words line) operation means (begins-true equals_sign (words line) e)) in
@@ -213,6 +206,6 @@ meant_is_computed line Bad means =
     let other = false_from_not (none_or_begins_with equals_sign (words line)) (λ e. means.0 (begins-true equals_sign (words line) e)) in
     rw other (unsaid (words line) means.1)
 
-pub each_line_means_one_thing : (line : List ℕ) (meaning : Meaning) → (Means line meaning → meaning_of line ≡ meaning) × (meaning_of line ≡ meaning → Means line meaning)
+pub each_line_means_one_thing : (line : List ℕ) (meaning : Meaning Operation) → (Means line meaning → meaning_of line ≡ meaning) × (meaning_of line ≡ meaning → Means line meaning)
 each_line_means_one_thing line meaning =
     (meant_is_computed line meaning, λ e. subst (Means line) e (computed_is_meant line _ _ refl refl))

@@ -6,7 +6,7 @@ use Rattle.std.specs.Ordering.{nat_cmp}
 use Rattle.std.specs.BTreeMap.{get}
 use Rattle.std.proofs.lemmas.Bool.Decides.{nat_tests}
 use Rattle.std.proofs.lemmas.Map.Entries.{lookup-filter-keys}
-use Rattle.mtrace_reader.proofs.LivePairs.{same_key, cond_not}
+use Rattle.line_text.proofs.Choices.{same_key, cond_not}
 use Rattle.store_script.specs.declared.quad.Quad.{Quad}
 use Rattle.store_script.specs.declared.answered.Answered.TheVariants.{Done}
 use Rattle.store_script.specs.declared.replies.PlainStore.{PlainStore}

@@ -4,16 +4,17 @@ use Rattle.std.specs.Prelude.{nat_lt}
 use Rattle.std.specs.Str.{bytes_eq}
 use Rattle.std.proofs.lemmas.Bool.Decides.{Decides-and, Decides-ltb}
 use Rattle.std.proofs.lemmas.Slice.Eq.{bytes_eq-Decides}
-use Rattle.mtrace_reader.specs.Words.{words}
-use Rattle.mtrace_reader.proofs.Meanings.{chosen, some_is}
+use Rattle.line_text.specs.Words.{words}
+use Rattle.line_text.specs.Meanings.{meaning_said}
+use Rattle.line_text.proofs.Choices.{chosen, some_is}
 use Rattle.store_script.specs.Number.{number_of}
 use Rattle.store_script.specs.declared.quad.Quad.{Quad}
-use Rattle.store_script.specs.declared.line.Meaning.{Meaning}
-use Rattle.store_script.specs.declared.line.Meaning.TheVariants.{Skipped, Says, Bad}
+use Rattle.line_text.specs.declared.meaning.Meaning.{Meaning}
+use Rattle.line_text.specs.declared.meaning.Meaning.TheVariants.{Skipped, Says, Bad}
 use Rattle.store_script.specs.declared.line.Request.{Request}
 use Rattle.store_script.specs.declared.line.Request.TheVariants.{Put, Get, Set, Del}
 use Rattle.store_script.specs.Line.{AreNumbers, Spells, Means, with_number, numbers_of, said_of_one, said_of_three, said_of_five, said_of}
-use Rattle.store_script.specs.Line.{said, meaning_said, meaning_of_words, meaning_of}
+use Rattle.store_script.specs.Line.{said, meaning_of_words, meaning_of}
 
 -- numbers that words spell are computed
 numbers_complete : (ws : List (List ℕ)) (ns : List ℕ) → AreNumbers ws ns → numbers_of ws ≡ Some ns
@@ -116,7 +117,7 @@ said_complete name ws (Set key index value) spells =
 said_complete name ws (Del key) spells = rw (numbers_complete ws _ spells.1, spells.0) refl
 
 -- the meaning of words
-abbrev WordsMean : List (List ℕ) → Meaning → Type 0
+abbrev WordsMean : List (List ℕ) → Meaning Request → Type 0
 WordsMean ws Skipped = ws ≡ []
 WordsMean ws (Says request) = Spells ws request
 WordsMean ws Bad = ¬ (ws ≡ []) × ((request : Request) → ¬ (Spells ws request))
@@ -137,7 +138,7 @@ unsaid : (name : List ℕ) (ws : List (List ℕ)) (o : Option Request) → said 
 unsaid name ws None is no_request = refl
 unsaid name ws (Some request) is no_request = absurd (no_request request (said_sound name ws request is))
 
-meant_is_computed : (ws : List (List ℕ)) (meaning : Meaning) → WordsMean ws meaning → meaning_of_words ws ≡ meaning
+meant_is_computed : (ws : List (List ℕ)) (meaning : Meaning Request) → WordsMean ws meaning → meaning_of_words ws ≡ meaning
 meant_is_computed [] Skipped means = refl
 meant_is_computed [] (Says request) means = absurd means
 meant_is_computed [] Bad means = absurd (means.0 refl)
@@ -145,17 +146,17 @@ meant_is_computed (name ∷ ws) Skipped means = cc
 meant_is_computed (name ∷ ws) (Says request) means = ap meaning_said (said_complete name ws request means)
 meant_is_computed (name ∷ ws) Bad means = unsaid name ws (said name (numbers_of ws)) refl means.1
 
-means_by_words : (line : List ℕ) (meaning : Meaning) → WordsMean (words line) meaning → Means line meaning
+means_by_words : (line : List ℕ) (meaning : Meaning Request) → WordsMean (words line) meaning → Means line meaning
 means_by_words line Skipped means = means
 means_by_words line (Says request) means = means
 means_by_words line Bad means = means
 
-words_by_means : (line : List ℕ) (meaning : Meaning) → Means line meaning → WordsMean (words line) meaning
+words_by_means : (line : List ℕ) (meaning : Meaning Request) → Means line meaning → WordsMean (words line) meaning
 words_by_means line Skipped means = means
 words_by_means line (Says request) means = means
 words_by_means line Bad means = means
 
-pub each_line_means_one_thing : (line : List ℕ) (meaning : Meaning)
+pub each_line_means_one_thing : (line : List ℕ) (meaning : Meaning Request)
     → (Means line meaning → meaning_of line ≡ meaning) × (meaning_of line ≡ meaning → Means line meaning)
 each_line_means_one_thing line meaning = (
   λ means. meant_is_computed (words line) meaning (words_by_means line meaning means),

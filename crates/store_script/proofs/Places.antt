@@ -4,7 +4,7 @@ use Rattle.std.proofs.Common.{arith}
 use Rattle.std.proofs.lemmas.Bool.Decides.{nat_tests}
 use Rattle.std.proofs.Common.{◌<◌, suc, get_or, ap}
 use Rattle.std.proofs.lemmas.Bool.{eqb-true}
-use Rattle.mtrace_reader.proofs.Meanings.{some_is}
+use Rattle.line_text.proofs.Choices.{some_is}
 use Rattle.std.specs.Ordering.{nat_cmp}
 use Rattle.std.specs.BTreeMap.{get, btree_map_len}
 use Rattle.std.proofs.lemmas.List.{length-append}

@@ -1,5 +1,5 @@
 use Rattle.std.proofs.Common.{arith, ap, ◌∙◌, ◌+◌, ◌∷◌, [], ◌++◌}
-use Rattle.mtrace_reader.specs.Reading.{said}
+use Rattle.line_text.specs.Meanings.{said}
 use Rattle.mtrace_reader.proofs.Readers.{has_read_line}
 use Rattle.mtrace_reader.proofs.reading.LineReader.read_end.Goals as goal
 
