@@ -2,7 +2,8 @@
 use Rattle.std.proofs.Common.{◌≡◌, ◌≢◌, ℕ, ◌+◌, ◌-◌, ◌<◌, ◌≤◌, Bool, true, false, cond, List, [], ◌∷◌, ◌++◌, length, get_or, take, drop}
 use Rattle.std.proofs.Common.{drop-cons, suc, subst, inl, inr, refl, ap, sym, ◌∙◌, arith}
 use Rattle.std.specs.List.{slice_split, onto_first, All}
-use Rattle.std.proofs.lemmas.List.{append-nil, length-drop, length-take-le, get_or-drop, get_or-take, take-append-drop, append_assoc, take_more}
+use Rattle.std.proofs.lemmas.List.{append-nil, length-drop, length-take-le, get_or-drop, get_or-take, take-append-drop, append_assoc}
+use Rattle.std.proofs.lemmas.List.{take_more}
 use Rattle.std.proofs.lemmas.List.{take_all, drop_all}
 use Rattle.std.proofs.Math.Seq.{split_at}
 use Rattle.std.proofs.lemmas.List.Elements.{filter-append, All-from_get_or}
@@ -33,11 +34,14 @@ onto_first-append : (x : ℕ) (parts others : List (List ℕ)) → HasFirst part
 onto_first-append x parts others h = rw h.is refl
 
 -- the parts before a byte at which a list is cut, and the parts after it
-pub slice_split-append : (p : ℕ → Bool) (xs : List ℕ) (y : ℕ) (ys : List ℕ) → p y ≡ true → slice_split p (xs ++ y ∷ ys) ≡ slice_split p xs ++ slice_split p ys
+pub slice_split-append : (p : ℕ → Bool) (xs : List ℕ) (y : ℕ) (ys : List ℕ) → p y ≡ true
+    → slice_split p (xs ++ y ∷ ys) ≡ slice_split p xs ++ slice_split p ys
 slice_split-append p [] y ys passes = rw passes refl
 slice_split-append p (x ∷ xs) y ys passes =
     rw (slice_split-append p xs y ys passes)
-    (elim (p x) as (λ b. cond b ([] ∷ slice_split p xs ++ slice_split p ys) (onto_first x (slice_split p xs ++ slice_split p ys)) ≡ cond b ([] ∷ slice_split p xs) (onto_first x (slice_split p xs)) ++ slice_split p ys) [
+    (elim (p x) as (λ b.
+    cond b ([] ∷ slice_split p xs ++ slice_split p ys) (onto_first x (slice_split p xs ++ slice_split p ys))
+    ≡ cond b ([] ∷ slice_split p xs) (onto_first x (slice_split p xs)) ++ slice_split p ys) [
       | true ↦ refl
       | false ↦ onto_first-append x (slice_split p xs) (slice_split p ys) (slice_split_has_first p xs)
     ])
@@ -64,7 +68,8 @@ by_last xs y some is =
     ap (λ z. take k xs ++ z ∷ []) (sym is) ∙ sym (take_more xs k 0 below) ∙ ap (λ n. take n xs) full ∙ take_all (length xs) xs (omega arith)
 
 -- The last run of bytes is the last word, where a space stands before it or nothing.
-pub words-append_run : (front run : List ℕ) → 0 < length run → All (λ byte. is_space byte ≡ false) run → (0 < length front → get_or front (length front - 1) 0 ≡ 32) → words (front ++ run) ≡ words front ++ run ∷ []
+pub words-append_run : (front run : List ℕ) → 0 < length run → All (λ byte. is_space byte ≡ false) run
+    → (0 < length front → get_or front (length front - 1) 0 ≡ 32) → words (front ++ run) ≡ words front ++ run ∷ []
 words-append_run [] run some spaceless before = words_of_run run some spaceless
 words-append_run (byte ∷ bytes) run some spaceless before =
     let front = byte ∷ bytes in
@@ -77,7 +82,8 @@ words-append_run (byte ∷ bytes) run some spaceless before =
     in subst P is joined
 
 -- the last run of a line begins within it, where the line doesn't end with a space
-pub begins_within : (line : List ℕ) (start : ℕ) → 0 < length line → start ≤ length line → get_or line (length line - 1) 0 ≢ 32 → (0 < start → get_or line (start - 1) 0 ≡ 32) → start < length line
+pub begins_within : (line : List ℕ) (start : ℕ) → 0 < length line → start ≤ length line → get_or line (length line - 1) 0 ≢ 32
+    → (0 < start → get_or line (start - 1) 0 ≡ 32) → start < length line
 begins_within line start some fits ends before =
     elim (cases_lt start (length line)) as (λ _. start < length line) [
       | inl within ↦ within
@@ -87,7 +93,8 @@ begins_within line start some fits ends before =
     ]
 
 -- The words of a line that is cut where its last word begins.
-pub words_at_last_run : (line : List ℕ) (start : ℕ) → start < length line → ((k : ℕ) → start ≤ k → k < length line → get_or line k 0 ≢ 32) → (0 < start → get_or line (start - 1) 0 ≡ 32) → words line ≡ words (take start line) ++ drop start line ∷ []
+pub words_at_last_run : (line : List ℕ) (start : ℕ) → start < length line → ((k : ℕ) → start ≤ k → k < length line → get_or line k 0 ≢ 32)
+    → (0 < start → get_or line (start - 1) 0 ≡ 32) → words line ≡ words (take start line) ++ drop start line ∷ []
 words_at_last_run line start within run before =
     let front = take start line in
     let word = drop start line in
@@ -124,7 +131,8 @@ module _ (line : List ℕ) (end : ℕ) (within : end ≤ length line) (run : (k 
       split_at line end 0 below ∙ ap (λ byte. take end line ++ byte ∷ drop (suc end) line) space
       in
       let rest : drop end line ≡ 32 ∷ drop (suc end) line = drop-cons line end 0 below ∙ ap (λ byte. byte ∷ drop (suc end) line) space in
-      ap words parts ∙ words-append (take end line) (drop (suc end) line) ∙ ap (λ first. first ++ words (drop (suc end) line)) (word_is longer)
+      ap words parts ∙ words-append (take end line) (drop (suc end) line)
+      ∙ ap (λ first. first ++ words (drop (suc end) line)) (word_is longer)
       ∙ ap (λ more. take end line ∷ words more) (sym rest)
 
   -- nothing stands behind it
@@ -140,7 +148,8 @@ module _ (line : List ℕ) (end : ℕ) (within : end ≤ length line) (run : (k 
   words_at_first_run longer begins space =
       let some_run : 0 < end = elim (cases_lt 0 end) as (λ _. 0 < end) [
         | inl above ↦ above
-        | inr none_of ↦ let zero_is : end ≡ 0 = omega arith in absurd (begins (ap (λ n. get_or line n 0) (sym zero_is) ∙ space (omega arith)))
+        | inr none_of ↦ let zero_is : end ≡ 0 = omega arith in
+            absurd (begins (ap (λ n. get_or line n 0) (sym zero_is) ∙ space (omega arith)))
       ]
       in
       elim (cases_lt end (length line)) as (λ _. words line ≡ take end line ∷ words (drop end line)) [

@@ -1,5 +1,6 @@
 -- Bytes that are cut into lines, and what more bytes change.
-use Rattle.std.proofs.Common.{◌≡◌, ℕ, ◌+◌, ◌<◌, ◌≤◌, true, false, cond, List, [], ◌∷◌, ◌++◌, length, get_or, take, drop, suc, add-one, map, position, None, Some, inl, inr, refl, ap, sym, ◌∙◌, arith}
+use Rattle.std.proofs.Common.{◌≡◌, ℕ, ◌+◌, ◌<◌, ◌≤◌, true, false, cond, List, [], ◌∷◌, ◌++◌, length, get_or, take, drop, suc, add-one, map}
+use Rattle.std.proofs.Common.{position, None, Some, inl, inr, refl, ap, sym, ◌∙◌, arith}
 use Rattle.std.specs.Option.{option_or}
 use Rattle.std.specs.Bool.{then_some}
 use Rattle.std.specs.List.{position_or_len, onto_first}
@@ -66,7 +67,8 @@ record IsCut (bytes : List ℕ) (parts : List (List ℕ)) : Type 0 where
   few : length (front parts) + length (last parts) ≤ length bytes
   goes_on : (more : List ℕ) → pieces (bytes ++ more) ≡ front parts ++ pieces (last parts ++ more)
 
-IsCut-end : (byte : ℕ) (bytes : List ℕ) (parts : List (List ℕ)) → HasFirst parts → is_end byte ≡ true → IsCut bytes parts → IsCut (byte ∷ bytes) ([] ∷ parts)
+IsCut-end : (byte : ℕ) (bytes : List ℕ) (parts : List (List ℕ)) → HasFirst parts → is_end byte ≡ true → IsCut bytes parts
+    → IsCut (byte ∷ bytes) ([] ∷ parts)
 IsCut-end byte bytes parts some ends cut =
     let first = front-cons [] parts some in
     let others = last-cons [] parts some in
@@ -76,7 +78,8 @@ IsCut-end byte bytes parts some ends cut =
       goes_on = λ more. rw (first, others, ends) (ap (λ rest. [] ∷ rest) (cut.goes_on more));
     }
 
-IsCut-other : (byte : ℕ) (bytes : List ℕ) (parts : List (List ℕ)) → HasFirst parts → is_end byte ≡ false → IsCut bytes parts → IsCut (byte ∷ bytes) (onto_first byte parts)
+IsCut-other : (byte : ℕ) (bytes : List ℕ) (parts : List (List ℕ)) → HasFirst parts → is_end byte ≡ false → IsCut bytes parts
+    → IsCut (byte ∷ bytes) (onto_first byte parts)
 IsCut-other byte bytes [] some other cut = absurd (let none = some.is in cc)
 IsCut-other byte bytes (part ∷ []) some other cut = record {
   open_end = All-cons (λ b. is_end b ≡ false) byte part other cut.open_end;
@@ -128,7 +131,8 @@ module _ (bytes more : List ℕ) (open_end : HasNoEnd more) where
   two_pieces : pieces (last_piece bytes ++ (more ++ 10 ∷ [])) ≡ (last_piece bytes ++ more) ∷ [] ∷ []
   two_pieces =
       ap pieces (sym (append_assoc (last_piece bytes) more (10 ∷ [])))
-      ∙ slice_split_at is_end (last_piece bytes ++ more) 10 [] (All-append (λ b. is_end b ≡ false) (last_piece bytes) more (is_cut bytes).open_end open_end) refl
+      ∙ slice_split_at is_end (last_piece bytes ++ more) 10 []
+      (All-append (λ b. is_end b ≡ false) (last_piece bytes) more (is_cut bytes).open_end open_end) refl
 
   pub lines_with_line : lines (bytes ++ (more ++ 10 ∷ [])) ≡ lines bytes ++ (last_piece bytes ++ more) ∷ []
   lines_with_line = lines-append bytes (more ++ 10 ∷ []) ∙ ap (λ parts. lines bytes ++ front parts) two_pieces

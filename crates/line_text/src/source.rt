@@ -1,5 +1,6 @@
 // A source that is read to its end, or to one byte past a limit, piece by piece.
-ghost use Rattle.std.specs.Prelude.{◌≡◌, ◌≢◌, ◌+◌, ◌<◌, ◌≤◌, ◌^◌, ℕ, List, [], ◌∷◌, ◌++◌, Some, None, length, min, vec_len, IfOk, IfSome, IsOk, OnOk, OnErr, Err};
+ghost use Rattle.std.specs.Prelude.{◌≡◌, ◌≢◌, ◌+◌, ◌<◌, ◌≤◌, ◌^◌, ℕ, List, [], ◌∷◌, ◌++◌, Some, None, length, min, vec_len, IfOk, IfSome};
+ghost use Rattle.std.specs.Prelude.{IsOk, OnOk, OnErr, Err};
 ghost use Rattle.pool_io.specs.Counts.{HasRisen};
 ghost use Rattle.pool_io.specs.Told.{HandsOut, IsAtEnd};
 ghost use Rattle.line_text.specs.Taken.{GivesAll, HasRoom, HasSoMany, ReadsOf};

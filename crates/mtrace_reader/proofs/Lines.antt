@@ -15,7 +15,8 @@ said_by_piece [] = omega arith
 said_by_piece (byte ∷ bytes) = omega (arith, said_by_one (meaning_of (byte ∷ bytes)))
 
 -- the operations are those of the lines and that of the last piece
-pub operations_of-parts : (bytes : List ℕ) → operations_of bytes ≡ said (map meaning_of (lines bytes)) ++ said (meaning_of (last_piece bytes) ∷ [])
+pub operations_of-parts : (bytes : List ℕ)
+    → operations_of bytes ≡ said (map meaning_of (lines bytes)) ++ said (meaning_of (last_piece bytes) ∷ [])
 operations_of-parts bytes =
     ap (λ parts. said (map meaning_of parts)) (front_and_last (pieces bytes) (slice_split_has_first is_end bytes))
     ∙ ap said (map-append meaning_of (lines bytes) (last_piece bytes ∷ []))

@@ -31,18 +31,23 @@ module _ (bytes more : List ℕ) (before after : LineReader) (open_end : HasNoEn
         operations = same_operations ∙ read.operations ∙ ap (λ parts. said (map meaning_of parts)) (sym same);
         bad_line = same_bad ∙ read.bad_line ∙ ap (λ parts. first_bad 1 (map meaning_of parts)) (sym same);
         number = same_number ∙ read.number ∙ ap (λ parts. length parts + 1) (sym same);
-        unfinished = grown ∙ ap (λ start. start ++ more) read.unfinished ∙ sym (last_piece_with_more bytes more open_end) ∙ ap last_piece whole;
+        unfinished = grown ∙ ap (λ start. start ++ more) read.unfinished ∙ sym (last_piece_with_more bytes more open_end)
+            ∙ ap last_piece whole;
       }
 
   -- the others of a line's bytes and its end
   pub has_read_line : (meaning : Meaning Operation) → meaning ≡ meaning_of (before.unfinished.items ++ more)
-      → after.operations.items ≡ before.operations.items ++ said (meaning ∷ []) → after.bad_line ≡ option_or before.bad_line (then_some (is_bad meaning) before.number)
+      → after.operations.items ≡ before.operations.items ++ said (meaning ∷ [])
+      → after.bad_line ≡ option_or before.bad_line (then_some (is_bad meaning) before.number)
       → after.number ≡ before.number + 1 → after.unfinished.items ≡ [] → HasRead (bytes ++ (more ++ 10 ∷ [])) after
   has_read_line meaning means kept bad next emptied =
-      let same : lines (bytes ++ (more ++ 10 ∷ [])) ≡ lines bytes ++ (last_piece bytes ++ more) ∷ [] = lines_with_line bytes more open_end in
-      let means_piece : meaning ≡ meaning_of (last_piece bytes ++ more) = means ∙ ap (λ start. meaning_of (start ++ more)) read.unfinished in
+      let same : lines (bytes ++ (more ++ 10 ∷ [])) ≡ lines bytes ++ (last_piece bytes ++ more) ∷ [] =
+      lines_with_line bytes more open_end in
+      let means_piece : meaning ≡ meaning_of (last_piece bytes ++ more) = means
+      ∙ ap (λ start. meaning_of (start ++ more)) read.unfinished in
       let meanings : map meaning_of (lines (bytes ++ (more ++ 10 ∷ []))) ≡ map meaning_of (lines bytes) ++ meaning ∷ [] =
-      ap (map meaning_of) same ∙ map-append meaning_of (lines bytes) ((last_piece bytes ++ more) ∷ []) ∙ ap (λ m. map meaning_of (lines bytes) ++ m ∷ []) (sym means_piece)
+      ap (map meaning_of) same ∙ map-append meaning_of (lines bytes) ((last_piece bytes ++ more) ∷ [])
+      ∙ ap (λ m. map meaning_of (lines bytes) ++ m ∷ []) (sym means_piece)
       in
       record {
         operations =
@@ -58,8 +63,10 @@ module _ (bytes more : List ℕ) (before after : LineReader) (open_end : HasNoEn
       }
 
 -- all bytes
-pub is_reading : (bytes : List ℕ) (reader : LineReader) (trace : Trace) (meaning : Meaning Operation) → HasRead bytes reader → reader.bad_line ≡ None
-    → meaning ≡ meaning_of reader.unfinished.items → trace.operations ≡ reader.operations.items ++ said (meaning ∷ []) → trace.cut ≡ is_bad meaning
+pub is_reading : (bytes : List ℕ) (reader : LineReader) (trace : Trace) (meaning : Meaning Operation) → HasRead bytes reader
+    → reader.bad_line ≡ None
+    → meaning ≡ meaning_of reader.unfinished.items → trace.operations ≡ reader.operations.items ++ said (meaning ∷ [])
+    → trace.cut ≡ is_bad meaning
     → trace.bytes ≡ length bytes → IsReading bytes trace
 is_reading bytes reader trace meaning read none means kept cut count =
     let last_means : meaning ≡ meaning_of (last_piece bytes) = means ∙ ap meaning_of read.unfinished in

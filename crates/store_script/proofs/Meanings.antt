@@ -48,11 +48,14 @@ SaysOf name numbers (Del key) = (name ≡ codes "del") × (numbers ≡ key ∷ [
 
 one_sound : (name : List ℕ) (key : ℕ) (request : Request) → said_of_one name key ≡ Some request → SaysOf name (key ∷ []) request
 one_sound name key request is =
-    elim (chosen (bytes_eq name (codes "get")) (Some (Get key)) (cond (bytes_eq name (codes "del")) (Some (Del key)) None) (Some request) is) as (λ _. SaysOf name (key ∷ []) request) [
+    elim (chosen (bytes_eq name (codes "get")) (Some (Get key)) (cond (bytes_eq name (codes "del")) (Some (Del key)) None) (Some request)
+    is) as (λ _. SaysOf name (key ∷ []) request) [
       | inl get ↦ subst (SaysOf name (key ∷ [])) (some_is (Get key) request get.1) ((bytes_eq-Decides name (codes "get")).0 get.0, refl)
       | inr other ↦
-          elim (chosen (bytes_eq name (codes "del")) (Some (Del key)) None (Some request) other.1) as (λ _. SaysOf name (key ∷ []) request) [
-            | inl del ↦ subst (SaysOf name (key ∷ [])) (some_is (Del key) request del.1) ((bytes_eq-Decides name (codes "del")).0 del.0, refl)
+          elim (chosen (bytes_eq name (codes "del")) (Some (Del key)) None (Some request) other.1)
+          as (λ _. SaysOf name (key ∷ []) request) [
+            | inl del ↦ subst (SaysOf name (key ∷ [])) (some_is (Del key) request del.1)
+                ((bytes_eq-Decides name (codes "del")).0 del.0, refl)
             | inr neither ↦ absurd (cc (neither.1))
           ]
     ]
@@ -64,7 +67,8 @@ Decides-set name index =
 three_sound : (name : List ℕ) (key index value : ℕ) (request : Request) → said_of_three name key index value ≡ Some request
     → SaysOf name (key ∷ index ∷ value ∷ []) request
 three_sound name key index value request is =
-    elim (chosen (bytes_eq name (codes "set") && nat_lt index 4) (Some (Set key index value)) None (Some request) is) as (λ _. SaysOf name (key ∷ index ∷ value ∷ []) request) [
+    elim (chosen (bytes_eq name (codes "set") && nat_lt index 4) (Some (Set key index value)) None (Some request) is)
+    as (λ _. SaysOf name (key ∷ index ∷ value ∷ []) request) [
       | inl set ↦
           let both = (Decides-set name index).0 set.0 in
           subst (SaysOf name (key ∷ index ∷ value ∷ [])) (some_is (Set key index value) request set.1) (both.0, refl, both.1)
@@ -74,9 +78,11 @@ three_sound name key index value request is =
 five_sound : (name : List ℕ) (key : ℕ) (value : Quad) (request : Request) → said_of_five name key value ≡ Some request
     → SaysOf name (key ∷ value.a ∷ value.b ∷ value.c ∷ value.d ∷ []) request
 five_sound name key value request is =
-    elim (chosen (bytes_eq name (codes "put")) (Some (Put key value)) None (Some request) is) as (λ _. SaysOf name (key ∷ value.a ∷ value.b ∷ value.c ∷ value.d ∷ []) request) [
+    elim (chosen (bytes_eq name (codes "put")) (Some (Put key value)) None (Some request) is)
+    as (λ _. SaysOf name (key ∷ value.a ∷ value.b ∷ value.c ∷ value.d ∷ []) request) [
       | inl put ↦
-          subst (SaysOf name (key ∷ value.a ∷ value.b ∷ value.c ∷ value.d ∷ [])) (some_is (Put key value) request put.1) ((bytes_eq-Decides name (codes "put")).0 put.0, refl)
+          subst (SaysOf name (key ∷ value.a ∷ value.b ∷ value.c ∷ value.d ∷ [])) (some_is (Put key value) request put.1)
+          ((bytes_eq-Decides name (codes "put")).0 put.0, refl)
       | inr other ↦ absurd (cc (other.1))
     ]
 

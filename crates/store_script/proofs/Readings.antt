@@ -115,7 +115,8 @@ bytes_in-pieces : (bytes : List ℕ) → bytes_in (slice_split is_end bytes) ≤
 bytes_in-pieces [] = omega arith
 bytes_in-pieces (byte ∷ bytes) =
     let rest = bytes_in-pieces bytes in
-    elim (is_end byte) as (λ ends. bytes_in (cond ends ([] ∷ slice_split is_end bytes) (onto_first byte (slice_split is_end bytes))) ≤ length (byte ∷ bytes)) [
+    elim (is_end byte) as
+    (λ ends. bytes_in (cond ends ([] ∷ slice_split is_end bytes) (onto_first byte (slice_split is_end bytes))) ≤ length (byte ∷ bytes)) [
       | true ↦ omega arith
       | false ↦ omega (arith, bytes_in-onto_first byte (slice_split is_end bytes))
     ]
@@ -129,7 +130,14 @@ asked_by_lines (part ∷ parts) =
 -- a script has at most as many commands as bytes
 pub few_commands : (bytes : List ℕ) (script : StoreScript) → IsReading bytes script → length script.commands ≤ script.bytes
 few_commands bytes script is =
-    omega (arith, is.whole, sym (length-map script.commands request_of), ap length is.commands, asked_by_lines (pieces bytes), bytes_in-pieces bytes)
+    omega (
+      arith,
+      is.whole,
+      sym (length-map script.commands request_of),
+      ap length is.commands,
+      asked_by_lines (pieces bytes),
+      bytes_in-pieces bytes,
+    )
 
 pub few_answered : (bytes : List ℕ) (result : Result StoreScript TextFault) → AnswersTo bytes result
     → IfOk result (λ script. length script.commands ≤ script.bytes)

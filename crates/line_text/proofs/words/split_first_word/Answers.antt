@@ -9,4 +9,5 @@ returns c =
     let run = c.first_word_end.ensures in
     let longer : 0 < length line = grind (arith, nat_tests) in
     rw (c.split_at.ensures.front, c.split_at.ensures.back)
-    (sym c.trim_start-line.ensures.words ∙ words_at_first_run line _ run.within run.word longer (c.trim_start-line.ensures.begins longer) run.after)
+    (sym c.trim_start-line.ensures.words
+    ∙ words_at_first_run line _ run.within run.word longer (c.trim_start-line.ensures.begins longer) run.after)
