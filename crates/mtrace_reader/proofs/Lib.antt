@@ -4,3 +4,4 @@ pub mod Lines
 pub mod Readers
 pub mod Meanings
 pub mod Making
+pub mod Short
