@@ -60,9 +60,3 @@ meant-unknown (program ∷ []) name some no_play no_drill = refl
 meant-unknown (program ∷ second ∷ rest) name some no_play no_drill =
     let same : second ≡ name = cc in
     rw (same, is_other name (codes "play") no_play, is_other name (codes "drill") no_drill) refl
-
--- a fault that is handed on comes where it came before
-pub handed_on : (answer : Result Command WordsFault) (first : WordsFault) (Cause : Type 0) → IsErrAnd answer (λ fault. fault ≡ first)
-    → (first ≡ Faulty → Cause) → IfErr answer (λ fault. fault ≡ Faulty → Cause)
-handed_on (Ok command) first Cause same came = tt
-handed_on (Err last) first Cause same came = λ is. came (sym same ∙ is)

@@ -1,7 +1,7 @@
 -- The words of `drill`.
 use Rattle.std.specs.Prelude.{ℕ, List, Option, Some, None, codes, nat_le, if◌then◌else◌}
-use Rattle.clap.specs.Words.{App, Row, fault_of, matches_of, new_app, with_rule}
-use Rattle.command_words.specs.Options.{if_faultless, number_at, option_rule, without_help}
+use Rattle.clap.specs.Words.{App, Row, new_app, with_rule}
+use Rattle.command_words.specs.Options.{asked_of, number_at, option_rule, without_help}
 use Rattle.command_words.specs.declared.command.Drill.{Drill}
 
 -- how many calls are asked for at most
@@ -30,4 +30,4 @@ drill_in matches = drill_with (number_at 64 (codes "seed") matches) (number_at 3
 
 -- what `drill` and the words after it ask for; none where `clap` finds a fault in them
 unfoldable pub drill_meant : List (List ℕ) → Option Drill
-drill_meant words = if_faultless (fault_of drill_app words) (drill_in (matches_of drill_app words))
+drill_meant = asked_of drill_app drill_in

@@ -1,8 +1,8 @@
 -- The words of `play`.
 use Rattle.std.specs.Prelude.{ℕ, List, Option, Some, None, true, codes}
-use Rattle.clap.specs.Words.{App, Row, Rule, all_of, fault_of, matches_of, new_app, new_rule, with_rule}
+use Rattle.clap.specs.Words.{App, Row, Rule, all_of, new_app, new_rule, with_rule}
 use Rattle.clap.specs.declared.builder.action.ArgAction.TheVariants.{Append}
-use Rattle.command_words.specs.Options.{if_faultless, number_at, option_rule, without_help}
+use Rattle.command_words.specs.Options.{asked_of, number_at, option_rule, without_help}
 use Rattle.command_words.specs.declared.command.Play.{Play}
 
 -- the words that are no options: file names, one at least
@@ -31,4 +31,4 @@ play_in matches = play_with (number_at 32 (codes "batches") matches) (number_at 
 
 -- what `play` and the words after it ask for; none where `clap` finds a fault in them
 unfoldable pub play_meant : List (List ℕ) → Option Play
-play_meant words = if_faultless (fault_of play_app words) (play_in (matches_of play_app words))
+play_meant = asked_of play_app play_in

@@ -4,7 +4,8 @@ use Rattle.std.proofs.lemmas.Option.{slice_get-map, slice_get_past}
 use Rattle.command_words.specs.Drill.{drill_meant}
 use Rattle.command_words.specs.Play.{play_meant}
 use Rattle.command_words.specs.declared.command.Command.TheVariants.{Drill, Play}
-use Rattle.command_words.proofs.Meanings.{handed_on, meant-drill, meant-no_name, meant-play, meant-unknown, second_word, words_after}
+use Rattle.command_words.proofs.Meanings.{meant-drill, meant-no_name, meant-play, meant-unknown, second_word, words_after}
+use Rattle.command_words.proofs.Parses.{handed_on}
 use Rattle.command_words.proofs.read.read_words.Goals as goal
 
 pub returns-in_default-clause-faulty : goal.returns-in_default-clause-faulty
