@@ -33,19 +33,18 @@ number_at-text bits found name text is = number_in text ∙ ap (option_and_then 
     number_in None = refl
     number_in (Some u) = refl
 
--- words that match ask for what their matches ask for
-pub asked_of-matched : {Asked : Type 0} (app : App) (asked : List Row → Option Asked) (words : List (List ℕ)) (matches : List Row)
-    → IsMatchedBy app words matches → asked_of app asked words ≡ asked matches
-asked_of-matched app asked words matches is = rw is.faultless (ap asked (sym is.matched))
+module _ {Asked : Type 0} (asked : List Row → Option Asked) (app a : App) (words : List (List ℕ)) (is : a ≡ app) where
+  -- words that match ask for what their matches ask for
+  pub asked_of-matched : (matches : List Row) → IsMatchedBy a words matches → asked_of app asked words ≡ asked matches
+  asked_of-matched matches matched = subst (λ (b : App). asked_of b asked words ≡ asked matches) is (rw matched.faultless (ap asked (sym matched.matched)))
 
--- words that have a fault ask for nothing
-pub asked_of-refused : {Asked : Type 0} (app : App) (asked : List Row → Option Asked) (words : List (List ℕ)) → IsRefused app words
-    → asked_of app asked words ≡ None
-asked_of-refused app asked words refused = go (fault_of app words) refl
-  where
-    go : (kinds : Kinds) → fault_of app words ≡ kinds → if_faultless kinds (asked (matches_of app words)) ≡ None
-    go [] none = absurd (refused none)
-    go (kind ∷ kinds) some = refl
+  -- words that have a fault ask for nothing
+  pub asked_of-refused : IsRefused a words → asked_of app asked words ≡ None
+  asked_of-refused refused = subst (λ (b : App). asked_of b asked words ≡ None) is (go (fault_of a words) refl)
+    where
+      go : (kinds : Kinds) → fault_of a words ≡ kinds → if_faultless kinds (asked (matches_of a words)) ≡ None
+      go [] none = absurd (refused none)
+      go (kind ∷ kinds) some = refl
 
 -- where `clap` fails, and not for want of memory, there is a fault
 pub has_fault : (kinds : Kinds) (error : Error) → HasKind kinds error → ¬ (kind_of error ≡ OutOfMemory) → ¬ (kinds ≡ [])

@@ -1,7 +1,7 @@
 -- The options of a command, and what its words match, as `clap` reads one simple command.
-use Rattle.std.specs.Prelude.{◌≡◌, ℕ, List, [], ◌∷◌, Option, Some, None, true, option_and_then}
+use Rattle.std.specs.Prelude.{◌≡◌, ℕ, List, [], ◌∷◌, Option, Some, None, true, fold, option_and_then}
 use Rattle.clap.specs.Simple.{on_top}
-use Rattle.clap.specs.Words.{App, Kinds, Row, Rule, fault_of, first_of, is_simple, is_simple_and_free, matches_of, new_rule}
+use Rattle.clap.specs.Words.{App, Kinds, Row, Rule, fault_of, first_of, is_simple, is_simple_and_free, matches_of, new_app, new_rule, with_rule}
 use Rattle.clap.specs.declared.builder.action.ArgAction.TheVariants.{Set}
 use Rattle.command_words.specs.Number.{number_of}
 
@@ -12,6 +12,10 @@ option_rule name default = record (new_rule name) { long = Some name; action = S
 -- a command without the flags that ask for help
 abbrev pub without_help : App → App
 without_help = on_top (λ command. record command { disable_help_flag = true })
+
+-- a command with these options and files, in this order
+abbrev pub command_of : List ℕ → List Rule → App
+command_of name rules = fold with_rule (without_help (new_app name)) rules
 
 -- the number of at most so many bits that the matches have for an option
 abbrev pub number_at : ℕ → List ℕ → List Row → Option ℕ

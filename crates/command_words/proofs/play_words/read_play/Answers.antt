@@ -1,7 +1,6 @@
-use Rattle.std.proofs.Common.{◌∙◌, map, string_bytes, subst, sym}
+use Rattle.std.proofs.Common.{◌∙◌, subst, sym}
 use Rattle.std.proofs.lemmas.Result.{IfErr-weaker, IfOk-weaker}
-use Rattle.clap.specs.Words.{App, found_of, rows_of}
-use Rattle.command_words.specs.Options.{IsMatchedBy, IsReadable, IsRefused}
+use Rattle.command_words.specs.Options.{IsReadable}
 use Rattle.command_words.specs.Play.{play_app, play_in, play_meant}
 use Rattle.command_words.proofs.Parses.{asked_of-matched, asked_of-refused, handed_on}
 use Rattle.command_words.proofs.Plays.{play_is_readable}
@@ -13,23 +12,17 @@ read_matches-requires c = subst IsReadable (sym c.in_ok-play_command.ensures) pl
 pub returns-in_err-matches-clause-faulty : goal.returns-in_err-matches-clause-faulty
 unfolding play_meant
 returns-in_err-matches-clause-faulty c =
-    let words = map string_bytes c.args.words.now in
     handed_on c.from_residual-in_err-matches.result c.in_err-matches.field-0.0 _ c.from_residual-in_err-matches.ensures.1
-    (λ is. asked_of-refused play_app play_in words
-    (subst (λ (a : App). IsRefused a words) c.in_ok-play_command.ensures (c.in_err-matches.ensures.faulty is)))
+    (λ is. asked_of-refused play_in play_app _ _ c.in_ok-play_command.ensures (c.in_err-matches.ensures.faulty is))
 
 pub returns-clause-ok : goal.returns-clause-ok
 unfolding play_meant
 returns-clause-ok c =
-    let words = map string_bytes c.args.words.now in
-    let rows = rows_of (found_of c.in_ok-matches.matches) in
-    let matched = subst (λ (a : App). IsMatchedBy a words rows) c.in_ok-play_command.ensures c.in_ok-matches.ensures.ok in
-    IfOk-weaker c.play_of.result _ _ (λ play asked. asked_of-matched play_app play_in words rows matched ∙ asked) c.play_of.ensures.ok
+    let meant = asked_of-matched play_in play_app _ _ c.in_ok-play_command.ensures _ c.in_ok-matches.ensures.ok in
+    IfOk-weaker c.play_of.result _ _ (λ play asked. meant ∙ asked) c.play_of.ensures.ok
 
 pub returns-clause-faulty : goal.returns-clause-faulty
 unfolding play_meant
 returns-clause-faulty c =
-    let words = map string_bytes c.args.words.now in
-    let rows = rows_of (found_of c.in_ok-matches.matches) in
-    let matched = subst (λ (a : App). IsMatchedBy a words rows) c.in_ok-play_command.ensures c.in_ok-matches.ensures.ok in
-    IfErr-weaker c.play_of.result _ _ (λ fault none is. asked_of-matched play_app play_in words rows matched ∙ none is) c.play_of.ensures.faulty
+    let meant = asked_of-matched play_in play_app _ _ c.in_ok-play_command.ensures _ c.in_ok-matches.ensures.ok in
+    IfErr-weaker c.play_of.result _ _ (λ fault none is. meant ∙ none is) c.play_of.ensures.faulty
