@@ -1,6 +1,6 @@
 -- What a parse of `drill` says of its words.
-use Rattle.std.proofs.Common.{◌≡◌, Option, Some, None, Result, Ok, Err, refl, subst}
-use Rattle.std.specs.Prelude.{IfErr, IfOk, IfSome}
+use Rattle.std.proofs.Common.{◌≡◌, Option, Some, None, Result, Ok, Err, refl}
+use Rattle.std.specs.Prelude.{IfErr, IfOk}
 use Rattle.std.specs.Result.{result_ok}
 use Rattle.clap.proofs.OnLiterals.{clap_on_literals}
 use Rattle.command_words.specs.Options.{IsReadable}
@@ -19,9 +19,3 @@ pub asked_or_none : (meaning : Option Drill) (answer : Result Drill WordsFault) 
     → IfOk answer (λ drill. meaning ≡ Some drill) × IfErr answer (λ fault. fault ≡ Faulty → meaning ≡ None)
 asked_or_none meaning (Ok drill) is = (is, tt)
 asked_or_none meaning (Err _) is = (tt, λ _. is)
-
--- what holds of what is asked for holds of the answer
-pub of_answer : (P : Drill → Type 0) (asked : Option Drill) (answer : Result Drill WordsFault) → asked ≡ result_ok answer
-    → IfSome asked P → IfOk answer P
-of_answer P asked (Ok drill) is holds = subst (λ (some : Option Drill). IfSome some P) is holds
-of_answer P asked (Err _) is holds = tt

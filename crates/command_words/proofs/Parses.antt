@@ -25,18 +25,21 @@ pub app_of-without_help : (old new : Command) → out-Command new ≡ record (ou
 app_of-without_help old new is = ap app_of_fields is
 
 -- the text that the matches have for an option, if any, is what its number is read from
-pub number_at-text : (bits : ℕ) (found : Found) (name : List ℕ) (text : Option (Bor (List ℕ))) → option_map (λ t. t.now) text ≡ first_value found name
+pub number_at-text : (bits : ℕ) (found : Found) (name : List ℕ) (text : Option (Bor (List ℕ)))
+    → option_map (λ t. t.now) text ≡ first_value found name
     → option_and_then (λ t. number_of bits t.now) text ≡ number_at bits name (rows_of found)
 number_at-text bits found name text is = number_in text ∙ ap (option_and_then (number_of bits)) (is ∙ first_value-rows found name)
   where
-    number_in : (t : Option (Bor (List ℕ))) → option_and_then (λ u. number_of bits u.now) t ≡ option_and_then (number_of bits) (option_map (λ u. u.now) t)
+    number_in : (t : Option (Bor (List ℕ)))
+        → option_and_then (λ u. number_of bits u.now) t ≡ option_and_then (number_of bits) (option_map (λ u. u.now) t)
     number_in None = refl
     number_in (Some u) = refl
 
 module _ {Asked : Type 0} (asked : List Row → Option Asked) (app a : App) (words : List (List ℕ)) (is : a ≡ app) where
   -- words that match ask for what their matches ask for
   pub asked_of-matched : (matches : List Row) → IsMatchedBy a words matches → asked_of app asked words ≡ asked matches
-  asked_of-matched matches matched = subst (λ (b : App). asked_of b asked words ≡ asked matches) is (rw matched.faultless (ap asked (sym matched.matched)))
+  asked_of-matched matches matched =
+      subst (λ (b : App). asked_of b asked words ≡ asked matches) is (rw matched.faultless (ap asked (sym matched.matched)))
 
   -- words that have a fault ask for nothing
   pub asked_of-refused : IsRefused a words → asked_of app asked words ≡ None
@@ -58,6 +61,7 @@ handed_on (Ok asked) first Cause same came = tt
 handed_on (Err last) first Cause same came = λ is. came (sym same ∙ is)
 
 -- an answer that may be faulty where nothing is asked for
-pub may_be_faulty : {Asked : Type 0} (meaning : Option Asked) (answer : Result Asked WordsFault) → meaning ≡ None → IfErr answer (λ fault. fault ≡ Faulty → meaning ≡ None)
+pub may_be_faulty : {Asked : Type 0} (meaning : Option Asked) (answer : Result Asked WordsFault) → meaning ≡ None
+    → IfErr answer (λ fault. fault ≡ Faulty → meaning ≡ None)
 may_be_faulty meaning (Ok play) none = tt
 may_be_faulty meaning (Err _) none = λ _. none

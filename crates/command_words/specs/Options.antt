@@ -1,7 +1,8 @@
 -- The options of a command, and what its words match, as `clap` reads one simple command.
 use Rattle.std.specs.Prelude.{◌≡◌, ℕ, List, [], ◌∷◌, Option, Some, None, true, fold, option_and_then}
 use Rattle.clap.specs.Simple.{on_top}
-use Rattle.clap.specs.Words.{App, Kinds, Row, Rule, fault_of, first_of, is_simple, is_simple_and_free, matches_of, new_app, new_rule, with_rule}
+use Rattle.clap.specs.Words.{App, Kinds, Row, Rule, fault_of, first_of, is_simple, is_simple_and_free, matches_of}
+use Rattle.clap.specs.Words.{new_app, new_rule, with_rule}
 use Rattle.clap.specs.declared.builder.action.ArgAction.TheVariants.{Set}
 use Rattle.command_words.specs.Number.{number_of}
 

@@ -4,7 +4,7 @@ ghost use Rattle.clap.specs.Words.{app_of, found_of, rows_of};
 ghost use Rattle.command_words.specs.Drill.{drill_app, drill_in, drill_meant};
 ghost use Rattle.command_words.specs.declared.fault.WordsFault.TheVariants.{Faulty};
 
-use crate::options::{long_number_of_option, number_of_option, option, read_matches};
+use crate::options::{bare_command, long_number_of_option, number_of_option, option, read_matches};
 use crate::{Drill, MOST_CALLS, WordsFault};
 use clap::ArgMatches;
 use std::alloc::{AllocError, Global};
@@ -25,8 +25,7 @@ pub fn read_drill(alloc: Global, words: &[String]) -> Result<Drill, WordsFault>
 fn drill_command<'a>(alloc: Global) -> Result<clap::Command<'a>, AllocError>
     ensures { IfOk result (λ command. app_of command ≡ drill_app) }
 {
-    clap::Command::new(alloc, "drill")
-        .disable_help_flag(true)
+    bare_command(alloc, "drill")
         .arg(option(alloc, "seed", "1"))?
         .arg(option(alloc, "processes", "4"))?
         .arg(option(alloc, "calls", "1000"))?

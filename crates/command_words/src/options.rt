@@ -1,13 +1,20 @@
 // The options of a command, and the matches of its words.
-ghost use Rattle.std.specs.Prelude.{◌≡◌, false, IfOk, IfErr, map, string_bytes};
+ghost use Rattle.std.specs.Prelude.{◌≡◌, [], false, IfOk, IfErr, map, string_bytes};
 ghost use Rattle.clap.specs.Words.{app_of, found_of, rows_of, rule_of};
-ghost use Rattle.command_words.specs.Options.{IsMatchedBy, IsReadable, IsRefused, number_at, option_rule};
+ghost use Rattle.command_words.specs.Options.{IsMatchedBy, IsReadable, IsRefused, command_of, number_at, option_rule};
 ghost use Rattle.command_words.specs.declared.fault.WordsFault.TheVariants.{Faulty};
 
 use crate::WordsFault;
 use crate::number::read_number;
 use clap::{Arg, ArgAction, ArgMatches};
 use std::alloc::Global;
+
+/// A command without options and files, and without the flag that asks for help.
+pub(crate) fn bare_command<'a>(alloc: Global, name: &'a str) -> clap::Command<'a>
+    ensures { app_of result ≡ command_of name.entry.now [] }
+{
+    clap::Command::new(alloc, name).disable_help_flag(true)
+}
 
 /// What words match of a command, whose name is the first of them. Its errors are a fault that `clap` finds in them,
 /// and want of memory.

@@ -4,7 +4,7 @@ ghost use Rattle.clap.specs.Words.{app_of, found_of, rows_of};
 ghost use Rattle.command_words.specs.Play.{play_app, play_in, play_meant};
 ghost use Rattle.command_words.specs.declared.fault.WordsFault.TheVariants.{Faulty};
 
-use crate::options::{number_of_option, option, read_matches};
+use crate::options::{bare_command, number_of_option, option, read_matches};
 use crate::{FileNames, Play, WordsFault};
 use clap::{Arg, ArgAction, ArgMatches};
 use std::alloc::{AllocError, Global};
@@ -25,8 +25,7 @@ fn play_command<'a>(alloc: Global) -> Result<clap::Command<'a>, AllocError>
     let files = Arg::new(alloc, "files")
         .action(ArgAction::Append)
         .required(true);
-    clap::Command::new(alloc, "play")
-        .disable_help_flag(true)
+    bare_command(alloc, "play")
         .arg(option(alloc, "batches", "1024"))?
         .arg(option(alloc, "size", "64"))?
         .arg(option(alloc, "quantum", "8"))?

@@ -2,7 +2,7 @@ use Rattle.std.proofs.Common.{◌∙◌, subst, sym}
 use Rattle.command_words.specs.Options.{IsReadable}
 use Rattle.command_words.specs.Drill.{drill_app, drill_in, drill_meant}
 use Rattle.command_words.proofs.Parses.{asked_of-matched, asked_of-refused, handed_on}
-use Rattle.command_words.proofs.Drills.{asked_or_none, drill_is_readable, of_answer}
+use Rattle.command_words.proofs.Drills.{asked_or_none, drill_is_readable}
 use Rattle.command_words.proofs.drill_words.read_drill.Goals as goal
 
 pub read_matches-requires : goal.read_matches-requires
