@@ -1,12 +1,9 @@
 -- What a test knows of a pass that allocates again and again.
-use Rattle.std.proofs.Common.{◌≡◌, ℕ, ◌+◌, ◌*◌, ◌^◌, ◌<◌, ◌≤◌, List, ◌∷◌, refl, sym, ap, ◌∙◌, subst, inl, inr, arith, length, set, get_or, Some}
+use Rattle.std.proofs.Common.{◌≡◌, ℕ, ◌+◌, ◌*◌, ◌<◌, ◌≤◌, List, refl, sym, ap, ◌∙◌, subst, inl, inr, arith, length, set, get_or, Some}
 use Rattle.std.specs.Prelude.{Contains}
 use Rattle.std.proofs.lemmas.Option.{slice_get-get_or}
 use Rattle.std.proofs.lemmas.Bool.{cases_eq}
 use Rattle.word_layout.specs.Sizes.{Sizes}
-use Rattle.pool_model.specs.declared.entry.Entry.{Entry}
-use Rattle.pool_model.specs.declared.entry.Entry.TheVariants as entry
-use Rattle.pool_model.specs.History.{grip_after}
 use Rattle.pool_model.proofs.Members.{contains_tail}
 use Rattle.block_pool.specs.declared.pool.Answer.{Answer}
 use Rattle.block_pool.specs.declared.pool.Answer.TheVariants.{Got, Dry}

@@ -1,9 +1,9 @@
 -- what the calls of a pool do to a pass
-use Rattle.std.specs.Prelude.{◌≡◌, ℕ, ◌+◌, ◌≤◌, ◌↔◌, Option, None, Some, List, [], ◌∷◌, ◌++◌}
-use Rattle.word_layout.specs.Sizes.{Sizes}
+use Rattle.std.specs.Prelude.{◌≡◌, ℕ, ◌+◌, ◌<◌, ◌≤◌, ◌↔◌, Option, None, Some, List, [], ◌∷◌, ◌++◌, Contains}
+use Rattle.word_layout.specs.Sizes.{Sizes, blocks}
 use Rattle.pool_model.specs.declared.entry.Entry.{Entry}
 use Rattle.pool_model.specs.declared.entry.Entry.TheVariants as entry
-use Rattle.pool_model.specs.History.{grip_after}
+use Rattle.pool_model.specs.History.{held, grip_after}
 use Rattle.transfer_schedule.specs.Numbers.{Numbers, after_choice, after_took_one}
 use Rattle.pool_machine.specs.declared.call.Call.{Call}
 use Rattle.pool_table.specs.Minds.{number_of, entries_in}
@@ -34,6 +34,12 @@ pub record Entered (entry : Entry) (old new : Passed) : Type 0 where
   pub own : new.own ≡ old.own ++ entry ∷ []
   pub seen : SeesMore old.seen new.seen (entry ∷ [])
   pub held : new.held ≡ grip_after old.held entry
+
+-- the block that the pass got was free: one of the pool, not held by the pass, and held by nobody in what it has seen from before that entry
+pub record WasFree (block : ℕ) (old new : Passed) : Type 0 where
+  pub within : block < blocks old.sizes
+  pub not_own : ¬ Contains old.held block
+  pub nobodys : (past : List Entry) → new.seen ≡ past ++ entry.Got old.number block ∷ [] → ¬ Contains (held past) block
 
 -- a plan with no block: its current list is empty, and there is no spare
 abbrev pub HasNoBlock : Numbers → Type 0

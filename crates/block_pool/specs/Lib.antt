@@ -8,4 +8,5 @@ pub mod Owning
 pub mod Calls
 pub mod Opening
 pub mod Closing
+pub mod Promises
 pub mod Joining
