@@ -117,7 +117,7 @@ fn words_of_drill(rt: HostRuntime) -> Result<(), Fail> {
 
 #[test]
 fn faulty_words(rt: HostRuntime) -> Result<(), Fail> {
-    let cases: [&[&str]; 25] = [
+    let cases: [&[&str]; 29] = [
         &[],
         &["plays", "f"],
         &["Play", "f"],
@@ -141,6 +141,10 @@ fn faulty_words(rt: HostRuntime) -> Result<(), Fail> {
         &["play", "-h", "f"],
         &["play", "--version", "f"],
         &["drill", "f"],
+        &["drill", "--seed", "1", "--seed", "1"],
+        &["drill", "--processes=4294967296"],
+        &["drill", "--batches", "8"],
+        &["drill", "--quantum", ""],
         &["drill", "--calls", "131073"],
         &["drill", "--seed", "18446744073709551616"],
     ];
