@@ -4,11 +4,10 @@ use crate::run;
 use pool_io::{Gate, MemoryFiles, MemorySink, OpenGate};
 use pool_model::NoMemory;
 use std::alloc::{AllocError, Global};
-use std::hint;
-use std::str;
 use std::sync::atomic::{AtomicBool, Ordering};
 use std::test::Fail;
 use std::thread::Threads;
+use std::{hint, str};
 
 const AMPLE: usize = 4096;
 
@@ -117,15 +116,7 @@ fn run_with<R: Threads + Sync, G: Gate + Sync>(
     requires { files.old.opens < 2 ^ 63 }
 {
     let words = words_of(alloc, line)?;
-    let ended = run(
-        rt,
-        alloc,
-        words.as_slice(),
-        files,
-        &mut out,
-        &mut err,
-        gate,
-    );
+    let ended = run(rt, alloc, words.as_slice(), files, &mut out, &mut err, gate);
     Ok(Outcome {
         status: ended.status,
         settled: ended.settled.is_some(),
@@ -468,7 +459,15 @@ fn two_players_meet_before_their_first_calls(rt: HostRuntime) -> Result<(), Fail
         second: AtomicBool::new(false),
         missed: AtomicBool::new(false),
     };
-    let outcome = run_with(&rt, alloc, "pooltrace play f g", &mut files, out, err, &gate)?;
+    let outcome = run_with(
+        &rt,
+        alloc,
+        "pooltrace play f g",
+        &mut files,
+        out,
+        err,
+        &gate,
+    )?;
     assert_eq!(rt; outcome.status, 0);
     assert!(rt; !gate.missed.load(Ordering::SeqCst));
     Ok(())
@@ -560,7 +559,15 @@ fn one_failing_write(rt: HostRuntime) -> Result<(), Fail> {
         let mut files = files_of(alloc, &[("e", EMPTY_TRACE)])?;
         let sink = failing_sink(alloc, *room, *most, *failing)?;
         let err = failing_sink(alloc, AMPLE, AMPLE, NEVER)?;
-        let outcome = run_with(&rt, alloc, "pooltrace play e", &mut files, sink, err, &OpenGate)?;
+        let outcome = run_with(
+            &rt,
+            alloc,
+            "pooltrace play e",
+            &mut files,
+            sink,
+            err,
+            &OpenGate,
+        )?;
         assert_eq!(rt;
             outcome.parts(),
             (7, *out, "pooltrace: write\n"),
@@ -584,7 +591,15 @@ fn a_failing_error_sink_changes_no_status(rt: HostRuntime) -> Result<(), Fail> {
         let mut files = failing_files(alloc, &[("e", EMPTY_TRACE)], 1, 3)?;
         let out = failing_sink(alloc, AMPLE, AMPLE, NEVER)?;
         let sink = failing_sink(alloc, *room, *most, *failing)?;
-        let outcome = run_with(&rt, alloc, "pooltrace play e", &mut files, out, sink, &OpenGate)?;
+        let outcome = run_with(
+            &rt,
+            alloc,
+            "pooltrace play e",
+            &mut files,
+            out,
+            sink,
+            &OpenGate,
+        )?;
         assert_eq!(rt; outcome.parts(), (4, "", *err), "{room} {most} {failing}");
     }
     Ok(())

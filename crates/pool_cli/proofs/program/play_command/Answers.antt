@@ -37,9 +37,9 @@ returns g c meaning meant =
           meant c.in_ok-shape.ensures.ok c.in_ok-scripts.ensures.scripts c.in_ok-scripts.ensures.opened refl played
           (subst Grown c.deref-2.ensures.value w.in-Ok.ensures.whole))
       | in-Err w ↦ subst Cause (sym w.ending-is) (
-          ends_played meaning before after (Some settled) _ c.args.command.now c.in_ok-shape.shape c.in_ok-scripts.scripts.items settled tallies
-              meant c.in_ok-shape.ensures.ok c.in_ok-scripts.ensures.scripts c.in_ok-scripts.ensures.opened refl played
-              (subst Cut c.deref-2.ensures.value (w.in-Err.ensures.part, λ takes. let ok = (w.in-Err.ensures.sure takes.room takes.takes takes.fits).0 in cc)),
-          w.in-Err.ensures.failed,
-        )
+        ends_played meaning before after (Some settled) _ c.args.command.now c.in_ok-shape.shape c.in_ok-scripts.scripts.items settled tallies
+            meant c.in_ok-shape.ensures.ok c.in_ok-scripts.ensures.scripts c.in_ok-scripts.ensures.opened refl played
+            (subst Cut c.deref-2.ensures.value (w.in-Err.ensures.part, λ takes. let ok = (w.in-Err.ensures.sure takes.room takes.takes takes.fits).0 in cc)),
+        w.in-Err.ensures.failed,
+      )
     ]
