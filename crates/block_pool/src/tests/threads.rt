@@ -14,7 +14,7 @@ use std::thread::Threads;
 use step_counter::{Kept, Steps};
 use word_layout::Shape;
 
-const CALLS: u32 = 500;
+const CALLS: u32 = 2_500;
 
 /// Who has each block, and what was seen that mustn't be.
 #[derive(Drop)]
