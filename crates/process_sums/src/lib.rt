@@ -8,6 +8,7 @@
 ghost use Rattle.process_sums.specs.Laws.{SameTermsHaveOneSum, OneTermMovesTheSum, TermsAreWithinTheSum, SumsAddUp, SumsHaveParts, SomeTermIsThere};
 
 /// What holds of all sums: the contract of a call that does nothing.
+#[tactic(auto, using(crate::proofs::Sums::total_same, crate::proofs::Sums::total_sums, crate::proofs::Sums::total_parts, crate::proofs::Sums::some_term))]
 pub fn of_sums()
     ensures same { SameTermsHaveOneSum }
     ensures moved { OneTermMovesTheSum }

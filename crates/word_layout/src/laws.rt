@@ -4,6 +4,7 @@ ghost use Rattle.word_layout.specs.Laws.{LengthIsOne, FirstFaultIsOne, ShapesHav
 
 /// What a batch's length is, and which fault is told, is settled by the numbers: those of a shape have none.
 /// Batches have two blocks or more, and lie within the pool.
+#[tactic(auto, using(crate::proofs::Refusals::no_fault, crate::proofs::Limits::two_blocks_a_batch, crate::proofs::Limits::batch_within_blocks))]
 pub fn shapes()
     ensures length { LengthIsOne }
     ensures fault { FirstFaultIsOne }
@@ -13,6 +14,7 @@ pub fn shapes()
 {}
 
 /// Names and places lead to one another.
+#[tactic(auto, using(crate::proofs::Placed::place_below, crate::proofs::Placed::places_apart, crate::proofs::Placed::named))]
 pub fn places()
     ensures in_table { PlacesAreInTable }
     ensures apart { PlacesDiffer }

@@ -8,6 +8,7 @@ pub fn shapes_stay()
 
 /// The history of every run is legal: each refusal had a moment in its window with few unheld blocks, and no block
 /// is held twice.
+#[tactic(auto, using(crate::proofs::CallLaws::histories_are_legal, crate::proofs::CallLaws::refusals_had_few))]
 pub fn histories_are_legal()
     ensures legal { HistoriesAreLegal }
     ensures refusals { RefusalsHadFew }
@@ -51,6 +52,7 @@ pub fn plans_within_table()
 
 /// A data word of a block keeps its value while a process holds the block, but for that process's writes to it. A
 /// read is answered with it, and a write leaves its value there.
+#[tactic(auto, using(crate::proofs::CallLawsData::reads_load))]
 pub fn data_is_kept()
     ensures kept { DataIsKept }
     ensures reads { ReadsLoad }

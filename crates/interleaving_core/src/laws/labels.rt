@@ -3,6 +3,7 @@ ghost use Rattle.interleaving_core.specs.LabelLaws.{TransferKindsFit, NextKindsF
 
 /// The kind and the index of the next step of every view fit the word that it is on, and whether it loads, stores or
 /// exchanges it. The turn of a transfer goes with the kind.
+#[tactic(auto, using(crate::proofs::Labels::transfer_kinds_fit, crate::proofs::Labels::next_kinds_fit, crate::proofs::Labels::turns_fit))]
 pub fn kinds_fit()
     ensures transfers { TransferKindsFit }
     ensures all { NextKindsFit }

@@ -3,6 +3,7 @@ ghost use Rattle.interleaving_core.specs.MovingLaws.{AllocatesBegin, FreesBegin,
 
 /// A process between two calls, which has begun no transfer alone and is young, begins an allocate, and a free, a
 /// read and a write of each block that it holds.
+#[tactic(auto, using(crate::proofs::MovingBegins::allocates_begin, crate::proofs::MovingBegins::frees_begin, crate::proofs::MovingBegins::reads_begin, crate::proofs::MovingBegins::writes_begin))]
 pub fn calls_begin()
     ensures allocates { AllocatesBegin }
     ensures frees { FreesBegin }

@@ -8,6 +8,7 @@ pub fn runs_keep_invariant()
 
 /// Any turns can be made from any opening, and every run is made so. A process that has a next step makes it by a
 /// turn of its own.
+#[tactic(auto, using(crate::proofs::RunTurns::runs_go_on, crate::proofs::RunTurns::runs_are_made, crate::proofs::RunTurns::busy_go_on))]
 pub fn runs_go_on()
     ensures on { RunsGoOn }
     ensures made { RunsAreMade }
