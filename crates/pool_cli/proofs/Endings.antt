@@ -17,8 +17,8 @@ use Rattle.pool_io.specs.declared.files.Files as files_trait
 use Rattle.pool_io.specs.declared.sink.Sink as sink_trait
 use Rattle.pool_io.specs.Told.{GrowsBy}
 use Rattle.mtrace_reader.specs.declared.trace.Operation.{Operation}
-use Rattle.mtrace_reader.specs.declared.trace.TraceFault.{TraceFault}
-use Rattle.mtrace_reader.specs.declared.trace.TraceFault.TheVariants.{ReadFault, TooLong, BadLine, NoMemory}
+use Rattle.line_text.specs.declared.fault.TextFault.{TextFault}
+use Rattle.line_text.specs.declared.fault.TextFault.TheVariants.{ReadFault, TooLong, BadLine, NoMemory}
 use Rattle.mtrace_reader.specs.declared.steps.Script.{Script}
 use Rattle.mtrace_reader.specs.Reading.{bad_line, is_cut, operations_of}
 use Rattle.mtrace_reader.specs.Script.{after, begun}
@@ -139,7 +139,7 @@ pub ends_at_file : {F S K : Type 0} (of_files : files_trait.Ghosts F S) (files f
 ends_at_file of_files files files_now of_sink out meaning play sizes ending accepted stopped =
     subst (CauseOf meaning (outside of_files files of_sink out) (outside of_files files_now of_sink out)) (sym stopped.is) (by_fault stopped.file stopped.fault stopped.opened stopped.stops)
   where
-    by_fault : (file : ℕ) (fault : TraceFault) → of_files.opens files_now ≡ of_files.opens files + file → StopsWith of_files files files_now play.files file fault
+    by_fault : (file : ℕ) (fault : TextFault) → of_files.opens files_now ≡ of_files.opens files + file → StopsWith of_files files files_now play.files file fault
         → CauseOf meaning (outside of_files files of_sink out) (outside of_files files_now of_sink out) (ending_for file fault)
     by_fault file ReadFault opened stops = (record { play = play; sizes = sizes; accepted = accepted; stops = stops.0; opened = opened; unwritten = refl }, stops.1)
     by_fault file TooLong opened stops = record { play = play; sizes = sizes; accepted = accepted; stops = stops; opened = opened; unwritten = refl }

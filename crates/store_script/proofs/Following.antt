@@ -6,7 +6,7 @@ use Rattle.std.specs.Ordering.{nat_cmp}
 use Rattle.std.specs.BTreeMap.{get}
 use Rattle.std.proofs.lemmas.Bool.Decides.{nat_tests}
 use Rattle.std.proofs.lemmas.Map.Entries.{lookup-filter-keys}
-use Rattle.mtrace_reader.proofs.LivePairs.{same_key, cond_not}
+use Rattle.line_text.proofs.Choices.{same_key, cond_not}
 use Rattle.store_script.specs.declared.quad.Quad.{Quad}
 use Rattle.store_script.specs.declared.answered.Answered.TheVariants.{Done}
 use Rattle.store_script.specs.declared.replies.PlainStore.{PlainStore}
@@ -62,7 +62,8 @@ module _ (before after : PlainStore) (walk : Walk) (key : ℕ) (value : Quad) (a
       let same_value : (q : ℕ) (b : Bool) → eqb key q ≡ b → cond b (Some (changed value index number)) (get nat_cmp before.present q)
       ≡ option_map (λ k. k.value) (cond (eqb q key) (Some next) (lookup (eqb q) (present_but walk key))) = λ q b is.
       rw (eqb-sym q key, is, kept-present_but walk key q, is)
-      (elim b as (λ b. cond b (Some (changed value index number)) (get nat_cmp before.present q) ≡ option_map (λ k. k.value) (cond b (Some next) (cond b None (kept walk q)))) [
+      (elim b as (λ b. cond b (Some (changed value index number)) (get nat_cmp before.present q) ≡ option_map (λ k. k.value)
+      (cond b (Some next) (cond b None (kept walk q)))) [
         | true ↦ ap (λ v. Some (changed v index number)) (sym here.2)
         | false ↦ at.values q
       ])

@@ -1,6 +1,6 @@
 use Rattle.std.proofs.Common.{◌≡◌, ◌+◌, ◌∷◌, [], ◌++◌, refl, ap, ◌∙◌, arith, Err}
 use Rattle.std.proofs.lemmas.List.Elements.{All-push}
-use Rattle.mtrace_reader.specs.declared.trace.TraceFault.TheVariants.{NoMemory}
+use Rattle.line_text.specs.declared.fault.TextFault.TheVariants.{NoMemory}
 use Rattle.mtrace_reader.specs.Script.{IsWellFormed}
 use Rattle.pool_cli.proofs.FilesRead.{name_at, reads_next, stops_next}
 use Rattle.pool_cli.proofs.reading.read_files.Goals as goal
