@@ -109,6 +109,7 @@ played_all told command sizes scripts settled tallies has played = record {
   played = λ content hold. record {
     shape = played.shape;
     legal = played.legal;
+    short = played.short;
     each = λ j tally at.
         let script = slice_get_as_long scripts tallies j tally played.tallied.one_each at in
         (script.0, (has.are content hold).each j script.0 script.1, played.tallied.each j script.0 tally script.1 at);

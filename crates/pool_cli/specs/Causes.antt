@@ -8,6 +8,7 @@ use Rattle.pool_model.specs.History.{own}
 use Rattle.pool_model.specs.Legal.{IsLegal}
 use Rattle.block_pool.specs.Closing.{Settlement}
 use Rattle.pool_runs.specs.Enough.{HasEnough}
+use Rattle.pool_runs.specs.Settled.{TookFewSteps}
 use Rattle.pool_io.specs.Counts.{HasRisen}
 use Rattle.pool_io.specs.Told.{GrowsBy, GrowsByPart}
 use Rattle.pool_io.specs.Writes.{Writes}
@@ -53,11 +54,12 @@ pub record IsAccepted (meaning : Option Command) (command : Command) (sizes : Si
   pub meant : meaning ≡ Some command
   pub asked : IsShapeOf command sizes
 
--- the pool was closed with one legal history of a free set, in which the entries of each process fit its script with refusals that
--- they determine, and give its tally
+-- the pool was closed with one legal history of a free set; each process made at most a quantum of steps and one in each of its calls;
+-- and its entries fit its script, with refusals that they determine, and give its tally
 pub record IsHistoryOf (command : Command) (sizes : Sizes) (content : ℕ → List ℕ) (settled : Settlement) (tallies : List Tally) : Type 0 where
   pub shape : settled.sizes ≡ sizes
   pub legal : IsLegal (limits_of sizes) settled.history
+  pub short : TookFewSteps sizes.processes settled
   pub each : (j : ℕ) (tally : Tally) → slice_get tallies j ≡ Some tally
       → (script : Script) × IsScriptFor command content j script × IsTallied j script (own settled.history j) tally
 
