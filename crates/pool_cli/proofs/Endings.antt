@@ -1,6 +1,6 @@
 -- Why a run ends as it does.
-use Rattle.std.proofs.Common.{◌≡◌, ℕ, ◌+◌, ◌-◌, ◌^◌, ◌<◌, ◌≤◌, ◌⊎◌, min, suc, List, [], ◌∷◌, length, refl, sym, ap, ◌∙◌, subst, inl, inr, arith, Some, None, Result, Ok, Err}
-use Rattle.std.specs.Prelude.{Bool, IfOk, Option, fold, slice_get}
+use Rattle.std.proofs.Common.{◌≡◌, ℕ, ◌+◌, ◌-◌, ◌^◌, ◌<◌, ◌≤◌, ◌⊎◌, min, suc, List, [], ◌∷◌, length, refl, sym, ap, ◌∙◌, subst, inl, inr, arith, Some, None}
+use Rattle.std.specs.Prelude.{Bool, Option, fold, slice_get}
 use Rattle.std.proofs.lemmas.Bool.{cases_lt}
 use Rattle.std.proofs.lemmas.Option.{get_or_from_slice_get, slice_get_within}
 use Rattle.std.proofs.lemmas.List.FromFn.{get_or-map-range_with_len, length-map-range_with_len}
@@ -162,7 +162,7 @@ pub made_scripts : (told : List ℕ → Option (List ℕ)) (drill : DrillWords) 
     → scripts ≡ drill_scripts drill.seed drill.calls drill.processes → HasScripts told (Drill drill) scripts
 made_scripts told drill scripts is =
     let count : length scripts ≡ drill.processes = ap length is
-        ∙ length-map-range_with_len (drill_script drill.seed drill.calls) 0 drill.processes in
+    ∙ length-map-range_with_len (drill_script drill.seed drill.calls) 0 drill.processes in
     record {
       one_each = count;
       fine = λ content hold j low. absurd (omega (arith, low));
@@ -172,7 +172,7 @@ made_scripts told drill scripts is =
     made_at : (j : ℕ) (script : Script) → slice_get scripts j ≡ Some script → script ≡ drill_script drill.seed drill.calls j
     made_at j script at =
         let found : slice_get (drill_scripts drill.seed drill.calls drill.processes) j ≡ Some script =
-            subst (λ (some : List Script). slice_get some j ≡ Some script) is at in
+        subst (λ (some : List Script). slice_get some j ≡ Some script) is at in
         let low = slice_get_within (drill_scripts drill.seed drill.calls drill.processes) j script found in
         sym (get_or_from_slice_get (drill_scripts drill.seed drill.calls drill.processes) j script script found)
         ∙ get_or-map-range_with_len (drill_script drill.seed drill.calls) 0 drill.processes j j script
@@ -185,14 +185,15 @@ pub ends_at_file : {F S K : Type 0} (of_files : files_trait.Ghosts F S) (files f
     → CauseOf meaning (outside of_files files of_sink out) (outside of_files files_now of_sink out) None ending
 ends_at_file of_files files files_now of_sink out meaning command sizes ending accepted stopped =
     subst (CauseOf meaning (outside of_files files of_sink out) (outside of_files files_now of_sink out) None) (sym stopped.is)
-        (by_fault stopped.file stopped.fault stopped.opened stopped.stops)
+    (by_fault stopped.file stopped.fault stopped.opened stopped.stops)
   where
     by_fault : (file : ℕ) (fault : TextFault) → of_files.opens files_now ≡ of_files.opens files + file
         → StopsWith of_files files files_now (files_of command) file fault
         → CauseOf meaning (outside of_files files of_sink out) (outside of_files files_now of_sink out) None (ending_for file fault)
-    by_fault file ReadFault opened stops =
-        ((record { command = command; sizes = sizes; accepted = accepted; stops = stops.0; opened = opened; unwritten = refl }, stops.1),
-            refl)
+    by_fault file ReadFault opened stops = (
+      (record { command = command; sizes = sizes; accepted = accepted; stops = stops.0; opened = opened; unwritten = refl }, stops.1),
+      refl,
+    )
     by_fault file TooLong opened stops =
         (record { command = command; sizes = sizes; accepted = accepted; stops = stops; opened = opened; unwritten = refl }, refl)
     by_fault file (BadLine line) opened stops =
@@ -215,14 +216,14 @@ at_told_file : (meaning : Option Command) (before after : Outside) (file : ℕ) 
 at_told_file meaning before after file Fact ends free =
     let same : ends.command ≡ free.command = same_command meaning ends.command free.command ends.accepted.meant free.accepted.meant in
     let names : length (files_of ends.command) ≡ length (files_of free.command) =
-        ap (λ (command : Command). length (files_of command)) same in
+    ap (λ (command : Command). length (files_of command)) same in
     let hold : Hold before.told (files_of ends.command) free.content (ends.stops.index + 1) =
     hold_first before.told (files_of ends.command) free.content (ends.stops.index + 1) (length (files_of free.command))
-        (omega (arith, ends.stops.within, names))
+    (omega (arith, ends.stops.within, names))
     (subst (λ (command : Command). Hold before.told (files_of command) free.content (length (files_of free.command))) (sym same)
-        free.hold) in
+    free.hold) in
     let fine : IsWithin (taken free.content ends.stops.index) (free.content ends.stops.index)
-        × (bad_line (free.content ends.stops.index) ≡ None) =
+    × (bad_line (free.content ends.stops.index) ≡ None) =
     free.fine ends.stops.index (omega (arith, ends.stops.within, names)) in
     (taken free.content ends.stops.index, free.content ends.stops.index, ends.stops.here free.content hold, fine.0, fine.1)
 
@@ -265,11 +266,11 @@ same_sizes command one other p q =
     let words : one.words ≡ other.words = p.words ∙ sym q.words in
     let length_of_other : IsLength one.processes one.quantum other.length =
     subst (λ (n : ℕ). IsLength n one.quantum other.length) processes
-        (subst (λ (n : ℕ). IsLength other.processes n other.length) quantum q.shape.least_length) in
+    (subst (λ (n : ℕ). IsLength other.processes n other.length) quantum q.shape.least_length) in
     let long : one.length ≡ other.length =
     one_length one.processes one.quantum one.length other.length p.shape.least_length length_of_other in
     let each : sizes one.processes one.batches one.words one.quantum one.length
-        ≡ sizes other.processes other.batches other.words other.quantum other.length = cc in
+    ≡ sizes other.processes other.batches other.words other.quantum other.length = cc in
     each
 
 -- tallies of scripts for which there are enough blocks
@@ -279,14 +280,14 @@ ample_tallies : (meaning : Option Command) (told : List ℕ → Option (List ℕ
 ample_tallies meaning told settled tallies scripts gives ample =
     let same : ample.command ≡ gives.command = same_command meaning ample.command gives.command ample.accepted.meant gives.accepted.meant in
     let asked : IsShapeOf gives.command ample.sizes =
-        subst (λ (command : Command). IsShapeOf command ample.sizes) same ample.accepted.asked in
+    subst (λ (command : Command). IsShapeOf command ample.sizes) same ample.accepted.asked in
     let hold : Hold told (files_of gives.command) ample.content (length (files_of gives.command))
     = subst (λ (command : Command). Hold told (files_of command) ample.content (length (files_of command))) same ample.hold in
     let enough : HasEnoughBlocks gives.command ample.sizes ample.content scripts
     = subst (λ (command : Command). HasEnoughBlocks command ample.sizes ample.content scripts) same ample.enough in
     gives.played.unrefused ample.content hold scripts
     (subst (λ (sizes : Sizes). HasEnoughBlocks gives.command sizes ample.content scripts)
-        (same_sizes gives.command ample.sizes gives.sizes asked gives.accepted.asked) enough)
+    (same_sizes gives.command ample.sizes gives.sizes asked gives.accepted.asked) enough)
 
 -- the report of a run that ended well
 report_when_done : (meaning : Option Command) (before after : Outside) (closed : Option Settlement) (ending : Ending) (status : ℕ)
@@ -307,7 +308,7 @@ module _ (meaning : Option Command) (before after : Outside) (closed : Option Se
   pub unhindered : IsUnhindered meaning before after → (status ≡ 0) ⊎ (status ≡ 8)
   unhindered free =
       ends_well_unless meaning before after closed ends.ending status ends.answered ends.cause free.playable
-          (λ file read. free.read read.0.1) (λ write. free.written write.1)
+      (λ file read. free.read read.0.1) (λ write. free.written write.1)
 
   -- where nothing can hinder a run, it ends well or for want of memory
   pub sure : IsSure meaning before → (status ≡ 0) ⊎ (status ≡ 8)
@@ -322,4 +323,4 @@ module _ (meaning : Option Command) (before after : Outside) (closed : Option Se
   enough scripts ample well =
       let done = report_when_done meaning before after closed ends.ending status ends.answered ends.cause well in
       subst (λ tallies. GrowsBy before.out after.out (report tallies))
-          (ample_tallies meaning before.told done.settled done.tallies scripts done.gives ample) done.reported
+      (ample_tallies meaning before.told done.settled done.tallies scripts done.gives ample) done.reported

@@ -54,7 +54,7 @@ reads_next Reliable size told names i total scripts name file at reads answer sm
       let here : FileAnswers Reliable (2 ^ 26 - total) size (content i) (Ok file) = answer (content i) (hold i name (omega arith) at) in
       let before : total ≡ taken content i = reads.all_bytes content (hold_fewer told names content i hold) in
       fine_more content i (reads.fine content (hold_fewer told names content i hold))
-          (omega (arith, here.0), omega (arith, here.0, before, reads.few)) here.1;
+      (omega (arith, here.0), omega (arith, here.0, before, reads.few)) here.1;
   read = λ content hold j script got. elim (slice_get-push_cases scripts file.script script j got) [
     | inl k ↦ reads.read content (hold_fewer told names content i hold) j script k.1
     | inr e ↦
@@ -92,10 +92,10 @@ stops_next of before between after size names i total scripts name ReadFault at 
 )
 stops_next of before between after size names i total scripts name TooLong at reads answer reliable fell risen =
     stops_at size (of.told before) names i total scripts name (λ others bytes. ¬ IsWithin others bytes) at reads
-        (λ bytes has within. omega (arith, answer bytes has, within.0, within.1, reads.few))
+    (λ bytes has within. omega (arith, answer bytes has, within.0, within.1, reads.few))
 stops_next of before between after size names i total scripts name (BadLine line) at reads answer reliable fell risen =
     stops_at size (of.told before) names i total scripts name (λ others bytes. IsWithin others bytes × (bad_line bytes ≡ Some line)) at
-        reads
+    reads
     (λ bytes has. let here : FileAnswers (of.reliable between) (2 ^ 26 - total) size bytes (Err (BadLine line)) = answer bytes has in
-        ((omega (arith, here.0), omega (arith, here.0, reads.few)), here.1))
+    ((omega (arith, here.0), omega (arith, here.0, reads.few)), here.1))
 stops_next of before between after size names i total scripts name NoMemory at reads answer reliable fell risen = tt

@@ -16,7 +16,7 @@ returns-in-Err-clause-stopped g c =
           _ c.in-Err.fault
           (name_at c.args.names.now c.loop-index.index _ c.loop-index-test.true c.index-names-index.is) c.loop-index.invariant.reads
           (λ bytes has. c.in-Err.ensures.answer bytes (ap (λ (told : _). told c.as_str.result.now) c.loop-index.invariant.names
-              ∙ ap (g.F.Files.told c.args.files.now) c.as_str.ensures.value ∙ has))
+          ∙ ap (g.F.Files.told c.args.files.now) c.as_str.ensures.value ∙ has))
           c.loop-index.invariant.reliable c.loop-index.invariant.never_falls (λ e. c.in-Err.ensures.failed (ap Err e));
     }
 
@@ -37,7 +37,7 @@ loop-index-preserved g c =
           c.loop-index.scripts.items _ c.in-Ok.file
           (name_at c.args.names.now c.loop-index.index _ c.loop-index-test.true c.index-names-index.is) c.loop-index.invariant.reads
           (λ bytes has. c.in-Ok.ensures.answer bytes (ap (λ (told : _). told c.as_str.result.now) c.loop-index.invariant.names
-              ∙ ap (g.F.Files.told c.args.files.now) c.as_str.ensures.value ∙ has))
+          ∙ ap (g.F.Files.told c.args.files.now) c.as_str.ensures.value ∙ has))
           c.in-Ok.ensures.within);
       playable = rw pushed
           (All-push IsPlayable c.loop-index.scripts.items c.in-Ok.file.script c.loop-index.invariant.playable c.in-Ok.ensures.playable);
