@@ -11,3 +11,4 @@ pub mod Settling
 pub mod Ordered
 pub mod Promises
 pub mod TestedCalls
+pub mod TestedSlots

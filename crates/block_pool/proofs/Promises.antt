@@ -1,29 +1,25 @@
 -- What a legal history promises in plain sentences.
-use Rattle.std.proofs.Common.{◌≡◌, ◌≢◌, ℕ, ◌+◌, ◌-◌, ◌*◌, ◌<◌, ◌≤◌, List, length, take, drop, refl, sym, ap, ◌∙◌, subst, inl, inr, arith}
-use Rattle.std.specs.Prelude.{Some, Contains, ◌↔◌, slice_get, slice_index_or, sum_by, count_by}
-use Rattle.std.specs.List.{All}
+use Rattle.std.proofs.Common.{◌≡◌, ℕ, ◌+◌, ◌-◌, ◌*◌, ◌<◌, ◌≤◌, List, length, take, sym, ap, subst, inl, inr, arith}
+use Rattle.std.specs.Prelude.{Some, Contains, slice_get, slice_index_or}
 use Rattle.std.proofs.lemmas.Bool.{cases_eq}
 use Rattle.std.proofs.lemmas.List.{take-take, length-take}
 use Rattle.std.proofs.lemmas.List.Sums.{sum_by-le}
 use Rattle.std.proofs.lemmas.Option.{slice_get_within}
-use Rattle.word_layout.specs.Sizes.{Sizes, blocks, limits_of}
-use Rattle.process_sums.specs.Sums.{total, SomeTerm}
+use Rattle.word_layout.specs.Sizes.{Sizes, limits_of}
+use Rattle.process_sums.specs.Sums.{SomeTerm}
 use Rattle.process_sums.proofs.Sums.{two_terms_of_total, some_term, term_of_total}
 use Rattle.pool_model.specs.declared.entry.Entry.{Entry}
 use Rattle.pool_model.specs.declared.entry.Entry.TheVariants.{Got, Back, Dry}
-use Rattle.pool_model.specs.History.{own, held, grip, unheld, slack}
-use Rattle.pool_model.specs.Limits.{Limits}
+use Rattle.pool_model.specs.History.{held, unheld, slack}
 use Rattle.pool_model.specs.Legal.{IsLegal, MayFollow, HasNet, HadFew}
 use Rattle.pool_model.proofs.Histories.{legal_take, slack_at_most}
-use Rattle.history_invariant.specs.Grips.{times, Balances}
+use Rattle.history_invariant.specs.Grips.{times}
 use Rattle.history_invariant.proofs.Times.{times_contained, contained_times}
 use Rattle.history_invariant.proofs.Shared.{Shared, grips_of, legal_shared}
 use Rattle.transfer_schedule.specs.Numbers.{withheld}
-use Rattle.block_pool.specs.Passing.{Pooled, Passed}
-use Rattle.block_pool.specs.Standing.{StandsWell}
-use Rattle.block_pool.specs.Calls.{Counted}
-use Rattle.block_pool.specs.Closing.{AreAllPasses, Settlement}
-use Rattle.block_pool.specs.Promises.{HasBlock, HeldOnce, AnsweredRight, FewUnheld, WasRefused, RefusalsHadCause, EnoughIsEnough, IsShort, CountedAreShort, PassesWithholdFew}
+use Rattle.block_pool.specs.Passing.{Passed}
+use Rattle.block_pool.specs.Closing.{Settlement}
+use Rattle.block_pool.specs.Promises.{HasBlock, HeldOnce, AnsweredRight, FewUnheld, RefusalsHadCause, EnoughIsEnough, CountedAreShort, PassesWithholdFew}
 
 -- at every place the held blocks are shared out
 shared_at : (settled : Settlement) → IsLegal (limits_of settled.sizes) settled.history → (place : ℕ)

@@ -3,7 +3,6 @@
 use Rattle.std.specs.Prelude.{◌≡◌, ℕ, ◌+◌, ◌*◌, ◌<◌, ◌≤◌, ◌==◌, ◌↔◌, Some, List, length, take, drop, slice_get, count_by, sum_by, Contains}
 use Rattle.std.specs.List.{All}
 use Rattle.word_layout.specs.Sizes.{blocks}
-use Rattle.pool_model.specs.declared.entry.Entry.{Entry}
 use Rattle.pool_model.specs.declared.entry.Entry.TheVariants.{Got, Back, Dry}
 use Rattle.pool_model.specs.History.{own, held, grip}
 use Rattle.transfer_schedule.specs.Numbers.{withheld}

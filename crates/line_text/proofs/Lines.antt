@@ -1,11 +1,9 @@
 -- Bytes that are cut into lines, and what more bytes change.
-use Rattle.std.proofs.Common.{◌≡◌, ℕ, ◌+◌, ◌<◌, ◌≤◌, true, false, cond, List, [], ◌∷◌, ◌++◌, length, get_or, take, drop, suc, add-one, map}
+use Rattle.std.proofs.Common.{◌≡◌, ℕ, ◌+◌, ◌<◌, ◌≤◌, true, false, cond, List, [], ◌∷◌, ◌++◌, length, get_or, take, drop, suc, add-one}
 use Rattle.std.proofs.Common.{position, None, Some, inl, inr, refl, ap, sym, ◌∙◌, arith}
-use Rattle.std.specs.Option.{option_or}
-use Rattle.std.specs.Bool.{then_some}
 use Rattle.std.specs.List.{position_or_len, onto_first}
 use Rattle.std.proofs.lemmas.Bool.{cases_lt, lt-ltb}
-use Rattle.std.proofs.lemmas.List.{get_or-take, length-take-le, append_assoc, append-nil, length-append, length-map, map-append}
+use Rattle.std.proofs.lemmas.List.{get_or-take, length-take-le, append_assoc, append-nil}
 use Rattle.std.proofs.lemmas.List.Elements.{All-from_get_or, All-nil, All-cons, All-append}
 use Rattle.std.proofs.lemmas.List.Splits.{slice_split_none, slice_split_at}
 use Rattle.std.proofs.lemmas.List.Sums.{fails_before_first}

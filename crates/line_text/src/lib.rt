@@ -6,6 +6,7 @@
 
 mod cutting;
 mod fault;
+mod listed;
 mod meaning;
 mod numbers;
 mod source;
@@ -13,6 +14,7 @@ mod words;
 
 pub use cutting::split_line;
 pub use fault::TextFault;
+pub use listed::Listed;
 pub use meaning::Meaning;
 pub use numbers::number;
 pub use source::{PieceKeeper, read_source};

@@ -12,7 +12,8 @@ use Rattle.mtrace_reader.specs.Reading.{bad_line}
 use Rattle.pool_io.specs.declared.files.Files.{Ghosts}
 use Rattle.pool_io.specs.Counts.{HasRisen}
 use Rattle.pool_cli.specs.declared.reading.FileScript.{FileScript}
-use Rattle.pool_cli.specs.Causes.{AreFine, Hold, IsScriptOf, IsWithin, StopsAt, taken}
+use Rattle.pool_cli.specs.Asked.{IsScriptOf}
+use Rattle.pool_cli.specs.Causes.{AreFine, Hold, IsWithin, StopsAt, taken}
 use Rattle.pool_cli.specs.Scripts.{FileAnswers, ReadsFirst, StopsWith}
 
 -- the name of the file that is read next

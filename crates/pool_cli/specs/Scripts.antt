@@ -9,7 +9,9 @@ use Rattle.pool_io.specs.declared.files.Files.{Ghosts}
 use Rattle.pool_io.specs.Counts.{HasRisen}
 use Rattle.pool_cli.specs.declared.ending.Ending.{Ending}
 use Rattle.pool_cli.specs.declared.ending.Ending.TheVariants.{Read, Long, Line, Memory}
-use Rattle.pool_cli.specs.Causes.{AreFine, Hold, IsScriptOf, IsWithin, StopsAt, taken}
+use Rattle.command_words.specs.declared.command.Command.{Command}
+use Rattle.pool_cli.specs.Asked.{IsScriptOf, files_of, processes_of}
+use Rattle.pool_cli.specs.Causes.{AreFine, AreScriptsFor, Hold, IsWithin, StopsAt, taken}
 
 -- each answer to a file with these bytes, of which so many may be read, by whether the files are reliable
 abbrev pub FileAnswers : Type 0 → ℕ → ℕ → List ℕ → Result FileScript TextFault → Type 0
@@ -33,6 +35,14 @@ pub record ReadsFirst (size : ℕ) (told : List ℕ → Option (List ℕ)) (name
 -- all files were read
 abbrev pub ReadsAll : ℕ → (List ℕ → Option (List ℕ)) → List (List ℕ) → List Script → Type 0
 ReadsAll size told names scripts = (total : ℕ) × ReadsFirst size told names (length names) total scripts
+
+-- these are the scripts that a command plays, and the files that it names are fine
+pub record HasScripts (told : List ℕ → Option (List ℕ)) (command : Command) (scripts : List Script) : Type 0 where
+  pub one_each : length scripts ≡ processes_of command
+  pub fine : (content : ℕ → List ℕ) → Hold told (files_of command) content (length (files_of command))
+      → AreFine content (length (files_of command))
+  pub are : (content : ℕ → List ℕ) → Hold told (files_of command) content (length (files_of command))
+      → AreScriptsFor command content scripts
 
 -- what a fault at this file shows, of files as they were before the reading and are after it
 abbrev pub StopsWith : {F S : Type 0} → Ghosts F S → F → F → List (List ℕ) → ℕ → TextFault → Type 0

@@ -14,11 +14,11 @@ use Rattle.pool_io.specs.Gates.{ToldBefore}
 use Rattle.block_pool.specs.Passing.{Passed, Pooled}
 use Rattle.block_pool.specs.Opening.{AreOpenedPasses, opened_pass}
 use Rattle.block_pool.specs.Closing.{Settlement}
-use Rattle.pool_player.specs.All.{PlayedAll, PlayedIn}
+use Rattle.pool_player.specs.All.{PlayedAll, PlayedIn, TookSteps}
 use Rattle.pool_player.specs.Players.{MayPlay}
 use Rattle.pool_runs.specs.Enough.{AreTallied}
 use Rattle.pool_runs.specs.Playable.{IsPlayable}
-use Rattle.pool_runs.specs.Settled.{IsSettledBy, WasToldOfAll}
+use Rattle.pool_runs.specs.Settled.{IsSettledBy, TookFewSteps, WasToldOfAll}
 use Rattle.pool_runs.proofs.Enough.{enough_blocks}
 
 -- what holds of all items holds of the one at a place
@@ -47,7 +47,7 @@ module _ (pool : Pooled) (passes : List Passed) (scripts : List Script) (opened 
       (played : PlayedAll told pool passes scripts tallies settled) where
     -- what a process played, whose pass had entered nothing before
     played_at : (k : ℕ) (script : Script) (tally : Tally) → slice_get scripts k ≡ Some script → slice_get tallies k ≡ Some tally
-        → PlayedIn told settled.history k (opened_pass pool.table pool.sizes k) script tally
+        → PlayedIn told settled k (opened_pass pool.table pool.sizes k) script tally
     played_at k script tally at tally_at =
         let low : k < pool.sizes.processes = omega (arith, slice_get_within scripts k script at, each) in
         played.each k (opened_pass pool.table pool.sizes k) script tally (opened.each k low) at tally_at
@@ -61,11 +61,25 @@ module _ (pool : Pooled) (passes : List Passed) (scripts : List Script) (opened 
           subst (λ (calls : List Entry). IsTallied k script calls tally) (sym its.its_own) its.tallied;
     }
 
+    -- what each process played: its script, its tally, and how they stand in the history
+    its_part : (k : ℕ) → k < pool.sizes.processes
+        → (script : Script) × (tally : Tally) × PlayedIn told settled k (opened_pass pool.table pool.sizes k) script tally
+    its_part k low =
+        let script = slice_get_as_long scripts passes k _ (opened.many ∙ sym each) (opened.each k low) in
+        let tally = slice_get_as_long tallies scripts k script.0 (sym played.one_each) script.1 in
+        (script.0, tally.0, played_at k script.0 tally.0 script.1 tally.1)
+
+    took_few_steps : TookFewSteps pool.sizes.processes settled
+    took_few_steps k low =
+        let (script, tally, its) = its_part k low in
+        subst (λ (calls : List Entry). TookSteps settled k 0 (length calls)) (sym its.its_own) its.steps
+
     -- the pool was closed with a history of these scripts
     pub settles : All IsPlayable scripts → IsSettledBy pool.sizes scripts tallies settled
     settles playable = record {
       shape = played.shape;
       legal = played.legal;
+      short = took_few_steps;
       tallied = are_tallied;
       unrefused = enough_blocks (limits_of pool.sizes) settled.history scripts tallies played.legal each (all_formed scripts playable)
           are_tallied;
@@ -74,7 +88,5 @@ module _ (pool : Pooled) (passes : List Passed) (scripts : List Script) (opened 
     -- and the gate was told of each call in it
     pub told_of_all : WasToldOfAll told pool.sizes.processes settled.history
     told_of_all k low =
-        let script = slice_get_as_long scripts passes k _ (opened.many ∙ sym each) (opened.each k low) in
-        let tally = slice_get_as_long tallies scripts k script.0 (sym played.one_each) script.1 in
-        let its = played_at k script.0 tally.0 script.1 tally.1 in
+        let (script, tally, its) = its_part k low in
         subst (λ (calls : List Entry). ToldBefore told k (length calls)) (sym its.its_own) its.told_all

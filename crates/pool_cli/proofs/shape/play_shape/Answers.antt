@@ -1,7 +1,7 @@
 use Rattle.std.proofs.Common.{◌≡◌, ◌-◌, ◌^◌, min, length, ℕ, refl, subst, arith}
 use Rattle.word_layout.specs.Faults.{IsFirstFault}
 use Rattle.pool_cli.proofs.Endings.{fault_for_all}
-use Rattle.pool_cli.proofs.program.shape_of.Goals as goal
+use Rattle.pool_cli.proofs.shape.play_shape.Goals as goal
 
 pub returns-in-Err-clause-refused : goal.returns-in-Err-clause-refused
 returns-in-Err-clause-refused c = record {
