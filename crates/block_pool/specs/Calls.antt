@@ -38,7 +38,8 @@ pub record Entered (entry : Entry) (old new : Passed) : Type 0 where
   pub seen : SeesMore old.seen new.seen (entry ∷ [])
   pub held : new.held ≡ grip_after old.held entry
 
--- the block that the pass got was free: one of the pool, not held by the pass, and held by nobody in what it has seen from before that entry
+-- the block that the pass got was free: one of the pool, not held by the pass, and in what it has seen from before that entry held by
+-- nobody
 pub record WasFree (block : ℕ) (old new : Passed) : Type 0 where
   pub within : block < blocks old.sizes
   pub not_own : ¬ Contains old.held block
