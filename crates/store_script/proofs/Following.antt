@@ -14,7 +14,7 @@ use Rattle.store_script.specs.Replies.{Kept, Walk, kept, present_but, after_set,
 use Rattle.store_script.specs.PlainStore.{IsAfter}
 
 -- without a key each other one keeps what it kept, and it keeps nothing
-kept-present_but : (walk : Walk) (key q : ℕ) → lookup (eqb q) (present_but walk key) ≡ cond (eqb key q) None (kept walk q)
+pub kept-present_but : (walk : Walk) (key q : ℕ) → lookup (eqb q) (present_but walk key) ≡ cond (eqb key q) None (kept walk q)
 kept-present_but walk key q =
     lookup-filter-keys (eqb q) (λ k. not (eqb k key)) (not (eqb key q)) (same_key key q) walk.present
     ∙ cond_not (eqb key q) (kept walk q) None
@@ -30,7 +30,7 @@ kept_some : (o : Option Kept) (value : Quad) → Some value ≡ option_map (λ k
 kept_some None value is = cc
 kept_some (Some k) value is = (k, refl, cc)
 
-eqb-sym : (x y : ℕ) → eqb x y ≡ eqb y x
+pub eqb-sym : (x y : ℕ) → eqb x y ≡ eqb y x
 eqb-sym x y = grind (arith, nat_tests)
 
 module _ (before after : PlainStore) (walk : Walk) (key : ℕ) (value : Quad) (at : IsAfter before walk)
