@@ -1,10 +1,9 @@
 -- The playing goes on with each command.
-use Rattle.std.proofs.Common.{◌≡◌, ◌≢◌, ℕ, ◌+◌, ◌*◌, ◌<◌, ◌≤◌, Bool, true, false, cond, eqb, if◌then◌else◌, Option, Some, None, option_map, List, [], ◌∷◌, ◌++◌, length, set, refl, sym, ap, ◌∙◌, subst, arith, append_assoc, append-nil, length-append}
+use Rattle.std.proofs.Common.{◌≡◌, ◌≢◌, ℕ, ◌+◌, ◌*◌, ◌<◌, ◌≤◌, Bool, true, false, cond, eqb, if◌then◌else◌, Option, Some, None, option_map, List, [], ◌∷◌, ◌++◌, length, set, refl, sym, ap, ◌∙◌, subst, arith, append_assoc}
 use Rattle.std.specs.List.{Contains, slice_index}
 use Rattle.std.specs.Map.{lookup}
 use Rattle.std.proofs.Math.Seq.{get_or-append_seam}
 use Rattle.std.proofs.lemmas.Option.{none-some, same_Some}
-use Rattle.pool_model.specs.declared.entry.Entry.{Entry}
 use Rattle.pool_model.specs.declared.entry.Entry.TheVariants as entry
 use Rattle.store_script.specs.declared.quad.Quad.{Quad}
 use Rattle.store_script.specs.declared.command.Command.{Command}
@@ -13,12 +12,12 @@ use Rattle.store_script.specs.declared.answered.Answered.{Answered}
 use Rattle.store_script.specs.declared.answered.Answered.TheVariants.{Done, Full, Absent, There, Value}
 use Rattle.store_script.specs.Fit.{calls_of, calls_of_put, calls_of_del}
 use Rattle.store_script.specs.Replies.{Kept, Walk, after, after_put, after_get, after_set, after_del, answering, changed, is_refused, kept, present_but, with_full, with_put}
-use Rattle.store_script.specs.Script.{key_of, place_of, slot_of}
+use Rattle.store_script.specs.Script.{key_of, slot_of}
 use Rattle.store_script.proofs.Following.{eqb-sym, kept-present_but}
 use Rattle.block_pool.specs.Passing.{Passed}
 use Rattle.object_store.specs.Calls.{KeepsOthers}
-use Rattle.object_store.specs.Objects.{HoldsWords, KnowsWords, ObjectView}
-use Rattle.store_player.specs.Playing.{AreApart, AreHeld, BlockIs, Does, GoesOn, GrowsBy, HasPresent, PlaysSoFar, object_in, quad_words, uses_words}
+use Rattle.object_store.specs.Objects.{HoldsWords, ObjectView}
+use Rattle.store_player.specs.Playing.{AreHeld, BlockIs, Does, GoesOn, object_in, quad_words, uses_words}
 use Rattle.object_store.specs.Putting.{IsRefused, IsStored}
 use Rattle.store_player.proofs.Playing.{so_far_step, block_behind, grows_still, grows_more, kept_filled, kept_empty}
 use Rattle.store_player.proofs.Written.{present_written, blocks_written, held_written, apart_written}
@@ -74,6 +73,13 @@ goes_set_absent key slot index number pass slots made has =
     goes_still (Set key slot index number) Absent pass pass slots made refl (omega arith)
     (λ walk refused same. ap (after_set walk key index number) (kept_empty (object_in slots slot) (kept walk key) same has))
     (λ i walk refused blocks same. refl)
+
+pub goes_del_absent : (key slot : ℕ) (pass : Passed) (slots : List (Option (ObjectView Quad))) (made : ℕ)
+    → object_in slots slot ≡ None → GoesOn (Del key slot) Absent pass pass slots slots made made
+goes_del_absent key slot pass slots made has =
+    goes_still (Del key slot) Absent pass pass slots made refl (omega arith)
+    (λ walk refused same. ap (after_del walk key) (kept_empty (object_in slots slot) (kept walk key) same has))
+    (λ i walk refused blocks same. ap (calls_of_del i blocks) (kept_empty (object_in slots slot) (kept walk key) same has))
 
 -- a get of a present key
 pub goes_value : (key slot : ℕ) (old new : Passed) (slots : List (Option (ObjectView Quad))) (made : ℕ) (object : ObjectView Quad)

@@ -1,3 +1,5 @@
-pub mod Written
-pub mod Playing
+pub mod Found
 pub mod Going
+pub mod Playing
+pub mod Whole
+pub mod Written

@@ -1,24 +1,19 @@
 -- How far the process of a pass has played a store script, one command on.
-use Rattle.std.proofs.Common.{◌≡◌, ◌≢◌, ℕ, ◌+◌, ◌*◌, ◌<◌, ◌≤◌, Bool, true, false, cond, eqb, Option, Some, None, option_map, List, [], ◌∷◌, ◌++◌, length, set, replicate, take, refl, sym, ap, ◌∙◌, subst, arith, append_assoc, append-nil, length-append}
+use Rattle.std.proofs.Common.{◌≡◌, ℕ, ◌+◌, ◌*◌, ◌≤◌, Bool, cond, Option, Some, None, option_map, List, [], ◌∷◌, ◌++◌, length, refl, sym, ap, ◌∙◌, subst, arith, append_assoc, append-nil, length-append}
 use Rattle.std.proofs.Math.Seq.{take-length}
-use Rattle.std.specs.List.{Contains, count_by, fold, slice_index}
+use Rattle.std.specs.List.{count_by, fold, slice_index}
 use Rattle.std.proofs.lemmas.List.Sums.{fold-append, sum_by-append}
-use Rattle.std.proofs.lemmas.Option.{none-some, same_Some}
 use Rattle.pool_model.specs.declared.entry.Entry.{Entry}
-use Rattle.pool_model.specs.declared.entry.Entry.TheVariants as entry
 use Rattle.store_script.specs.declared.quad.Quad.{Quad}
 use Rattle.store_script.specs.declared.command.Command.{Command}
-use Rattle.store_script.specs.declared.command.Command.TheVariants.{Put, Get, Set, Del}
 use Rattle.store_script.specs.declared.answered.Answered.{Answered}
-use Rattle.store_script.specs.declared.answered.Answered.TheVariants.{Done, Full, Absent, There, Value}
 use Rattle.store_script.specs.Fit.{calls_from, calls_of}
-use Rattle.store_script.specs.Replies.{Kept, Walk, after, answering, begun, kept, walked}
-use Rattle.store_script.specs.Script.{key_of, place_of, slot_of}
-use Rattle.block_pool.specs.Calls.{SamePass}
+use Rattle.store_script.specs.Replies.{Kept, Walk, after, begun, kept, walked}
+use Rattle.store_script.specs.Script.{place_of}
 use Rattle.block_pool.specs.Passing.{Passed}
 use Rattle.pool_player.proofs.Growing.{begins_so}
-use Rattle.object_store.specs.Objects.{HoldsWords, ObjectView}
-use Rattle.store_player.specs.Playing.{AreApart, AreHeld, BlockIs, Does, GoesOn, GrowsBy, HasPresent, PlaysSoFar, object_in, quad_words, uses_words}
+use Rattle.object_store.specs.Objects.{ObjectView}
+use Rattle.store_player.specs.Playing.{AreApart, AreHeld, BlockIs, Does, GrowsBy, HasPresent, PlaysSoFar, object_in, uses_words}
 
 -- ---- one command more
 

@@ -1,41 +1,15 @@
 -- What the slots have, after one was written.
-use Rattle.std.proofs.Common.{◌≡◌, ◌≢◌, ℕ, ◌+◌, ◌<◌, ◌⊎◌, Bool, true, false, cond, eqb, zero, suc, Option, Some, None, option_map, List, [], ◌∷◌, ◌++◌, length, set, replicate, refl, sym, ap, ◌∙◌, subst, ⊎_elim, inl, inr, arith, append_assoc}
-use Rattle.std.specs.List.{slice_index}
-use Rattle.std.proofs.lemmas.Bool.{cases_eq, eqb-true, ne_eqb, eq-eqb}
+use Rattle.std.proofs.Common.{◌≡◌, ◌≢◌, ℕ, ◌<◌, ◌⊎◌, cond, eqb, Option, Some, None, option_map, List, ◌++◌, length, set, sym, ap, ◌∙◌, subst, ⊎_elim, inl, inr}
+use Rattle.std.proofs.lemmas.Bool.{cases_eq, ne_eqb, eq-eqb}
 use Rattle.std.proofs.lemmas.List.{get_or-set_same, get_or-set_other}
-use Rattle.std.proofs.lemmas.Option.{none-some, same_Some}
+use Rattle.std.proofs.lemmas.Option.{same_Some}
 use Rattle.store_script.specs.declared.quad.Quad.{Quad}
 use Rattle.store_script.specs.Replies.{Kept, Walk, kept}
 use Rattle.store_script.specs.Script.{place_of}
+use Rattle.store_script.proofs.Places.{one_key}
 use Rattle.block_pool.specs.Passing.{Passed}
 use Rattle.object_store.specs.Objects.{HoldsWords, ObjectView}
 use Rattle.store_player.specs.Playing.{AreApart, AreHeld, BlockIs, HasPresent, object_in, quad_words}
-
--- ---- a place has one key
-
-unplaced : (o : Option ℕ) (place : ℕ) → option_map (λ p. p + 1) o ≡ Some place → (p : ℕ) × (o ≡ Some p) × (p + 1 ≡ place)
-unplaced None place e = absurd (cc)
-unplaced (Some p) place e = (p, refl, cc)
-
-pub one_place : (keys : List ℕ) (a b place : ℕ) → place_of a keys ≡ Some place → place_of b keys ≡ Some place → a ≡ b
-one_place [] a b place ha hb = absurd (cc)
-one_place (first ∷ others) a b place ha hb = go (eqb first a) (eqb first b) refl refl ha hb
-  where
-    go : (s t : Bool) → eqb first a ≡ s → eqb first b ≡ t
-        → cond s (Some 0) (option_map (λ p. p + 1) (place_of a others)) ≡ Some place
-        → cond t (Some 0) (option_map (λ p. p + 1) (place_of b others)) ≡ Some place → a ≡ b
-    go true true ea eb _ _ = sym (eqb-true first a ea) ∙ eqb-true first b eb
-    go true false ea eb one other =
-        let zero_is : 0 ≡ place = cc in
-        let next = unplaced (place_of b others) place other in absurd (omega (arith, zero_is, next.2))
-    go false true ea eb one other =
-        let zero_is : 0 ≡ place = cc in
-        let next = unplaced (place_of a others) place one in absurd (omega (arith, zero_is, next.2))
-    go false false ea eb one other =
-        let mine = unplaced (place_of a others) place one in
-        let theirs = unplaced (place_of b others) place other in
-        let same : theirs.0 ≡ mine.0 = omega (arith, mine.2, theirs.2) in
-        one_place others a b mine.0 mine.1 (theirs.1 ∙ ap Some same)
 
 -- ---- a slot is written
 
@@ -66,7 +40,7 @@ module _ (slots : List (Option (ObjectView Quad))) (slot : ℕ) (given : Option 
       ∙ ap (option_map (λ object. object.value)) given_there ∙ same
       ∙ sym (ap (option_map (λ before. before.value)) (updated q ∙ ap (λ b. cond b found (kept walk q)) (eq-eqb q key e))))
       (λ (ne : q ≢ key).
-      let apart : place ≢ slot = λ e. ne (one_place keys q key slot (is ∙ ap Some e) placed) in
+      let apart : place ≢ slot = λ e. ne (one_key q key slot keys (is ∙ ap Some e) placed) in
       ap (option_map (λ object. object.value)) (kept_there place apart) ∙ present q place is
       ∙ sym (ap (option_map (λ before. before.value)) (updated q ∙ ap (λ b. cond b found (kept walk q)) (ne_eqb q key ne))))
       (cases_eq q key)
@@ -83,7 +57,7 @@ module _ (slots : List (Option (ObjectView Quad))) (slot : ℕ) (given : Option 
       two (sym (updated q ∙ ap (λ b. cond b found (kept walk q)) (eq-eqb q key e)))
       (sym (ap (object_in (set slots slot given)) at ∙ given_there)) here)
       (λ (ne : q ≢ key).
-      let apart : place ≢ slot = λ e. ne (one_place keys q key slot (is ∙ ap Some e) placed) in
+      let apart : place ≢ slot = λ e. ne (one_key q key slot keys (is ∙ ap Some e) placed) in
       two (sym (updated q ∙ ap (λ b. cond b found (kept walk q)) (ne_eqb q key ne))) (sym (kept_there place apart)) (there q place is))
       (cases_eq q key)
     where

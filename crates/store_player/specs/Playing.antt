@@ -1,13 +1,13 @@
 -- A store script that the process of a pass plays.
-use Rattle.std.specs.Prelude.{◌≡◌, ◌≢◌, ℕ, ◌+◌, ◌*◌, ◌^◌, ◌<◌, ◌≤◌, Bool, true, false, Option, Some, None, List, [], ◌∷◌, ◌++◌, option_map, length, take, count_by, slice_index, slice_index_or}
+use Rattle.std.specs.Prelude.{◌≡◌, ℕ, ◌+◌, ◌*◌, ◌^◌, ◌<◌, ◌≤◌, Bool, true, false, Option, Some, None, List, [], ◌∷◌, ◌++◌, option_map, length, take, count_by, slice_index, slice_index_or}
 use Rattle.pool_model.specs.declared.entry.Entry.{Entry}
 use Rattle.store_script.specs.declared.quad.Quad.{Quad}
 use Rattle.store_script.specs.declared.command.Command.{Command}
 use Rattle.store_script.specs.declared.command.StoreScript.{StoreScript}
 use Rattle.store_script.specs.declared.answered.Answered.{Answered}
 use Rattle.store_script.specs.declared.answered.Answered.TheVariants.{Done, Full, Absent, There, Value}
-use Rattle.store_script.specs.Fit.{Fits, calls_from}
-use Rattle.store_script.specs.Replies.{Kept, Walk, begun, kept, walked, answers_to}
+use Rattle.store_script.specs.Fit.{IsAnswered, calls_from}
+use Rattle.store_script.specs.Replies.{Kept, Walk, begun, kept, walked}
 use Rattle.store_script.specs.Script.{HasIndex, key_of, keys_of, place_of, slot_of}
 use Rattle.block_pool.specs.Calls.{Entered, SamePass}
 use Rattle.block_pool.specs.Passing.{IsOf, Passed, Pooled}
@@ -64,10 +64,8 @@ pub record IsStorePlayed (script : StoreScript) (old new : Passed) (slots : List
     : Type 0 where
   pub entries : List Entry
   pub grown : GrowsBy entries old new
-  pub refused : List Bool
-  pub fits : Fits old.number script refused entries
-  pub answered : answers ≡ answers_to refused script.commands
-  pub present : HasPresent (keys_of script.commands) (walked refused script.commands) slots
+  pub answered : IsAnswered old.number script entries answers
+  pub present : HasPresent (keys_of script.commands) (walked answered.refused script.commands) slots
   pub held : AreHeld slots new
   pub apart : AreApart slots
   pub moved : old.moves + 4 * count_by uses_words answers ≤ new.moves

@@ -1,4 +1,7 @@
-//! The players of store scripts over a shared pool: the record of each present key stands in a block.
+//! Players of store scripts: the process of a pass keeps the records of a script in blocks of the pool.
+//!
+//! [`play_store`] plays one script with one pass, while other passes of the pool may be used in other threads. A gate is told of
+//! each call that gets or frees a block, before it.
 #![tactic(auto)]
 
 mod calls;

@@ -3,7 +3,7 @@ ghost use Rattle.std.specs.Prelude.{◌≡◌, ◌+◌, ◌-◌, ◌^◌, ◌<�
 ghost use Rattle.pool_io.specs.Gates.{ToldBefore};
 ghost use Rattle.store_script.specs.declared.answered.Answered.{Answered};
 ghost use Rattle.store_script.specs.declared.command.Command.{Command};
-ghost use Rattle.store_script.specs.declared.command.Command.TheVariants.{Put, Get, Set, Del};
+ghost use Rattle.store_script.specs.declared.command.Command.TheVariants as command;
 ghost use Rattle.store_script.specs.Script.{IsWellFormed};
 ghost use Rattle.block_pool.specs.Passing.{IsOf, Passed};
 ghost use Rattle.store_script.specs.Replies.{changed};
@@ -66,13 +66,13 @@ fn play_command<G: Gate>(
         Command::Put { key, slot, value } => play_put(
             pool, pass, key, slot, value, slots, gate, made,
         ),
-        Command::Get { key, slot } => play_get(pool, pass, key, slot, slots, gate, made),
+        Command::Get { key, slot } => play_get(pool, pass, key, slot, slots, *made),
         Command::Set {
             key,
             slot,
             index,
             value,
-        } => play_set(pool, pass, key, slot, index, value, slots, gate, made),
+        } => play_set(pool, pass, key, slot, index, value, slots, *made),
         Command::Del { key, slot } => play_del(pool, pass, key, slot, slots, gate, made),
     }
 }
@@ -88,9 +88,9 @@ fn play_put<G: Gate>(
     gate: &G,
     made: &mut u64,
 ) -> Answered
-    requires next { IsNext (Put key slot value) pool.now pass.old slots.old made.old }
+    requires next { IsNext (command.Put key slot value) pool.now pass.old slots.old made.old }
     requires told { ToldBefore (G.told gate.now) pass.old.number made.old }
-    ensures played { GoesOn (Put key slot value) result pass.old pass.new slots.old slots.new made.old made.new }
+    ensures played { GoesOn (command.Put key slot value) result pass.old pass.new slots.old slots.new made.old made.new }
     ensures told { ToldBefore (G.told gate.now) pass.new.number made.new }
 {
     let _ = key;
@@ -107,22 +107,19 @@ fn play_put<G: Gate>(
     }
 }
 
-/// Tells the numbers of a key.
-fn play_get<G: Gate>(
+/// Tells the numbers of a key. It makes none of the calls that are counted.
+fn play_get(
     pool: &Pool,
     pass: &mut Pass,
     key: u64,
     slot: u32,
-    slots: &mut [Option<Object<Quad>>],
-    gate: &G,
-    made: &mut u64,
+    slots: &[Option<Object<Quad>>],
+    made: u64,
 ) -> Answered
-    requires next { IsNext (Get key slot) pool.now pass.old slots.old made.old }
-    requires told { ToldBefore (G.told gate.now) pass.old.number made.old }
-    ensures played { GoesOn (Get key slot) result pass.old pass.new slots.old slots.new made.old made.new }
-    ensures told { ToldBefore (G.told gate.now) pass.new.number made.new }
+    requires next { IsNext (command.Get key slot) pool.now pass.old slots.now made }
+    ensures played { GoesOn (command.Get key slot) result pass.old pass.new slots.now slots.now made made }
+    ensures number { pass.new.number ≡ pass.old.number }
 {
-    let _ = gate;
     let _ = made;
     match &slots[slot as usize] {
         None => Answered::Absent,
@@ -133,8 +130,8 @@ fn play_get<G: Gate>(
     }
 }
 
-/// Changes one of the numbers of a key.
-fn play_set<G: Gate>(
+/// Changes one of the numbers of a key. It makes none of the calls that are counted.
+fn play_set(
     pool: &Pool,
     pass: &mut Pass,
     key: u64,
@@ -142,19 +139,20 @@ fn play_set<G: Gate>(
     index: u32,
     number: u64,
     slots: &mut [Option<Object<Quad>>],
-    gate: &G,
-    made: &mut u64,
+    made: u64,
 ) -> Answered
-    requires next { IsNext (Set key slot index number) pool.now pass.old slots.old made.old }
-    requires told { ToldBefore (G.told gate.now) pass.old.number made.old }
-    ensures played { GoesOn (Set key slot index number) result pass.old pass.new slots.old slots.new made.old made.new }
-    ensures told { ToldBefore (G.told gate.now) pass.new.number made.new }
+    requires next { IsNext (command.Set key slot index number) pool.now pass.old slots.old made }
+    ensures played { GoesOn (command.Set key slot index number) result pass.old pass.new slots.old slots.new made made }
+    ensures number { pass.new.number ≡ pass.old.number }
 {
-    let _ = (key, gate, made);
-    match &mut slots[slot as usize] {
+    let _ = key;
+    let _ = made;
+    let place = slot as usize;
+    match slots[place].take() {
         None => Answered::Absent,
-        Some(object) => {
-            change(pool, pass, object, index, number);
+        Some(mut object) => {
+            change(pool, pass, &mut object, index, number);
+            slots[place] = Some(object);
             Answered::Done
         }
     }
@@ -170,9 +168,9 @@ fn play_del<G: Gate>(
     gate: &G,
     made: &mut u64,
 ) -> Answered
-    requires next { IsNext (Del key slot) pool.now pass.old slots.old made.old }
+    requires next { IsNext (command.Del key slot) pool.now pass.old slots.old made.old }
     requires told { ToldBefore (G.told gate.now) pass.old.number made.old }
-    ensures played { GoesOn (Del key slot) result pass.old pass.new slots.old slots.new made.old made.new }
+    ensures played { GoesOn (command.Del key slot) result pass.old pass.new slots.old slots.new made.old made.new }
     ensures told { ToldBefore (G.told gate.now) pass.new.number made.new }
 {
     let _ = key;

@@ -10,7 +10,6 @@ use Rattle.line_text.specs.Meanings.{said, first_bad, is_bad}
 use Rattle.line_text.proofs.Meanings.{first_bad-bad, first_bad-good, said-append, said_by_one}
 use Rattle.store_script.specs.declared.line.Request.{Request}
 use Rattle.line_text.specs.declared.meaning.Meaning.{Meaning}
-use Rattle.line_text.specs.declared.meaning.Meaning.TheVariants.{Skipped, Says, Bad}
 use Rattle.store_script.specs.declared.command.StoreScript.{StoreScript}
 use Rattle.line_text.specs.declared.fault.TextFault.{TextFault}
 use Rattle.store_script.specs.Line.{meaning_of}
