@@ -18,7 +18,7 @@ use std::alloc::Global;
 use std::marker::Model;
 use step_counter::{Ledger, Steps};
 use transfer_machine::{NextStep, TransferView, TryStep};
-use versioned_records::{load_record_word, store_record_word};
+use versioned_records::{RecordCursor, load_record_word, store_record_word};
 use word_layout::{Shape, Wish};
 
 #[cfg(test)]
@@ -152,15 +152,17 @@ fn make_try_step<L: Ledger>(
     match step {
         TryStep::LoadRecordWord { index } => {
             let (tag, row) = (loaded.tag(), loaded.row());
-            load_record_word(shape, about, tag, row, index, table, seat, steps).word
+            let cursor = RecordCursor { tag, row, index };
+            load_record_word(shape, about, cursor, table, seat, steps).word
         }
         TryStep::LoadAnnouncement { process } => {
             load_announcement(shape, about, process, table, seat, steps)
         }
         TryStep::StoreRecordWord { index } => {
-            let value = view.draft.value(shape.processes(), index);
             let (tag, row) = (loaded.tag() + 1, view.next_record);
-            store_record_word(shape, about, tag, row, index, value, table, seat, steps).word
+            let cursor = RecordCursor { tag, row, index };
+            let value = view.draft.value(shape.processes(), index);
+            store_record_word(shape, about, cursor, value, table, seat, steps).word
         }
         TryStep::LoadState
         | TryStep::LoadCoveredSlot { .. }
