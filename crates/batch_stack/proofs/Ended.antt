@@ -71,7 +71,7 @@ spare_is_whole sizes words s views held i head before low heads once chains =
     record { chain = chains.batch_blocks head; leads = chains.hold.batches head some; once = omega (arith, some, once) }
 
 -- the pool of a process whose transfer makes a step
-pool_becomes : (sizes : Sizes) (w : ProcessView) (word : ℕ) (t : Bool) (stage : CallStage) → is_alone w.calls.way ≡ t
+pub pool_becomes : (sizes : Sizes) (w : ProcessView) (word : ℕ) (t : Bool) (stage : CallStage) → is_alone w.calls.way ≡ t
     → w.calls.stage ≡ stage → moves_transfer w ≡ true → (next_met sizes w word).pool ≡ pool_met_at word w.pool w.transfer.next
 pool_becomes sizes w word true stage alone here moves = rw alone refl
 pool_becomes sizes w word false Between alone here moves = absurd (false≢true (rw (alone, here) at moves))
@@ -125,7 +125,7 @@ reply_met sizes words w word moves next e =
     e ∙ ap (λ action. answered action (word_met sizes words w)) acts
 
 -- which stages an answer tells
-ends_at : (s : NextStep) (last : Reply) (answer : Progress) → answer ≢ Going → answer ≡ progress_at s last → s ≡ LoadReply
+pub ends_at : (s : NextStep) (last : Reply) (answer : Progress) → answer ≢ Going → answer ≡ progress_at s last → s ≡ LoadReply
 ends_at Rest last answer ends e = absurd (ends e)
 ends_at Announce last answer ends e = absurd (ends e)
 ends_at (Try second step) last answer ends e = absurd (ends e)

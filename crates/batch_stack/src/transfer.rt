@@ -1,11 +1,12 @@
 // One process's transfers, step by step.
-ghost use Rattle.std.specs.Prelude.{◌≡◌, ◌<◌, MatchResult};
+ghost use Rattle.std.specs.Prelude.{◌≡◌, ◌≢◌, ◌<◌, MatchResult};
 ghost use Rattle.word_layout.specs.Sizes.{blocks};
 ghost use Rattle.word_layout.specs.declared.announced.Wish.TheVariants.{Take, Give};
 ghost use Rattle.transfer_machine.specs.declared.stage.NextStep.TheVariants.{Rest};
 ghost use Rattle.pool_table.specs.Steps.{MayStep, OneStep, Stepped};
 ghost use Rattle.pool_table.specs.Transfers.{Agrees};
 ghost use Rattle.batch_stack.specs.declared.progress.Progress.TheVariants.{Going};
+ghost use Rattle.batch_stack.specs.Alone.{EndsAtRest, spares_in, spares_about, spares_after};
 ghost use Rattle.batch_stack.specs.Ended.{EndTells};
 ghost use Rattle.batch_stack.specs.Running.{Running, MadeStep, ComesNearer, GoesOn, IsInTry, opened, step_about, wishing};
 
@@ -92,6 +93,8 @@ impl Transfer {
         ensures nearer { ComesNearer self.old.sizes self.old.part self.new.part result }
         ensures on { result ≡ Going → GoesOn self.old.sizes (step_about call self.old) seat.new.view self.new.part }
         ensures ends { EndTells (step_about call self.old) seat.old.view seat.new.view result }
+        ensures spares { spares_in seat.new.view ≡ spares_after result (spares_about (step_about call self.old) seat.old.view) }
+        ensures rests { result ≢ Going → EndsAtRest self.old.sizes (step_about call self.old) seat.new.view self.new.part }
     {
         let about = about_of(call, self.view.wish);
         let next = self.view.next;
