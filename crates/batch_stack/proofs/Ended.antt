@@ -55,7 +55,8 @@ use Rattle.pool_table.proofs.Transfers.{DueOn, due_on, transfer_steps}
 use Rattle.pool_table.proofs.Turns.{seat_of}
 use Rattle.batch_stack.specs.declared.progress.Progress.{Progress}
 use Rattle.batch_stack.specs.declared.progress.Progress.TheVariants.{Going, Took, Empty, Gave}
-use Rattle.batch_stack.specs.Ended.{IsWholeBatch, HasTaken, MetEmptyStack, FoundNothing, EndTells}
+use Rattle.versioned_records.proofs.Loading.{somewhere_met}
+use Rattle.batch_stack.specs.Ended.{IsWholeBatch, HasTaken, HadNothing, MetEmptyStack, FoundNothing, EndTells}
 use Rattle.batch_stack.specs.Running.{ended_as, progress_at}
 
 -- a spare of a process is whole
@@ -70,7 +71,7 @@ spare_is_whole sizes words s views held i head before low heads once chains =
     record { chain = chains.batch_blocks head; leads = chains.hold.batches head some; once = omega (arith, some, once) }
 
 -- the pool of a process whose transfer makes a step
-pool_becomes : (sizes : Sizes) (w : ProcessView) (word : ℕ) (t : Bool) (stage : CallStage) → is_alone w.calls.way ≡ t
+pub pool_becomes : (sizes : Sizes) (w : ProcessView) (word : ℕ) (t : Bool) (stage : CallStage) → is_alone w.calls.way ≡ t
     → w.calls.stage ≡ stage → moves_transfer w ≡ true → (next_met sizes w word).pool ≡ pool_met_at word w.pool w.transfer.next
 pool_becomes sizes w word true stage alone here moves = rw alone refl
 pool_becomes sizes w word false Between alone here moves = absurd (false≢true (rw (alone, here) at moves))
@@ -124,7 +125,7 @@ reply_met sizes words w word moves next e =
     e ∙ ap (λ action. answered action (word_met sizes words w)) acts
 
 -- which stages an answer tells
-ends_at : (s : NextStep) (last : Reply) (answer : Progress) → answer ≢ Going → answer ≡ progress_at s last → s ≡ LoadReply
+pub ends_at : (s : NextStep) (last : Reply) (answer : Progress) → answer ≢ Going → answer ≡ progress_at s last → s ≡ LoadReply
 ends_at Rest last answer ends e = absurd (ends e)
 ends_at Announce last answer ends e = absurd (ends e)
 ends_at (Try second step) last answer ends e = absurd (ends e)
@@ -189,17 +190,12 @@ module _ (sizes : Sizes) (a : About) (v x : SeatView) (t : TransferView) (word :
       let number : d.process ≡ number_of v.mind =
       sym (number_holds v.sizes (word_at v.sizes words) d.views d.history d.process due.table.low due.table.meets)
       ∙ (ap (λ (z : ProcessView). z.transfer.number) d.here ∙ s.owner) in
-      record {
-        words = words;
-        views = s.made.views;
-        place = s.made.number;
-        held = s.made.held;
-        seated = s.made.seated;
+      somewhere_met a v x word s (HadNothing a v) (record {
         states = states;
         had = had;
         met = subst (λ i. MetNothing v.sizes (word_at v.sizes words) states i w.transfer) number
             (subst (λ (z : ProcessView). MetNothing v.sizes (word_at v.sizes words) states d.process z.transfer) d.here empty);
-      }
+      })
 
   found_nothing : reply_of (value_of word) ≡ replied.Nothing → FoundNothing a v x
   found_nothing nothing =
