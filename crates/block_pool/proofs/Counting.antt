@@ -1,17 +1,15 @@
 -- how many blocks a process holds
-use Rattle.std.proofs.Common.{◌≡◌, ℕ, ◌+◌, ◌≤◌, List, [], ◌∷◌, ◌++◌, length, ap, ◌∙◌, subst, arith}
+use Rattle.std.proofs.Common.{◌≡◌, ℕ, ◌+◌, ◌≤◌, List, [], ◌∷◌, ◌++◌, length, ap, ◌∙◌, arith}
 use Rattle.std.specs.Prelude.{count_by}
-use Rattle.word_layout.specs.Sizes.{Sizes, blocks, most_blocks, limits_of}
-use Rattle.process_sums.proofs.Sums.{term_of_total}
+use Rattle.word_layout.specs.Sizes.{Sizes, most_blocks, limits_of}
 use Rattle.pool_model.specs.declared.entry.Entry.{Entry}
 use Rattle.pool_model.specs.declared.entry.Entry.TheVariants.{Got, Back}
-use Rattle.pool_model.specs.History.{own, held, grip, is_got, is_back}
+use Rattle.pool_model.specs.History.{grip, is_got, is_back}
 use Rattle.pool_model.proofs.Histories.{grip_more}
 use Rattle.history_invariant.specs.Grips.{Balances}
 use Rattle.history_invariant.proofs.Shared.{legal_shared, gots_more, backs_more}
-use Rattle.interleaving_core.proofs.CallLawsKept.{all_counted}
-use Rattle.pool_table.specs.Minds.{Mind, number_of, entries_in, held_in, SeesOwn}
-use Rattle.pool_table.specs.Rule.{views_of}
+use Rattle.pool_table.specs.Minds.{number_of, entries_in, held_in}
+use Rattle.pool_seats.proofs.Settling.{each_holds_few}
 use Rattle.block_pool.specs.declared.process.Process.{Process}
 use Rattle.block_pool.specs.Passing.{BetweenCalls}
 use Rattle.block_pool.proofs.Standing.{seat_at, stands}
@@ -22,26 +20,11 @@ balanced sizes x f =
     let v = x.seat.view in
     (legal_shared (limits_of v.sizes) v.mind.seen (stands sizes x f).legal).balance (number_of v.mind) (seat_at sizes x f).low
 
--- at most all blocks
-at_most_all : (mine held kept stacked all : ℕ) → mine ≤ held → kept + held + stacked ≡ all → mine ≤ all
-at_most_all mine held kept stacked all few counted = omega arith
-
 pub holds_few : (sizes : Sizes) (x : Process) → BetweenCalls sizes x → length (held_in x.seat.view.mind) ≤ most_blocks
 holds_few sizes x f =
-    let v = x.seat.view in
-    let at = seat_at sizes x f in
-    let i = number_of v.mind in
-    let history = f.among.held.history in
-    let (ghosts, holds) = at.holds.meets in
-    let shared = legal_shared (limits_of v.sizes) history holds.entries.legal in
-    let sees : SeesOwn history i v.mind.seen = subst (λ (z : Mind). SeesOwn history i z.seen) at.here (at.holds.sees i at.low) in
-    let one = term_of_total v.sizes.processes i (λ o. length (grip (own history o))) at.low in
-    let counted = all_counted v.sizes f.among.words (views_of f.among.held.minds) history ghosts holds in
-    let mine : length (held_in v.mind) ≡ length (grip (own history i)) = ap (λ l. length (grip l)) sees.own_seen in
-    let all = at_most_all (length (grip (own history i))) (length (held history)) _ _ (blocks v.sizes)
-    (omega (arith, one, shared.grips.count)) counted in
-    let most = at.holds.shape.few_blocks in
-    omega (arith, mine, all, most)
+    let all = each_holds_few x.seat.view f.among f.of_process in
+    let most = (seat_at sizes x f).holds.shape.few_blocks in
+    omega (arith, all, most)
 
 -- an allocate that gets a block adds one, a free takes one away
 pub holds_one_more : (by block : ℕ) (old new : List Entry) → new ≡ old ++ Got by block ∷ [] → length (grip new) ≡ length (grip old) + 1

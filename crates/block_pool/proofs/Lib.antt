@@ -4,8 +4,11 @@ pub mod Standing
 pub mod Calls
 pub mod Counting
 pub mod Passing
+pub mod Fresh
 pub mod Opened
 pub mod Joined
 pub mod Settling
 pub mod Ordered
+pub mod Promises
 pub mod TestedCalls
+pub mod TestedSlots

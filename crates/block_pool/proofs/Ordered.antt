@@ -68,7 +68,7 @@ opened_are_in_order pool passes opened = record {
 }
 
 -- what stands in a list where one place was written
-item_of_set : {X : Type 0} (xs : List X) (n k : ℕ) (new item : X) → slice_get (set xs n new) k ≡ Some item
+pub item_of_set : {X : Type 0} (xs : List X) (n k : ℕ) (new item : X) → slice_get (set xs n new) k ≡ Some item
     → ((k ≡ n) × (new ≡ item)) ⊎ (slice_get xs k ≡ Some item)
 item_of_set [] n k new item at = inr at
 item_of_set (x ∷ xs) zero zero new item at = inl (refl, same_Some new item at)

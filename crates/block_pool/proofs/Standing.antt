@@ -78,6 +78,7 @@ stands sizes x f =
       known_held = λ b k value e. subst (λ l. Contains (grip l) b) (sym sees.own_seen) (data_words.holds b k value e);
       known_within = data_words.within;
       five = omega (arith, five, less);
+      withholds = five;
       account = ledger.account;
       accounted = record {
         reached = goes.reached;

@@ -1,13 +1,11 @@
 -- What a test knows of a pass that allocates again and again.
-use Rattle.std.proofs.Common.{◌≡◌, ℕ, ◌+◌, ◌*◌, ◌^◌, ◌<◌, ◌≤◌, List, ◌∷◌, refl, sym, ap, ◌∙◌, subst, inl, inr, arith, length, set, get_or, Some}
-use Rattle.std.specs.Prelude.{Contains}
+use Rattle.std.proofs.Common.{◌≡◌, ℕ, ◌+◌, ◌*◌, ◌<◌, ◌≤◌, List, Option, refl, sym, ap, ◌∙◌, subst, inl, inr, arith, length, set, get_or, Some}
+use Rattle.std.specs.Prelude.{Contains, IfSome}
 use Rattle.std.proofs.lemmas.Option.{slice_get-get_or}
 use Rattle.std.proofs.lemmas.Bool.{cases_eq}
 use Rattle.word_layout.specs.Sizes.{Sizes}
-use Rattle.pool_model.specs.declared.entry.Entry.{Entry}
 use Rattle.pool_model.specs.declared.entry.Entry.TheVariants as entry
-use Rattle.pool_model.specs.History.{grip_after}
-use Rattle.pool_model.proofs.Members.{contains_tail}
+use Rattle.pool_model.proofs.Members.{contains_head, contains_tail}
 use Rattle.block_pool.specs.declared.pool.Answer.{Answer}
 use Rattle.block_pool.specs.declared.pool.Answer.TheVariants.{Got, Dry}
 use Rattle.block_pool.specs.Passing.{Pooled, Passed, IsOf}
@@ -51,6 +49,13 @@ pub still_held : (by : ℕ) (answer : Answer) (old new : Passed) (block : ℕ) �
 still_held by (Got got) old new block entered there =
     subst (λ blocks. Contains blocks block) (sym entered.held) (contains_tail block got old.held there)
 still_held by Dry old new block entered there = subst (λ blocks. Contains blocks block) (sym entered.held) there
+
+-- the block that was got is held
+pub got_is_held : (by block number : ℕ) (got : Option ℕ) (old new : Passed) → Entered (entry.Got by block) old new → number ≡ block
+    → got ≡ Some number → IfSome got (λ b. Contains new.held b)
+got_is_held by block number got old new entered is e =
+    let held = subst (λ (blocks : List ℕ). Contains blocks block) (sym entered.held) (contains_head block old.held) in
+    rw e (subst (Contains new.held) (sym is) held)
 
 -- the first so many blocks are held, and one more
 pub one_more_held : (count : ℕ) (old new : List ℕ) → ((block : ℕ) → block < count → Contains old block)

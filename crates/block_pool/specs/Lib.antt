@@ -8,4 +8,6 @@ pub mod Owning
 pub mod Calls
 pub mod Opening
 pub mod Closing
+pub mod Promises
+pub mod Tested
 pub mod Joining

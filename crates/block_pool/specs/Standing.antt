@@ -3,7 +3,7 @@ use Rattle.std.specs.Prelude.{◌≡◌, ℕ, ◌*◌, ◌<◌, ◌≤◌, Some,
 use Rattle.word_layout.specs.Sizes.{limits_of, transfer_bound}
 use Rattle.pool_model.specs.History.{own, grip}
 use Rattle.pool_model.specs.Legal.{IsLegal}
-use Rattle.transfer_schedule.specs.Numbers.{kept}
+use Rattle.transfer_schedule.specs.Numbers.{kept, withheld}
 use Rattle.transfer_schedule.specs.Account.{Account, Between, Reached}
 use Rattle.transfer_schedule.specs.Laws.{IsSound}
 use Rattle.history_invariant.specs.Fits.{CountsEntries}
@@ -26,8 +26,9 @@ pub record StandsWell (pass : Passed) : Type 0 where
   -- each data word that it knows is one of a block that it holds
   pub known_held : (block index value : ℕ) → known_in pass.known block index ≡ Some value → Contains pass.held block
   pub known_within : (block index value : ℕ) → known_in pass.known block index ≡ Some value → index < pass.sizes.words
-  -- it keeps at most five batches
+  -- it keeps at most five batches, and no more with the one in transit
   pub five : kept pass.plan ≤ 5 * pass.sizes.length
+  pub withholds : withheld pass.plan ≤ 5 * pass.sizes.length
   -- its account is sound: what it keeps and holds together, and why it keeps few
   pub account : Account
   pub accounted : AccountedFor pass account

@@ -8,7 +8,8 @@ ghost use Rattle.transfer_schedule.specs.Numbers.{after_gave_one};
 ghost use Rattle.pool_table.specs.Minds.{known_in};
 ghost use Rattle.pool_table.specs.Turns.{forget};
 ghost use Rattle.block_pool.specs.Passing.{IsOf};
-ghost use Rattle.block_pool.specs.Calls.{SamePass, Counted, Entered, Allocated, PlanMoved, entry_of};
+ghost use Rattle.block_pool.specs.Calls.{SamePass, Counted, Entered, WasFree, Allocated, PlanMoved, entry_of};
+ghost use Rattle.block_pool.specs.declared.pool.Answer.TheVariants.{Got};
 
 use crate::pass::{Block, Pass};
 use pool_table::PoolTable;
@@ -56,9 +57,9 @@ impl Pool {
     ///
     /// It makes at most a quantum of steps of the pass's pending transfer and one of its own. `Dry` comes exactly where
     /// the pass has no block after the steps of the transfer: its current list is empty, and it has no spare. In both
-    /// cases the pass has one entry more, which stands at the end of what it has seen; that is a legal history, so a block
-    /// that is got was held by nobody, and few blocks were unheld at a moment before a `Dry`. What the pass held and knew
-    /// stays.
+    /// cases the pass has one entry more, which stands at the end of what it has seen; that is a legal history, so few
+    /// blocks were unheld at a moment before a `Dry`. A block that is got was held neither by the pass nor, in that history
+    /// right before, by anybody else. What the pass held and knew stays.
     pub fn allocate<L: Ledger>(&self, pass: &mut Pass, steps: &mut Steps<L>) -> Answer
         requires pass { IsOf self.now pass.old }
         requires young { pass.old.age < most_age }
@@ -67,6 +68,7 @@ impl Pool {
         ensures steps { Counted pass.old.sizes.quantum steps.old steps.new pass.old pass.new }
         ensures entry { Entered (entry_of pass.old.number result) pass.old pass.new }
         ensures legal { IsLegal (limits_of pass.old.sizes) pass.new.seen }
+        ensures free { (block : ℕ) → result ≡ Got block → WasFree block pass.old pass.new }
         ensures known { pass.new.known ≡ pass.old.known }
         ensures plan { Allocated result pass.old pass.new }
         ensures age { pass.new.age ≤ pass.old.age + 1 }

@@ -3,6 +3,8 @@ ghost use Rattle.std.specs.Prelude.{◌≡◌, ℕ, ◌+◌, ◌*◌, ◌<◌, �
 ghost use Rattle.block_pool.specs.Passing.{IsOf};
 ghost use Rattle.block_pool.specs.Calls.{SamePass};
 
+mod threads;
+
 use crate::{Answer, Pass, Pool};
 use std::alloc::Global;
 use std::process::Abort;
@@ -115,4 +117,17 @@ fn first_blocks_and_their_steps(rt: HostRuntime) -> Result<(), Fail> {
         &[(0, 9), (1, 8), (2, 1), (3, 1), (36, 1)],
     )?;
     get_of_ten_batches(&rt, rt.alloc(), 16, &[(0, 16), (1, 1), (18, 1), (19, 16)])
+}
+
+#[test]
+fn a_refused_opening_leaves_nothing(rt: HostRuntime) -> Result<(), Fail> {
+    let Ok(shape) = Shape::new(2, 4, 0) else {
+        panic!(rt; "2 processes and 4 batches are refused");
+    };
+    // `checks/openings` lets each allocation of the first opening fail in turn.
+    let opened = Pool::open(rt.alloc(), &shape).is_ok();
+    let (pool, passes) = Pool::open(rt.alloc(), &shape)?;
+    let settled = pool.finish(passes);
+    assert_eq!(rt; (opened, settled.processes(), settled.held()), (true, 2, 0));
+    Ok(())
 }

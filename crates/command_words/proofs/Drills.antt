@@ -1,44 +1,18 @@
 -- What a parse of `drill` says of its words.
-use Rattle.std.proofs.Common.{◌≡◌, ℕ, List, [], true, Option, Some, None, Result, Ok, Err, refl}
+use Rattle.std.proofs.Common.{◌≡◌, Option, Some, None, Result, Ok, Err, refl}
 use Rattle.std.specs.Prelude.{IfErr, IfOk}
 use Rattle.std.specs.Result.{result_ok}
-use Rattle.clap.specs.Kinds.{HasKind}
-use Rattle.clap.specs.Simple.{App, is_simple, matches_of}
-use Rattle.clap.specs.Faults.{fault_of, is_simple_and_free}
-use Rattle.clap.specs.Values.{kind_of}
-use Rattle.clap.specs.Walk.{Row, rows_of}
-use Rattle.clap.specs.declared.error.Error.{Error}
-use Rattle.clap.specs.declared.error.kind.ErrorKind.TheVariants.{OutOfMemory}
-use Rattle.clap.specs.declared.parser.matches.Found.{Found}
 use Rattle.clap.proofs.OnLiterals.{clap_on_literals}
-use Rattle.command_words.specs.Drill.{drill_app, drill_in, drill_meant}
+use Rattle.command_words.specs.Options.{IsReadable}
+use Rattle.command_words.specs.Drill.{drill_app}
 use Rattle.command_words.specs.declared.command.Drill.{Drill}
 use Rattle.command_words.specs.declared.fault.WordsFault.{WordsFault}
 use Rattle.command_words.specs.declared.fault.WordsFault.TheVariants.{Faulty}
-use Rattle.command_words.proofs.Parses.{meant_by-parsed, meant_by-refused}
 
--- `clap` says what the words of `drill` match
-pub drill_is_simple : is_simple drill_app ≡ true
+-- `clap` says what the words of `drill` match, and which faults they have
+pub drill_is_readable : IsReadable drill_app
 unfolding drill_app clap_on_literals
-drill_is_simple = refl
-
--- and which faults they have
-pub drill_is_free : is_simple_and_free drill_app ≡ true
-unfolding drill_app clap_on_literals
-drill_is_free = refl
-
--- words that parse mean what their matches ask for
-pub drill_meant-parsed : (a : App) (words : List (List ℕ)) (found : Found) → a ≡ drill_app
-    → (is_simple_and_free a ≡ true → fault_of a words ≡ []) → (is_simple a ≡ true → rows_of found ≡ matches_of a words)
-    → drill_meant words ≡ drill_in (rows_of found)
-unfolding drill_meant
-drill_meant-parsed a words found is faultless matched = meant_by-parsed drill_app drill_in a words found drill_is_simple drill_is_free is faultless matched
-
--- words that fail to parse, and not for want of memory, mean nothing
-pub drill_meant-refused : (a : App) (words : List (List ℕ)) (error : Error) → a ≡ drill_app
-    → (is_simple_and_free a ≡ true → HasKind (fault_of a words) error) → ¬ (kind_of error ≡ OutOfMemory) → drill_meant words ≡ None
-unfolding drill_meant
-drill_meant-refused a words error is kinds memory = meant_by-refused drill_app drill_in a words error drill_is_free is kinds memory
+drill_is_readable = record { matches = refl; faults = refl }
 
 -- an answer is what is asked for, and a fault where nothing is
 pub asked_or_none : (meaning : Option Drill) (answer : Result Drill WordsFault) → meaning ≡ result_ok answer

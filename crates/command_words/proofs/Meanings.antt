@@ -1,26 +1,15 @@
 -- What the second word says of a command line.
-use Rattle.std.proofs.Common.{◌≡◌, ◌∙◌, ◌-◌, ◌<◌, ℕ, List, [], ◌∷◌, Bool, true, false, Some, None, Result, Ok, Err, String, Global, refl, sym, ap, drop, take, map, length, string_bytes, slice_index_or}
-use Rattle.std.specs.Prelude.{IfErr, IsErrAnd, codes, option_map, slice_get}
+use Rattle.std.proofs.Common.{◌≡◌, ◌∙◌, ◌-◌, ◌<◌, ℕ, List, [], ◌∷◌, Bool, true, false, Some, None, String, Global, refl, sym, ap}
+use Rattle.std.proofs.Common.{drop, take, map, length, string_bytes, slice_index_or}
+use Rattle.std.specs.Prelude.{codes, option_map, slice_get}
 use Rattle.std.specs.Str.{bytes_eq}
 use Rattle.std.proofs.lemmas.List.{drop-map, take_rest}
 use Rattle.std.proofs.lemmas.Option.{slice_get-map, slice_get_read}
 use Rattle.std.proofs.lemmas.Slice.Eq.{bytes_eq-Decides}
 use Rattle.command_words.specs.Meant.{meant}
+use Rattle.command_words.specs.Drill.{drill_meant}
 use Rattle.command_words.specs.Play.{play_meant}
-use Rattle.command_words.specs.declared.command.Command.{Command}
-use Rattle.command_words.specs.declared.command.Command.TheVariants.{Play}
-use Rattle.command_words.specs.declared.fault.WordsFault.{WordsFault}
-use Rattle.command_words.specs.declared.fault.WordsFault.TheVariants.{Faulty}
-
--- the second word, in bytes
-pub second_word : (words : List (String Global)) (word : String Global) → 1 < length words → word ≡ slice_index_or words 1 word
-    → slice_get (map string_bytes words) 1 ≡ Some (string_bytes word)
-second_word words word within is =
-    slice_get-map string_bytes words 1 ∙ ap (option_map string_bytes) (slice_get_read words (length words) 1 word refl within is)
-
--- the words from the second on, in bytes
-pub words_after : (words : List (String Global)) → map string_bytes (take (length words - 1) (drop 1 words)) ≡ drop 1 (map string_bytes words)
-words_after words = ap (map string_bytes) (take_rest words 1) ∙ sym (drop-map string_bytes 1 words)
+use Rattle.command_words.specs.declared.command.Command.TheVariants.{Drill, Play}
 
 -- without a second word nothing is meant
 pub meant-no_name : (words : List (List ℕ)) → slice_get words 1 ≡ None → meant words ≡ None
@@ -30,25 +19,57 @@ meant-no_name (program ∷ []) none = refl
 meant-no_name (program ∷ name ∷ rest) none = cc
 
 -- where it is `play`, it means with the words after it what they ask of `play`
-pub meant-play : (words : List (List ℕ)) → slice_get words 1 ≡ Some (codes "play") → meant words ≡ option_map Play (play_meant (drop 1 words))
+meant-play : (words : List (List ℕ)) → slice_get words 1 ≡ Some (codes "play")
+    → meant words ≡ option_map Play (play_meant (drop 1 words))
 unfolding meant
 meant-play [] some = cc
 meant-play (program ∷ []) some = cc
 meant-play (program ∷ name ∷ rest) some = let same : name ≡ codes "play" = cc in rw same refl
 
--- where no command has that name, nothing is meant
-pub meant-unknown : (words : List (List ℕ)) (name : List ℕ) → slice_get words 1 ≡ Some name → ¬ (name ≡ codes "play") → meant words ≡ None
+-- where it is `drill`, what they ask of `drill`
+meant-drill : (words : List (List ℕ)) → slice_get words 1 ≡ Some (codes "drill")
+    → meant words ≡ option_map Drill (drill_meant (drop 1 words))
 unfolding meant
-meant-unknown [] name some other = refl
-meant-unknown (program ∷ []) name some other = refl
-meant-unknown (program ∷ second ∷ rest) name some other = go (bytes_eq second (codes "play")) refl
-  where
-    go : (b : Bool) → bytes_eq second (codes "play") ≡ b → meant (program ∷ second ∷ rest) ≡ None
-    go true is = let same : second ≡ name = cc in absurd (other (sym same ∙ (bytes_eq-Decides second (codes "play")).0 is))
-    go false is = rw is refl
+meant-drill [] some = cc
+meant-drill (program ∷ []) some = cc
+meant-drill (program ∷ name ∷ rest) some = let same : name ≡ codes "drill" = cc in rw same refl
 
--- a fault that is handed on comes where it came before
-pub handed_on : (answer : Result Command WordsFault) (first : WordsFault) (Cause : Type 0) → IsErrAnd answer (λ fault. fault ≡ first)
-    → (first ≡ Faulty → Cause) → IfErr answer (λ fault. fault ≡ Faulty → Cause)
-handed_on (Ok command) first Cause same came = tt
-handed_on (Err last) first Cause same came = λ is. came (sym same ∙ is)
+-- a name that isn't this one is not equal to it
+is_other : (name known : List ℕ) → ¬ (name ≡ known) → bytes_eq name known ≡ false
+is_other name known other = go (bytes_eq name known) refl
+  where
+    go : (b : Bool) → bytes_eq name known ≡ b → bytes_eq name known ≡ false
+    go true is = absurd (other ((bytes_eq-Decides name known).0 is))
+    go false is = is
+
+-- where no command has that name, nothing is meant
+meant-unknown : (words : List (List ℕ)) (name : List ℕ) → slice_get words 1 ≡ Some name → ¬ (name ≡ codes "play") → ¬ (name ≡ codes "drill")
+    → meant words ≡ None
+unfolding meant
+meant-unknown [] name some no_play no_drill = refl
+meant-unknown (program ∷ []) name some no_play no_drill = refl
+meant-unknown (program ∷ second ∷ rest) name some no_play no_drill =
+    let same : second ≡ name = cc in
+    rw (same, is_other name (codes "play") no_play, is_other name (codes "drill") no_drill) refl
+
+-- the same of words that own their bytes, the second of which is this
+module _ (words : List (String Global)) (word : String Global) (within : 1 < length words) (is : word ≡ slice_index_or words 1 word) where
+  second : (name : List ℕ) → string_bytes word ≡ name → slice_get (map string_bytes words) 1 ≡ Some name
+  second name named =
+      slice_get-map string_bytes words 1 ∙ ap (option_map string_bytes) (slice_get_read words (length words) 1 word refl within is)
+      ∙ ap Some named
+
+  -- the words from it on, in bytes
+  words_after : drop 1 (map string_bytes words) ≡ map string_bytes (take (length words - 1) (drop 1 words))
+  words_after = drop-map string_bytes 1 words ∙ sym (ap (map string_bytes) (take_rest words 1))
+
+  pub means_play : string_bytes word ≡ codes "play"
+      → meant (map string_bytes words) ≡ option_map Play (play_meant (map string_bytes (take (length words - 1) (drop 1 words))))
+  means_play named = meant-play (map string_bytes words) (second _ named) ∙ ap (λ after. option_map Play (play_meant after)) words_after
+
+  pub means_drill : string_bytes word ≡ codes "drill"
+      → meant (map string_bytes words) ≡ option_map Drill (drill_meant (map string_bytes (take (length words - 1) (drop 1 words))))
+  means_drill named = meant-drill (map string_bytes words) (second _ named) ∙ ap (λ after. option_map Drill (drill_meant after)) words_after
+
+  pub means_nothing : ¬ (string_bytes word ≡ codes "play") → ¬ (string_bytes word ≡ codes "drill") → meant (map string_bytes words) ≡ None
+  means_nothing no_play no_drill = meant-unknown (map string_bytes words) (string_bytes word) (second _ refl) no_play no_drill

@@ -1,5 +1,6 @@
 -- What `parse` makes of a text of decimal digits alone.
-use Rattle.std.proofs.Common.{◌≡◌, ℕ, ◌^◌, ◌&&◌, Bool, true, false, cond, List, length, Some, None, Result, Ok, Err, rules, refl, lt-ltb, nat_lt}
+use Rattle.std.proofs.Common.{◌≡◌, ℕ, ◌^◌, ◌&&◌, Bool, true, false, cond, List, length, Some, None, Result, Ok, Err}
+use Rattle.std.proofs.Common.{rules, refl, lt-ltb, nat_lt}
 use Rattle.std.specs.Result.{result_ok}
 use Rattle.std.specs.Str.Parse.{ParsesUnsigned, digits_value}
 use Rattle.std.proofs.lemmas.Bool.{ltb-true}

@@ -1,33 +1,19 @@
 -- What a parse of `play` says of its words.
-use Rattle.std.proofs.Common.{◌≡◌, ◌∙◌, ℕ, List, [], true, Option, Some, None, refl, ap, map}
+use Rattle.std.proofs.Common.{◌≡◌, ◌∙◌, ℕ, List, Option, Some, None, refl, map}
 use Rattle.std.specs.Prelude.{codes, option_map}
 use Rattle.std.specs.Borrow.{Bor}
-use Rattle.clap.specs.Kinds.{HasKind}
 use Rattle.clap.specs.Matches.{matched_of, raw_values}
-use Rattle.clap.specs.Simple.{App, is_simple, matches_of}
-use Rattle.clap.specs.Faults.{fault_of, is_simple_and_free}
-use Rattle.clap.specs.Values.{kind_of}
 use Rattle.clap.specs.Walk.{Row, all_of, rows_of}
-use Rattle.clap.specs.declared.error.Error.{Error}
-use Rattle.clap.specs.declared.error.kind.ErrorKind.TheVariants.{OutOfMemory}
 use Rattle.clap.specs.declared.parser.matches.Found.{Found}
 use Rattle.clap.proofs.OnLiterals.{clap_on_literals}
 use Rattle.clap.proofs.WalkLemmas.{raw_values-rows}
-use Rattle.command_words.specs.Options.{number_at}
-use Rattle.command_words.specs.Play.{play_app, play_in, play_meant, play_with}
-use Rattle.command_words.proofs.Parses.{meant_by-parsed, meant_by-refused}
+use Rattle.command_words.specs.Options.{IsReadable, number_at}
+use Rattle.command_words.specs.Play.{play_app, play_in, play_with}
 
--- `clap` says what the words of `play` match
-pub play_is_simple : is_simple play_app ≡ true
+-- `clap` says what the words of `play` match, and which faults they have
+pub play_is_readable : IsReadable play_app
 unfolding play_app clap_on_literals
-play_is_simple = refl
-
--- and which faults they have
-pub play_is_free : is_simple_and_free play_app ≡ true
-unfolding play_app clap_on_literals
-play_is_free = refl
-
--- ---- its matches
+play_is_readable = record { matches = refl; faults = refl }
 
 -- the values that the matches have for an id
 pub all_of-values : (found : Found) (id : List ℕ) (values : Option (Bor (List (Bor (List ℕ)))))
@@ -70,18 +56,3 @@ play_in-no_files matches none =
     go (Some batches) None quantum = refl
     go (Some batches) (Some size) None = refl
     go (Some batches) (Some size) (Some quantum) = refl
-
--- ---- its parse
-
--- words that parse mean what their matches ask for
-pub play_meant-parsed : (a : App) (words : List (List ℕ)) (found : Found) → a ≡ play_app
-    → (is_simple_and_free a ≡ true → fault_of a words ≡ []) → (is_simple a ≡ true → rows_of found ≡ matches_of a words)
-    → play_meant words ≡ play_in (rows_of found)
-unfolding play_meant
-play_meant-parsed a words found is faultless matched = meant_by-parsed play_app play_in a words found play_is_simple play_is_free is faultless matched
-
--- words that fail to parse, and not for want of memory, mean nothing
-pub play_meant-refused : (a : App) (words : List (List ℕ)) (error : Error) → a ≡ play_app
-    → (is_simple_and_free a ≡ true → HasKind (fault_of a words) error) → ¬ (kind_of error ≡ OutOfMemory) → play_meant words ≡ None
-unfolding play_meant
-play_meant-refused a words error is kinds memory = meant_by-refused play_app play_in a words error play_is_free is kinds memory

@@ -1,7 +1,7 @@
 -- The words of `drill`.
-use Rattle.std.specs.Prelude.{ℕ, List, Option, Some, None, codes, nat_le, if◌then◌else◌}
-use Rattle.clap.specs.Words.{App, Row, fault_of, matches_of, new_app, with_rule}
-use Rattle.command_words.specs.Options.{if_faultless, number_at, option_rule, without_help}
+use Rattle.std.specs.Prelude.{ℕ, List, [], ◌∷◌, Option, Some, None, codes, nat_le, if◌then◌else◌}
+use Rattle.clap.specs.Words.{App, Row}
+use Rattle.command_words.specs.Options.{asked_of, command_of, number_at, option_rule}
 use Rattle.command_words.specs.declared.command.Drill.{Drill}
 
 -- how many calls are asked for at most
@@ -10,12 +10,8 @@ most_calls = 131072
 
 -- the command `drill [--seed S] [--processes P] [--calls N] [--quantum Q]`
 unfoldable pub drill_app : App
-drill_app =
-    let named = without_help (new_app (codes "drill")) in
-    let with_seed = with_rule named (option_rule (codes "seed") (codes "1")) in
-    let with_processes = with_rule with_seed (option_rule (codes "processes") (codes "4")) in
-    let with_calls = with_rule with_processes (option_rule (codes "calls") (codes "1000")) in
-    with_rule with_calls (option_rule (codes "quantum") (codes "8"))
+drill_app = command_of (codes "drill") (option_rule (codes "seed") (codes "1") ∷ option_rule (codes "processes") (codes "4")
+    ∷ option_rule (codes "calls") (codes "1000") ∷ option_rule (codes "quantum") (codes "8") ∷ [])
 
 -- what the numbers ask for together; none where one of them is missing, or more calls are asked for than there may be
 abbrev pub drill_with : Option ℕ → Option ℕ → Option ℕ → Option ℕ → Option Drill
@@ -30,4 +26,4 @@ drill_in matches = drill_with (number_at 64 (codes "seed") matches) (number_at 3
 
 -- what `drill` and the words after it ask for; none where `clap` finds a fault in them
 unfoldable pub drill_meant : List (List ℕ) → Option Drill
-drill_meant words = if_faultless (fault_of drill_app words) (drill_in (matches_of drill_app words))
+drill_meant = asked_of drill_app drill_in

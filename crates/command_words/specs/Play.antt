@@ -1,8 +1,8 @@
 -- The words of `play`.
-use Rattle.std.specs.Prelude.{ℕ, List, Option, Some, None, true, codes}
-use Rattle.clap.specs.Words.{App, Row, Rule, all_of, fault_of, matches_of, new_app, new_rule, with_rule}
+use Rattle.std.specs.Prelude.{ℕ, List, [], ◌∷◌, Option, Some, None, true, codes}
+use Rattle.clap.specs.Words.{App, Row, Rule, all_of, new_rule}
 use Rattle.clap.specs.declared.builder.action.ArgAction.TheVariants.{Append}
-use Rattle.command_words.specs.Options.{if_faultless, number_at, option_rule, without_help}
+use Rattle.command_words.specs.Options.{asked_of, command_of, number_at, option_rule}
 use Rattle.command_words.specs.declared.command.Play.{Play}
 
 -- the words that are no options: file names, one at least
@@ -11,12 +11,8 @@ files_rule = record (new_rule (codes "files")) { action = Some Append; required 
 
 -- the command `play [--batches B] [--size Z] [--quantum Q] FILE...`
 unfoldable pub play_app : App
-play_app =
-    let named = without_help (new_app (codes "play")) in
-    let with_batches = with_rule named (option_rule (codes "batches") (codes "1024")) in
-    let with_size = with_rule with_batches (option_rule (codes "size") (codes "64")) in
-    let with_quantum = with_rule with_size (option_rule (codes "quantum") (codes "8")) in
-    with_rule with_quantum files_rule
+play_app = command_of (codes "play") (option_rule (codes "batches") (codes "1024") ∷ option_rule (codes "size") (codes "64")
+    ∷ option_rule (codes "quantum") (codes "8") ∷ files_rule ∷ [])
 
 -- what the numbers and the file names ask for together; none where one of them is missing
 abbrev pub play_with : Option ℕ → Option ℕ → Option ℕ → Option (List (List ℕ)) → Option Play
@@ -31,4 +27,4 @@ play_in matches = play_with (number_at 32 (codes "batches") matches) (number_at 
 
 -- what `play` and the words after it ask for; none where `clap` finds a fault in them
 unfoldable pub play_meant : List (List ℕ) → Option Play
-play_meant words = if_faultless (fault_of play_app words) (play_in (matches_of play_app words))
+play_meant = asked_of play_app play_in

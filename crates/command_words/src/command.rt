@@ -8,6 +8,8 @@ use std::marker::Model;
 pub enum Command {
     /// Play trace files.
     Play(Play),
+    /// Make traces, and play these.
+    Drill(Drill),
 }
 
 /// What `play` was asked for.

@@ -1,3 +1,4 @@
+use clap::error::ErrorKind;
 use std::alloc::AllocError;
 use std::error::Error;
 use std::fmt;
@@ -30,5 +31,21 @@ impl From<AllocError> for WordsFault {
 
     fn from(_error: AllocError) -> WordsFault {
         WordsFault::NoMemory
+    }
+}
+
+impl From<clap::Error> for WordsFault {
+    ghost use Rattle.std.specs.Prelude.{◌≡◌};
+    ghost use Rattle.clap.specs.Words.{kind_of};
+    ghost use Rattle.clap.specs.declared.error.kind.ErrorKind.TheVariants.{OutOfMemory};
+    ghost use Rattle.command_words.specs.declared.fault.WordsFault.TheVariants.{Faulty};
+
+    ghost from_gives = { λ error fault. fault ≡ Faulty → ¬ (kind_of error ≡ OutOfMemory) };
+
+    fn from(error: clap::Error) -> WordsFault {
+        match error.kind() {
+            ErrorKind::OutOfMemory => WordsFault::NoMemory,
+            _ => WordsFault::Faulty,
+        }
     }
 }

@@ -2,19 +2,9 @@
 ghost use Rattle.std.specs.Prelude.{◌≡◌};
 ghost use Rattle.command_words.specs.Number.{is_decimal, number_of};
 
-/// Reads a text of decimal digits alone as a number below 2^32. None where the text is no such number, as
-/// the empty text, `+10` and 4294967296.
-pub(crate) fn read_number(text: &str) -> Option<u32>
-    ensures { result ≡ number_of 32 text.now }
-{
-    if !has_digits_alone(text) {
-        return None;
-    }
-    text.parse().ok()
-}
-
-/// Reads a text of decimal digits alone as a number below 2^64. None where the text is no such number.
-pub(crate) fn read_long_number(text: &str) -> Option<u64>
+/// Reads a text of decimal digits alone as a number below 2^64. None where the text is no such number, as
+/// the empty text, `+10` and 18446744073709551616.
+pub(crate) fn read_number(text: &str) -> Option<u64>
     ensures { result ≡ number_of 64 text.now }
 {
     if !has_digits_alone(text) {

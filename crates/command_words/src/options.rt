@@ -1,11 +1,34 @@
-// The options of a command.
-ghost use Rattle.std.specs.Prelude.{◌≡◌, false};
-ghost use Rattle.clap.specs.Words.{found_of, rows_of, rule_of};
-ghost use Rattle.command_words.specs.Options.{number_at, option_rule};
+// The options of a command, and the matches of its words.
+ghost use Rattle.std.specs.Prelude.{◌≡◌, [], false, IfOk, IfErr, map, string_bytes};
+ghost use Rattle.clap.specs.Words.{app_of, found_of, rows_of, rule_of};
+ghost use Rattle.command_words.specs.Options.{IsMatchedBy, IsReadable, IsRefused, command_of, number_at, option_rule};
+ghost use Rattle.command_words.specs.declared.fault.WordsFault.TheVariants.{Faulty};
 
-use crate::number::{read_long_number, read_number};
+use crate::WordsFault;
+use crate::number::read_number;
 use clap::{Arg, ArgAction, ArgMatches};
 use std::alloc::Global;
+
+/// A command without options and files, and without the flag that asks for help.
+pub(crate) fn bare_command<'a>(alloc: Global, name: &'a str) -> clap::Command<'a>
+    ensures { app_of result ≡ command_of name.entry.now [] }
+{
+    clap::Command::new(alloc, name).disable_help_flag(true)
+}
+
+/// What words match of a command, whose name is the first of them. Its errors are a fault that `clap` finds in them,
+/// and want of memory.
+pub(crate) fn read_matches<'a>(
+    command: clap::Command<'a>,
+    words: &'a [String],
+) -> Result<ArgMatches<'a>, WordsFault>
+    requires { IsReadable (app_of command) }
+    ensures ok { IfOk result (λ matches.
+        IsMatchedBy (app_of command.entry) (map string_bytes words.now) (rows_of (found_of matches))) }
+    ensures faulty { IfErr result (λ fault. fault ≡ Faulty → IsRefused (app_of command.entry) (map string_bytes words.now)) }
+{
+    Ok(command.try_get_matches_from(words)?)
+}
 
 /// An option `--name V` with its default.
 pub(crate) fn option<'a>(alloc: Global, name: &'a str, default: &'a str) -> Arg<'a>
@@ -18,16 +41,16 @@ pub(crate) fn option<'a>(alloc: Global, name: &'a str, default: &'a str) -> Arg<
         .default_value(default)
 }
 
-/// The number of an option, given or default. None where its value is no number below 2^32.
-pub(crate) fn number_of_option(matches: &ArgMatches<'_>, name: &str) -> Option<u32>
-    ensures { result ≡ number_at 32 name.now (rows_of (found_of matches.now)) }
-{
-    read_number(matches.get_str(name)?)
-}
-
 /// The number of an option, given or default. None where its value is no number below 2^64.
 pub(crate) fn long_number_of_option(matches: &ArgMatches<'_>, name: &str) -> Option<u64>
     ensures { result ≡ number_at 64 name.now (rows_of (found_of matches.now)) }
 {
-    read_long_number(matches.get_str(name)?)
+    read_number(matches.get_str(name)?)
+}
+
+/// The number of an option, given or default. None where its value is no number below 2^32.
+pub(crate) fn number_of_option(matches: &ArgMatches<'_>, name: &str) -> Option<u32>
+    ensures { result ≡ number_at 32 name.now (rows_of (found_of matches.now)) }
+{
+    u32::try_from(long_number_of_option(matches, name)?).ok()
 }

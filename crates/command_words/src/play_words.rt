@@ -4,9 +4,8 @@ ghost use Rattle.clap.specs.Words.{app_of, found_of, rows_of};
 ghost use Rattle.command_words.specs.Play.{play_app, play_in, play_meant};
 ghost use Rattle.command_words.specs.declared.fault.WordsFault.TheVariants.{Faulty};
 
-use crate::options::{number_of_option, option};
+use crate::options::{bare_command, number_of_option, option, read_matches};
 use crate::{FileNames, Play, WordsFault};
-use clap::error::ErrorKind;
 use clap::{Arg, ArgAction, ArgMatches};
 use std::alloc::{AllocError, Global};
 
@@ -15,14 +14,8 @@ pub(crate) fn read_play(alloc: Global, words: &[String]) -> Result<Play, WordsFa
     ensures ok { IfOk result (λ play. play_meant (map string_bytes words.now) ≡ Some play) }
     ensures faulty { IfErr result (λ fault. fault ≡ Faulty → play_meant (map string_bytes words.now) ≡ None) }
 {
-    let command = play_command(alloc)?;
-    match command.try_get_matches_from(words) {
-        Ok(matches) => play_of(alloc, &matches),
-        Err(error) => match error.kind() {
-            ErrorKind::OutOfMemory => Err(WordsFault::NoMemory),
-            _ => Err(WordsFault::Faulty),
-        },
-    }
+    let matches = read_matches(play_command(alloc)?, words)?;
+    play_of(alloc, &matches)
 }
 
 /// The command `play` as `clap` reads it.
@@ -32,8 +25,7 @@ fn play_command<'a>(alloc: Global) -> Result<clap::Command<'a>, AllocError>
     let files = Arg::new(alloc, "files")
         .action(ArgAction::Append)
         .required(true);
-    clap::Command::new(alloc, "play")
-        .disable_help_flag(true)
+    bare_command(alloc, "play")
         .arg(option(alloc, "batches", "1024"))?
         .arg(option(alloc, "size", "64"))?
         .arg(option(alloc, "quantum", "8"))?

@@ -1,8 +1,9 @@
 // The whole command line.
 ghost use Rattle.std.specs.Prelude.{◌≡◌, Some, None, IfOk, IfErr, map, string_bytes};
-ghost use Rattle.command_words.specs.Meant.{meant};
+ghost use Rattle.command_words.specs.Meant.{HasFewCalls, meant};
 ghost use Rattle.command_words.specs.declared.fault.WordsFault.TheVariants.{Faulty};
 
+use crate::drill_words::read_drill;
 use crate::play_words::read_play;
 use crate::{Command, WordsFault};
 use std::alloc::Global;
@@ -12,6 +13,7 @@ use std::alloc::Global;
 /// `Faulty` exactly where the words mean no command; `NoMemory` for want of memory.
 pub fn read_words(alloc: Global, words: &[String]) -> Result<Command, WordsFault>
     ensures ok { IfOk result (λ command. meant (map string_bytes words.now) ≡ Some command) }
+    ensures few { IfOk result HasFewCalls }
     ensures faulty { IfErr result (λ fault. fault ≡ Faulty → meant (map string_bytes words.now) ≡ None) }
 {
     let Some(name) = words.get(1) else {
@@ -19,6 +21,7 @@ pub fn read_words(alloc: Global, words: &[String]) -> Result<Command, WordsFault
     };
     match name.as_str() {
         "play" => Ok(Command::Play(read_play(alloc, &words[1..])?)),
+        "drill" => Ok(Command::Drill(read_drill(alloc, &words[1..])?)),
         _ => Err(WordsFault::Faulty),
     }
 }

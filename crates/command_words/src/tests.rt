@@ -1,18 +1,26 @@
-use crate::{Command, Play, WordsFault, read_words};
+use crate::{Command, Drill, Play, WordsFault, read_words};
 use std::alloc::Global;
 use std::test::Fail;
 
-/// What the words after the program's name ask of `play`; None where they are at fault.
-fn asked(alloc: Global, words: &[&str]) -> Result<Option<Play>, Fail> {
+/// What the words after the program's name ask for; None where they are at fault.
+fn asked(alloc: Global, words: &[&str]) -> Result<Option<Command>, Fail> {
     let mut owned = Vec::new(alloc);
     owned.push(String::from_str(alloc, "pooltrace")?)?;
     for word in words {
         owned.push(String::from_str(alloc, word)?)?;
     }
     match read_words(alloc, owned.as_slice()) {
-        Ok(Command::Play(play)) => Ok(Some(play)),
+        Ok(command) => Ok(Some(command)),
         Err(WordsFault::Faulty) => Ok(None),
         Err(WordsFault::NoMemory) => Err(Fail::from("no memory")),
+    }
+}
+
+/// What they ask of `play`.
+fn asked_play(alloc: Global, words: &[&str]) -> Result<Play, Fail> {
+    match asked(alloc, words)? {
+        Some(Command::Play(play)) => Ok(play),
+        _ => Err(Fail::from("no play")),
     }
 }
 
@@ -64,19 +72,52 @@ fn words_of_play(rt: HostRuntime) -> Result<(), Fail> {
         (&["play", "a b", "é"], (1024, 64, 8), &["a b", "é"]),
     ];
     for (words, numbers, files) in &cases {
-        let play = asked(rt.alloc(), words)?.ok_or("a fault")?;
+        let play = asked_play(rt.alloc(), words)?;
         assert!(rt; is_asked(&play, *numbers, files), "{words:?}: {play:?}");
     }
     let mut words = Vec::from_slice(rt.alloc(), &["play"])?;
     words.extend_from_slice(&many)?;
-    let play = asked(rt.alloc(), words.as_slice())?.ok_or("a fault")?;
+    let play = asked_play(rt.alloc(), words.as_slice())?;
     assert!(rt; is_asked(&play, (1024, 64, 8), &many));
+    Ok(())
+}
+
+/// What the words ask of `drill`, by its numbers.
+fn drill(seed: u64, processes: u32, calls: u32, quantum: u32) -> Drill {
+    Drill {
+        seed,
+        processes,
+        calls,
+        quantum,
+    }
+}
+
+#[test]
+fn words_of_drill(rt: HostRuntime) -> Result<(), Fail> {
+    let cases: [(&[&str], Drill); 4] = [
+        (&["drill"], drill(1, 4, 1000, 8)),
+        (&["drill", "--processes", "0"], drill(1, 0, 1000, 8)),
+        (
+            &["drill", "--calls=131072", "--quantum", "1"],
+            drill(1, 4, 131072, 1),
+        ),
+        (
+            &["drill", "--seed", "18446744073709551615", "--calls", "0"],
+            drill(u64::MAX, 4, 0, 8),
+        ),
+    ];
+    for (words, drill) in &cases {
+        match asked(rt.alloc(), words)? {
+            Some(Command::Drill(asked)) => assert_eq!(rt; asked, *drill, "{words:?}"),
+            _ => return Err(Fail::from("no drill")),
+        }
+    }
     Ok(())
 }
 
 #[test]
 fn faulty_words(rt: HostRuntime) -> Result<(), Fail> {
-    let cases: [&[&str]; 22] = [
+    let cases: [&[&str]; 29] = [
         &[],
         &["plays", "f"],
         &["Play", "f"],
@@ -99,10 +140,17 @@ fn faulty_words(rt: HostRuntime) -> Result<(), Fail> {
         &["play", "--help"],
         &["play", "-h", "f"],
         &["play", "--version", "f"],
+        &["drill", "f"],
+        &["drill", "--seed", "1", "--seed", "1"],
+        &["drill", "--processes=4294967296"],
+        &["drill", "--batches", "8"],
+        &["drill", "--quantum", ""],
+        &["drill", "--calls", "131073"],
+        &["drill", "--seed", "18446744073709551616"],
     ];
     for words in &cases {
-        let play = asked(rt.alloc(), words)?;
-        assert!(rt; play.is_none(), "{words:?}: {play:?}");
+        let command = asked(rt.alloc(), words)?;
+        assert!(rt; command.is_none(), "{words:?}: {command:?}");
     }
     Ok(())
 }

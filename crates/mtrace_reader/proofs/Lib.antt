@@ -1,9 +1,7 @@
 pub mod LivePairs
 pub mod WellFormed
-pub mod Cuts
-pub mod Digits
 pub mod Lines
 pub mod Readers
-pub mod Taking
 pub mod Meanings
 pub mod Making
+pub mod Short

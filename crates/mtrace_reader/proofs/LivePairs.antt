@@ -1,15 +1,8 @@
-use Rattle.std.proofs.Common.{◌≡◌, ℕ, Bool, true, false, cond, not, eqb, None, refl, ◌∙◌, arith}
+use Rattle.std.proofs.Common.{◌≡◌, ℕ, cond, not, eqb, None, ◌∙◌}
 use Rattle.std.specs.Map.{lookup}
-use Rattle.std.proofs.lemmas.Bool.Decides.{nat_tests}
 use Rattle.std.proofs.lemmas.Map.Entries.{lookup-filter-keys}
+use Rattle.line_text.proofs.Choices.{cond_not, same_key}
 use Rattle.mtrace_reader.specs.Script.{Walk, live_but, named}
-
-pub same_key : (address q k : ℕ) → eqb q k ≡ true → not (eqb k address) ≡ not (eqb address q)
-same_key address q k e = grind (arith, nat_tests)
-
-pub cond_not : {A : Type 0} (b : Bool) (x y : A) → cond (not b) x y ≡ cond b y x
-cond_not true x y = refl
-cond_not false x y = refl
 
 -- without an address's pair, each other address names what it named, and it names nothing
 pub lookup-live_but : (walk : Walk) (address q : ℕ) → lookup (eqb q) (live_but walk address) ≡ cond (eqb address q) None (named walk q)

@@ -1,4 +1,6 @@
-use Rattle.std.proofs.Common.{◌≡◌, ◌≢◌, ℕ, ◌+◌, ◌<◌, Bool, true, false, cond, eqb, nat_lt, List, [], ◌∷◌, ◌++◌, length, get_or, take, drop, zero, suc, Option, Some, None, is_some, fold, refl, sym, ap, ◌∙◌, subst, ⊎_elim, inl, inr, ◌⊎◌, arith, length-append, append-nil, map-id, ◌==◌}
+use Rattle.std.proofs.Common.{◌≡◌, ◌≢◌, ℕ, ◌+◌, ◌<◌, Bool, true, false, cond, eqb, nat_lt, List, [], ◌∷◌, ◌++◌, length, get_or, take, drop}
+use Rattle.std.proofs.Common.{zero, suc, Option, Some, None, is_some, fold, refl, sym, ap, ◌∙◌, subst, ⊎_elim, inl, inr, ◌⊎◌, arith}
+use Rattle.std.proofs.Common.{length-append, append-nil, map-id, ◌==◌}
 use Rattle.std.specs.List.{slice_get, Contains, range_with_len}
 use Rattle.std.specs.Map.{lookup}
 use Rattle.std.proofs.lemmas.Bool.{false≢true}
@@ -16,7 +18,8 @@ use Rattle.mtrace_reader.specs.declared.steps.Step.{Step}
 use Rattle.mtrace_reader.specs.declared.steps.Step.TheVariants.{Place, Leave}
 use Rattle.mtrace_reader.specs.declared.walk.Live.{Live}
 use Rattle.mtrace_reader.specs.declared.walk.Live.TheVariants.{Slot, Big}
-use Rattle.mtrace_reader.specs.Script.{Walk, named, live_but, without, after, after_release, with_failed, with_twice, with_big, with_place, begun, placed_slots, LeavesPlaced, IsWellFormed}
+use Rattle.mtrace_reader.specs.Script.{Walk, named, live_but, without, after, after_release, with_failed, with_twice, with_big, with_place}
+use Rattle.mtrace_reader.specs.Script.{begun, placed_slots, LeavesPlaced, IsWellFormed}
 
 -- ---- the slots that steps place
 
@@ -27,7 +30,8 @@ placed_slots-append (Leave slot ∷ xs) ys = placed_slots-append xs ys
 
 -- one more number from 0
 pub range_with_len_more : (n : ℕ) → range_with_len 0 (n + 1) ≡ range_with_len 0 n ++ n ∷ []
-range_with_len_more n = sym (map-id (range_with_len 0 (n + 1))) ∙ map-range_with_len_more (λ k. k) 0 n n (omega arith) ∙ ap (λ slots. slots ++ n ∷ []) (map-id (range_with_len 0 n))
+range_with_len_more n = sym (map-id (range_with_len 0 (n + 1))) ∙ map-range_with_len_more (λ k. k) 0 n n (omega arith)
+    ∙ ap (λ slots. slots ++ n ∷ []) (map-id (range_with_len 0 n))
 
 pub placed_slots-at : (steps : List Step) (place slot : ℕ) → slice_get steps place ≡ Some (Place slot) → Contains (placed_slots steps) slot
 placed_slots-at [] place slot e = absurd cc
@@ -38,7 +42,8 @@ placed_slots-at (Place first ∷ steps) (suc place) slot e =
 placed_slots-at (Leave first ∷ steps) (suc place) slot e = placed_slots-at steps place slot e
 
 -- a slot that was placed is below their number
-pub placed_below : (steps : List Step) (news slot : ℕ) → placed_slots steps ≡ range_with_len 0 news → Contains steps (Place slot) → slot < news
+pub placed_below : (steps : List Step) (news slot : ℕ) → placed_slots steps ≡ range_with_len 0 news → Contains steps (Place slot)
+    → slot < news
 placed_below steps news slot in_order placed =
     let at = placed_slots-at steps placed.0 slot (slice_get-get_or steps placed.0 (Place slot) placed.1 ∙ ap Some placed.2) in
     let below : at.0 < news = omega (arith, at.1, ap length in_order, length-range_with_len 0 news) in
@@ -83,7 +88,8 @@ Sound-begun cut = record {
 }
 
 -- a step that changes neither the pairs, the steps nor the number of slots
-pub Sound-same : (walk next : Walk) → next.live ≡ walk.live → next.script.steps ≡ walk.script.steps → next.script.news ≡ walk.script.news → Sound walk → Sound next
+pub Sound-same : (walk next : Walk) → next.live ≡ walk.live → next.script.steps ≡ walk.script.steps → next.script.news ≡ walk.script.news
+    → Sound walk → Sound next
 Sound-same walk next live steps news sound = record {
   in_order = rw (steps, news) sound.in_order;
   leaves = rw steps sound.leaves;
@@ -119,7 +125,8 @@ named_less walk address q slot e =
 pub Sound-with_big : (walk : Walk) (address : ℕ) → Sound walk → Sound (with_big walk address)
 Sound-with_big walk address sound =
     let earlier : (q slot : ℕ) → named (with_big walk address) q ≡ Some (Slot slot) → named walk q ≡ Some (Slot slot) =
-    λ q slot e. ⊎_elim (λ (p : (q ≡ address) × (Big ≡ Slot slot)). absurd (cc p.1)) (λ old. old) (named_more walk.live address q slot Big e) in
+    λ q slot e. ⊎_elim (λ (p : (q ≡ address) × (Big ≡ Slot slot)). absurd (cc p.1)) (λ old. old)
+    (named_more walk.live address q slot Big e) in
     record {
       in_order = sound.in_order;
       leaves = sound.leaves;
@@ -132,7 +139,8 @@ next_not_placed : (walk : Walk) → Sound walk → ¬ Contains walk.script.steps
 next_not_placed walk sound placed =
     absurd (omega (arith, placed_below walk.script.steps walk.script.news walk.script.news sound.in_order placed))
 
-not_left_more : (steps : List Step) (step : Step) (slot : ℕ) → ¬ Contains steps (Leave slot) → ¬ (step ≡ Leave slot) → ¬ Contains (steps ++ step ∷ []) (Leave slot)
+not_left_more : (steps : List Step) (step : Step) (slot : ℕ) → ¬ Contains steps (Leave slot) → ¬ (step ≡ Leave slot)
+    → ¬ Contains (steps ++ step ∷ []) (Leave slot)
 not_left_more steps step slot before last left = ⊎_elim before last (Contains-push_cases steps step (Leave slot) left)
 
 pub Sound-with_place : (walk : Walk) (address : ℕ) → Sound walk → Sound (with_place walk address)
@@ -144,7 +152,8 @@ Sound-with_place walk address sound =
     λ slot q e same. fresh (rw same (sound.live q slot e).0) in
     let not_left : ¬ Contains steps (Leave news) = λ left. fresh (left_was_placed steps news sound.leaves left) in
     record {
-      in_order = placed_slots-append steps (Place news ∷ []) ∙ ap (λ slots. slots ++ news ∷ []) sound.in_order ∙ sym (range_with_len_more news);
+      in_order = placed_slots-append steps (Place news ∷ []) ∙ ap (λ slots. slots ++ news ∷ []) sound.in_order
+          ∙ sym (range_with_len_more news);
       leaves = LeavesPlaced-push steps (Place news) sound.leaves (λ slot e. absurd cc);
       live = λ q slot e. ⊎_elim
           (λ (p : (q ≡ address) × (Slot news ≡ Slot slot)).
@@ -168,13 +177,15 @@ Sound-with_place walk address sound =
     }
 
 -- without the pair of an address the rest keeps its names, and those are of other slots
-pub Sound-without : (walk : Walk) (address : ℕ) (names : Option Live) → named walk address ≡ names → Sound walk → Sound (without walk address names)
+pub Sound-without : (walk : Walk) (address : ℕ) (names : Option Live) → named walk address ≡ names → Sound walk
+    → Sound (without walk address names)
 Sound-without walk address None is sound = Sound-same walk (without walk address None) refl refl refl sound
 Sound-without walk address (Some Big) is sound = record {
   in_order = sound.in_order;
   leaves = sound.leaves;
   live = λ q slot e. sound.live q slot (named_less walk address q slot e).1;
-  one_name = λ a b slot names_a names_b. sound.one_name a b slot (named_less walk address a slot names_a).1 (named_less walk address b slot names_b).1;
+  one_name = λ a b slot names_a names_b.
+      sound.one_name a b slot (named_less walk address a slot names_a).1 (named_less walk address b slot names_b).1;
 }
 Sound-without walk address (Some (Slot left)) is sound =
     let steps = walk.script.steps in
@@ -190,7 +201,8 @@ Sound-without walk address (Some (Slot left)) is sound =
             not_left_more steps (Leave left) slot kept.1
                 (λ same. old.0 (sound.one_name q address slot old.1 (is ∙ ap (λ n. Some (Slot n)) (cc same)))),
           );
-      one_name = λ a b slot names_a names_b. sound.one_name a b slot (named_less walk address a slot names_a).1 (named_less walk address b slot names_b).1;
+      one_name = λ a b slot names_a names_b.
+          sound.one_name a b slot (named_less walk address a slot names_a).1 (named_less walk address b slot names_b).1;
     }
 
 pub Sound-after_release : (walk : Walk) (address : ℕ) → Sound walk → Sound (after_release walk address)
@@ -212,9 +224,11 @@ Sound-after size walk Failed sound = Sound-same walk (with_failed walk) refl ref
 
 pub Sound-fold : (size : ℕ) (walk : Walk) (operations : List Operation) → Sound walk → Sound (fold (after size) walk operations)
 Sound-fold size walk [] sound = sound
-Sound-fold size walk (operation ∷ operations) sound = Sound-fold size (after size walk operation) operations (Sound-after size walk operation sound)
+Sound-fold size walk (operation ∷ operations) sound =
+    Sound-fold size (after size walk operation) operations (Sound-after size walk operation sound)
 
-pub IsWellFormed-script_of : (size : ℕ) (cut : Bool) (operations : List Operation) → IsWellFormed (fold (after size) (begun cut) operations).script
+pub IsWellFormed-script_of : (size : ℕ) (cut : Bool) (operations : List Operation)
+    → IsWellFormed (fold (after size) (begun cut) operations).script
 IsWellFormed-script_of size cut operations =
     let sound = Sound-fold size (begun cut) operations (Sound-begun cut) in
     record { in_order = sound.in_order; leaves = sound.leaves }

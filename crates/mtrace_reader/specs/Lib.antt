@@ -1,4 +1,3 @@
-pub mod Fault
 pub mod Made
 pub mod Script
 pub mod ScriptWriter

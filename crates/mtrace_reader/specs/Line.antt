@@ -1,10 +1,12 @@
 -- What a line of a trace means.
 use Rattle.std.specs.Prelude.{◌≡◌, ℕ, ◌||◌, ◌⊎◌, List, [], ◌∷◌, ◌++◌, reverse, Option, Some, None, option_map, if◌then◌else◌, codes}
 use Rattle.std.specs.Str.{bytes_eq}
-use Rattle.mtrace_reader.specs.Words.{words, NoneOrBeginsWith, none_or_begins_with}
+use Rattle.line_text.specs.Words.{words}
+use Rattle.line_text.specs.Meanings.{meaning_said}
+use Rattle.mtrace_reader.specs.Words.{NoneOrBeginsWith, none_or_begins_with}
 use Rattle.mtrace_reader.specs.Value.{address_of, size_of}
-use Rattle.mtrace_reader.specs.declared.line.Meaning.{Meaning}
-use Rattle.mtrace_reader.specs.declared.line.Meaning.TheVariants.{Skipped, Says, Bad}
+use Rattle.line_text.specs.declared.meaning.Meaning.{Meaning}
+use Rattle.line_text.specs.declared.meaning.Meaning.TheVariants.{Skipped, Says, Bad}
 use Rattle.mtrace_reader.specs.declared.trace.Operation.{Operation}
 use Rattle.mtrace_reader.specs.declared.trace.Operation.TheVariants.{New, Release, Failed}
 
@@ -38,7 +40,7 @@ pub record IsOperation (words : List (List ℕ)) (operation : Operation) : Type 
   pub spells : Spells form operation
 
 -- what a line means: it is skipped, it is an operation, or it is bad, which is any other line
-abbrev pub Means : List ℕ → Meaning → Type 0
+abbrev pub Means : List ℕ → Meaning Operation → Type 0
 Means line Skipped = IsSkipped (words line)
 Means line (Says operation) = IsOperation (words line) operation
 Means line Bad = ¬ (IsSkipped (words line)) × ((operation : Operation) → ¬ (IsOperation (words line) operation))
@@ -71,12 +73,7 @@ said_by (last ∷ second ∷ before) =
     then said_by_release before last
     else said_before before second last
 
--- what words mean that aren't skipped
-abbrev pub meaning_said : Option Operation → Meaning
-meaning_said None = Bad
-meaning_said (Some operation) = Says operation
-
 -- the meaning of a line, computed
-abbrev pub meaning_of : List ℕ → Meaning
+abbrev pub meaning_of : List ℕ → Meaning Operation
 meaning_of line =
     if none_or_begins_with equals_sign (words line) then Skipped else meaning_said (said_by (reverse (words line)))

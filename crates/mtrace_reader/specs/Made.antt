@@ -1,5 +1,6 @@
 -- Made traces: operations that a generator of pseudorandom numbers makes of a seed.
-use Rattle.std.specs.Prelude.{ℕ, zero, suc, ◌+◌, ◌*◌, ◌/◌, ◌%◌, ◌^◌, Bool, false, ◌&&◌, ◌||◌, ◌==◌, nat_lt, List, [], ◌∷◌, ◌++◌, length, remove, slice_index, if◌then◌else◌}
+use Rattle.std.specs.Prelude.{ℕ, zero, suc, ◌+◌, ◌*◌, ◌/◌, ◌%◌, ◌^◌, Bool, false, ◌&&◌, ◌||◌, ◌==◌, nat_lt, List, [], ◌∷◌, ◌++◌, length}
+use Rattle.std.specs.Prelude.{remove, slice_index, if◌then◌else◌}
 use Rattle.mtrace_reader.specs.declared.trace.Operation.{Operation}
 use Rattle.mtrace_reader.specs.declared.trace.Operation.TheVariants.{New, Release}
 use Rattle.mtrace_reader.specs.declared.trace.Trace.{Trace}

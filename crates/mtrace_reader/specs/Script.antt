@@ -1,4 +1,5 @@
-use Rattle.std.specs.Prelude.{◌≡◌, ℕ, ◌+◌, Bool, List, [], ◌∷◌, ◌++◌, Option, Some, None, is_some, nat_eq, ◌==◌, nat_lt, not, if◌then◌else◌, fold, filter, take, slice_get, Contains}
+use Rattle.std.specs.Prelude.{◌≡◌, ℕ, ◌+◌, Bool, List, [], ◌∷◌, ◌++◌, Option, Some, None, is_some, nat_eq, ◌==◌, nat_lt, not, if◌then◌else◌}
+use Rattle.std.specs.Prelude.{fold, filter, take, slice_get, Contains}
 use Rattle.std.specs.List.{range_with_len}
 use Rattle.std.specs.Map.{lookup}
 use Rattle.mtrace_reader.specs.declared.trace.Operation.{Operation}

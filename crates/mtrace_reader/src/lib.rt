@@ -14,12 +14,10 @@ mod steps;
 mod trace;
 mod value;
 mod walk;
-mod words;
 
-pub use line::Meaning;
+pub use line_text::{Meaning, TextFault as TraceFault};
 pub use made::{MOST_CALLS, make_trace};
-pub use reading::split_line;
-pub use source::{BUFFER_BYTES, MOST_BYTES, next_count, read_piece, read_trace};
+pub use source::read_trace;
 pub use steps::{Script, Step, StepList};
-pub use trace::{Operation, OperationList, Trace, TraceFault};
+pub use trace::{Operation, OperationList, Trace};
 pub use walk::script;

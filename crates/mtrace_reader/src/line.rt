@@ -1,12 +1,13 @@
 // What one line of a trace means, read in place.
 ghost use Rattle.std.specs.Prelude.{◌≡◌, reverse, if◌then◌else◌, None};
-ghost use Rattle.mtrace_reader.specs.Words.{words, none_or_begins_with};
+ghost use Rattle.line_text.specs.Words.{words};
+ghost use Rattle.mtrace_reader.specs.Words.{none_or_begins_with};
 ghost use Rattle.mtrace_reader.specs.Value.{address_of, size_of};
 ghost use Rattle.mtrace_reader.specs.Line.{at_sign, said_by_sign, said_by_release, said_before, said_by, meaning_of};
 
 use crate::Operation;
 use crate::value::{address, size};
-use crate::words::{is_empty_or_begins_with, split_last_word};
+use line_text::{Meaning, split_first_word, split_last_word};
 
 /// The byte that begins a line which is skipped.
 const EQUALS_SIGN: u8 = b'=';
@@ -14,15 +15,14 @@ const EQUALS_SIGN: u8 = b'=';
 /// The byte that begins the text of a caller, before the sign of an operation.
 const AT_SIGN: u8 = b'@';
 
-/// What a line means.
-#[derive(Clone, Copy, Debug, PartialEq, Eq, Hash)]
-pub enum Meaning {
-    /// Nothing.
-    Skipped,
-    /// This operation.
-    Says(Operation),
-    /// It is of no form.
-    Bad,
+/// Whether a line has no word, or its first one begins with this byte.
+fn is_empty_or_begins_with(line: &[u8], byte: u8) -> bool
+    ensures { result ≡ none_or_begins_with byte (words line.now) }
+{
+    match split_first_word(line) {
+        None => true,
+        Some((word, _)) => word.first() == Some(&byte),
+    }
 }
 
 /// The operation of a sign, an address and a size.
@@ -76,7 +76,7 @@ fn operation(line: &[u8]) -> Option<Operation>
 }
 
 /// What a line means, which stands here without the byte 10 that ends it.
-pub(crate) fn read_line(line: &[u8]) -> Meaning
+pub(crate) fn read_line(line: &[u8]) -> Meaning<Operation>
     ensures { result ≡ meaning_of line.now }
 {
     if is_empty_or_begins_with(line, EQUALS_SIGN) {

@@ -1,38 +1,21 @@
 // The reading of a trace, piece by piece: what its whole lines say, and the line that isn't whole yet.
-ghost use Rattle.std.specs.Prelude.{◌≡◌, ◌≢◌, ◌+◌, ◌^◌, ◌≤◌, ◌<◌, ℕ, List, [], ◌∷◌, ◌++◌, length, IfOk, IfNone, IfSome, IfErr, OnOk, position};
+ghost use Rattle.std.specs.Prelude.{◌≡◌, ◌+◌, ◌^◌, ◌<◌, ℕ, List, [], ◌∷◌, ◌++◌, length, IfOk, OnOk};
+ghost use Rattle.line_text.specs.Lines.{HasNoEnd};
+ghost use Rattle.line_text.specs.Meanings.{is_bad, said};
 ghost use Rattle.mtrace_reader.specs.Line.{meaning_of};
-ghost use Rattle.mtrace_reader.specs.Reading.{is_end, is_bad, said, AnswersFor};
-ghost use Rattle.mtrace_reader.specs.LineReader.{HasRead, Reads, HasNoEnd};
+ghost use Rattle.mtrace_reader.specs.Reading.{AnswersTo};
+ghost use Rattle.mtrace_reader.specs.LineReader.{HasRead, Reads};
 
 use crate::line::read_line;
-use crate::{Meaning, Operation, OperationList, Trace, TraceFault};
+use crate::{Operation, OperationList, Trace, TraceFault};
+use line_text::{Meaning, PieceKeeper, split_line};
+use pool_model::NoMemory;
 use std::alloc::Global;
 
-/// The byte that ends a line.
-const LINE_END: u8 = b'\n';
-
-/// Where the first line ends.
-fn line_end(bytes: &[u8]) -> Option<usize>
-    ensures { result ≡ position is_end bytes.now }
-{
-    bytes.iter().position(|byte| *byte == LINE_END)
-}
-
-/// The first line, without its end, and what stands after that end. `None` where no line ends.
-pub fn split_line(bytes: &[u8]) -> Option<(&[u8], &[u8])>
-    ensures none { IfNone result (HasNoEnd bytes.now) }
-    ensures line { IfSome result (λ parts. HasNoEnd parts.0.now) }
-    ensures parts { IfSome result (λ parts. bytes.now ≡ parts.0.now ++ 10 ∷ parts.1.now) }
-{
-    let end = line_end(bytes)?;
-    Some((&bytes[..end], &bytes[end + 1..]))
-}
-
 /// Keeps the operation that a line says, and answers whether the line is bad.
-fn keep(operations: &mut Vec<Operation>, meaning: Meaning) -> Result<bool, TraceFault>
+fn keep(operations: &mut Vec<Operation>, meaning: Meaning<Operation>) -> Result<bool, NoMemory>
     ensures bad { IfOk result (λ bad. bad ≡ is_bad meaning) }
     ensures kept { IfOk result (λ _. operations.new.items ≡ operations.old.items ++ said (meaning ∷ [])) }
-    ensures memory { IfErr result (λ fault. fault ≡ TraceFault.NoMemory) }
 {
     match meaning {
         Meaning::Skipped => Ok(false),
@@ -71,14 +54,13 @@ impl LineReader {
     }
 
     /// What the line means that hasn't ended, where these are the others of its bytes. Leaves it empty.
-    fn take_line(&mut self, others: &[u8]) -> Result<Meaning, TraceFault>
+    fn take_line(&mut self, others: &[u8]) -> Result<Meaning<Operation>, NoMemory>
         ensures meaning { IfOk result (λ meaning.
             meaning ≡ meaning_of (self.old.unfinished.items ++ others.now)) }
         ensures emptied { OnOk result (self.new.unfinished.items ≡ []) }
         ensures operations { self.new.operations ≡ self.old.operations }
         ensures bad_line { self.new.bad_line ≡ self.old.bad_line }
         ensures number { self.new.number ≡ self.old.number }
-        ensures memory { IfErr result (λ fault. fault ≡ TraceFault.NoMemory) }
     {
         if self.unfinished.is_empty() {
             return Ok(read_line(others));
@@ -90,11 +72,10 @@ impl LineReader {
     }
 
     /// Reads the others of a line's bytes and the end of that line.
-    fn read_end(&mut self, others: &[u8]) -> Result<(), TraceFault>
+    fn read_end(&mut self, others: &[u8]) -> Result<(), NoMemory>
         requires { self.old.number + 1 < 2 ^ 64 }
         ensures read { OnOk result (HasNoEnd others.now → Reads self.old self.new (others.now ++ 10 ∷ [])) }
         ensures number { OnOk result (self.new.number ≡ self.old.number + 1) }
-        ensures memory { IfErr result (λ fault. fault ≡ TraceFault.NoMemory) }
     {
         let meaning = self.take_line(others)?;
         let bad = keep(&mut self.operations, meaning)?;
@@ -104,10 +85,9 @@ impl LineReader {
     }
 
     /// Reads the next bytes. A line that lies whole in them isn't copied.
-    pub(crate) fn read(&mut self, piece: &[u8]) -> Result<(), TraceFault>
+    fn read(&mut self, piece: &[u8]) -> Result<(), NoMemory>
         requires { self.old.number + length piece.now < 2 ^ 64 }
         ensures read { OnOk result (Reads self.old self.new piece.now) }
-        ensures memory { IfErr result (λ fault. fault ≡ TraceFault.NoMemory) }
     {
         let mut rest = piece;
         while let Some((line, after)) = split_line(rest) {
@@ -120,10 +100,8 @@ impl LineReader {
 
     /// The trace, where all of its bytes were read, so many.
     pub(crate) fn finish(mut self, bytes: u64) -> Result<Trace, TraceFault>
-        ensures answer { (all : List ℕ) → HasRead all self → length all ≡ bytes → AnswersFor bytes all result }
+        ensures answer { (all : List ℕ) → HasRead all self → length all ≡ bytes → AnswersTo all result }
         ensures count { IfOk result (λ trace. trace.bytes ≡ bytes) }
-        ensures not_read { result ≢ Err TraceFault.ReadFault }
-        ensures not_long { result ≢ Err TraceFault.TooLong }
     {
         if let Some(line) = self.bad_line {
             return Err(TraceFault::BadLine(line));
@@ -134,5 +112,13 @@ impl LineReader {
             cut,
             bytes,
         })
+    }
+}
+
+impl PieceKeeper for LineReader {
+    ghost has = { λ reader bytes. HasRead bytes reader };
+
+    fn keep(&mut self, piece: &[u8]) -> Result<(), NoMemory> {
+        self.read(piece)
     }
 }

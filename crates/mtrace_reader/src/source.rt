@@ -1,66 +1,14 @@
 // The trace of a source, read to its end or to one byte past a limit.
-ghost use Rattle.std.specs.Prelude.{◌≡◌, ◌≢◌, ◌+◌, ◌<◌, ◌≤◌, ◌^◌, [], ◌∷◌, ◌++◌, Some, None, length, min, vec_len, IfOk, IfErr, IfSome, IsOk, OnOk, OnErr, Err};
+ghost use Rattle.std.specs.Prelude.{◌≡◌, ◌≢◌, ◌≤◌, ◌^◌, length, min, IfOk, IfSome, Err};
 ghost use Rattle.pool_io.specs.Counts.{HasRisen};
-ghost use Rattle.pool_io.specs.Told.{HandsOut, IsAtEnd};
 ghost use Rattle.mtrace_reader.specs.Reading.{AnswersFor};
 ghost use Rattle.mtrace_reader.specs.Taken.{ReadsFor};
 
 use crate::reading::LineReader;
 use crate::{Trace, TraceFault};
-use pool_io::{Failed, Files};
+use line_text::read_source;
+use pool_io::Files;
 use std::alloc::Global;
-
-/// The most bytes that a trace may have.
-pub const MOST_BYTES: u64 = 1 << 24;
-
-/// How many bytes a read asks for, where so many may still come.
-pub const BUFFER_BYTES: usize = 1 << 16;
-
-/// The places that reads fill.
-fn new_buffer(alloc: Global) -> Result<Vec<u8>, TraceFault>
-    ensures room { IfOk result (λ buffer. vec_len buffer ≡ BUFFER_BYTES) }
-    ensures memory { IfErr result (λ fault. fault ≡ TraceFault.NoMemory) }
-{
-    Ok(vec![in alloc; 0u8; BUFFER_BYTES]?)
-}
-
-/// How many bytes the next read asks for, where so many were taken: at least one, and none past the byte after the
-/// limit.
-pub fn next_count(taken: u64, limit: u64) -> usize
-    requires { taken ≤ limit }
-    ensures some { 0 < result }
-    ensures fits { result ≤ BUFFER_BYTES }
-    ensures within { taken + result ≤ limit + 1 }
-{
-    (limit - taken).min(BUFFER_BYTES as u64 - 1) as usize + 1
-}
-
-/// Reads the next bytes of a source into a buffer, and answers them: none at the end alone. Fails where the source does.
-pub fn read_piece<'a, F: Files>(
-    files: &mut F,
-    source: &mut F::Source,
-    buffer: &'a mut [u8],
-) -> Result<&'a [u8], Failed>
-    requires { 0 < length buffer.old }
-
-    ensures fits { IfOk result (λ piece. length piece.now ≤ length buffer.old) }
-    ensures next { IfOk result (λ piece.
-        HandsOut (F.left files.old source.old) (F.left files.new source.new) piece.now) }
-    ensures end { IfOk result (λ piece. length piece.now ≡ 0 → IsAtEnd (F.left files.old source.old)) }
-    ensures reads { IfOk result (λ piece. F.reads files.new ≡ F.reads files.old ++ Some (length piece.now) ∷ []) }
-    ensures no_read { OnErr result (F.reads files.new ≡ F.reads files.old ++ None ∷ []) }
-
-    ensures names { F.told files.new ≡ F.told files.old }
-    ensures opens { F.opens files.new ≡ F.opens files.old }
-    ensures never_falls { F.faults files.old ≤ F.faults files.new }
-    ensures failed { OnErr result (HasRisen (F.faults files.old) (F.faults files.new)) }
-    ensures no_fault { OnOk result (F.faults files.new ≡ F.faults files.old) }
-    ensures reliable { F.reliable files.old → F.reliable files.new }
-    ensures sure { F.reliable files.old → IsOk result }
-{
-    let count = files.read(source, buffer)?;
-    Ok(&buffer[..count])
-}
 
 /// Reads the trace that a source has left, of at most 2^24 bytes and at most `room` bytes.
 ///
@@ -70,7 +18,7 @@ pub fn read_piece<'a, F: Files>(
 pub fn read_trace<F: Files>(
     alloc: Global,
     files: &mut F,
-    mut source: F::Source,
+    source: F::Source,
     room: u64,
 ) -> Result<Trace, TraceFault>
     ensures answer { IfSome (F.left files.old source) (λ left. AnswersFor (min room (2 ^ 24)) left result) }
@@ -86,20 +34,9 @@ pub fn read_trace<F: Files>(
     ensures reliable { F.reliable files.old → F.reliable files.new }
     ensures sure { F.reliable files.old → result ≢ Err TraceFault.ReadFault }
 {
-    let limit = room.min(MOST_BYTES);
-    let mut buffer = new_buffer(alloc)?;
     let mut reader = LineReader::new(alloc);
-    let mut taken = 0;
-    while taken <= limit {
-        let most = next_count(taken, limit);
-        let piece = read_piece(files, &mut source, &mut buffer[..most])?;
-        if piece.is_empty() {
-            return reader.finish(taken);
-        }
-        reader.read(piece)?;
-        taken += piece.len() as u64;
-    }
-    Err(TraceFault::TooLong)
+    let bytes = read_source(alloc, files, source, room, &mut reader)?;
+    reader.finish(bytes)
 }
 
 #[cfg(test)]
@@ -152,6 +89,9 @@ mod tests {
     ) -> Result<(), Fail> {
         check_piecewise(rt, text, room, u64::MAX, expected)
     }
+
+    /// The most bytes that a trace may have.
+    const MOST_BYTES: u64 = 1 << 24;
 
     const BLOCK: Operation = New {
         address: 16,

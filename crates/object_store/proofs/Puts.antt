@@ -7,12 +7,11 @@ use Rattle.pool_model.proofs.Members.{contains_head, contains_tail, without_cont
 use Rattle.pool_table.specs.Minds.{KnownWord, known_in}
 use Rattle.pool_table.specs.Turns.{forget}
 use Rattle.pool_table.specs.Steps.{SeesMore}
-use Rattle.block_pool.specs.Calls.{Allocated, Counted, Entered, SamePass}
+use Rattle.block_pool.specs.Calls.{Allocated, Counted, Entered, WasFree}
 use Rattle.block_pool.specs.Passing.{Passed}
 use Rattle.block_pool.specs.Standing.{StandsWell}
 use Rattle.block_pool.specs.declared.pool.Answer.{Answer}
 use Rattle.block_pool.specs.declared.pool.Answer.TheVariants.{Got}
-use Rattle.pool_player.proofs.Calling.{got_is_free}
 use Rattle.object_store.specs.Objects.{HoldsWords, KnowsWords, ObjectView}
 use Rattle.object_store.specs.Calls.{AllocatedFirst, CountedWithin, KeepsOthers, written}
 use Rattle.object_store.specs.Putting.{IsStored}
@@ -41,18 +40,22 @@ counted_alone quantum count before after old new counted = record {
   moves = omega (arith, counted.moves);
 }
 
+-- a block that was got is held
+pub got_is_held : (block : ℕ) (old new : Passed) → Entered (entry.Got old.number block) old new → Contains new.held block
+got_is_held block old new entered = subst (λ (bs : List ℕ). Contains bs block) (sym entered.held) (contains_head block old.held)
+
 -- the words of a value were written to the block that was got
 pub stored_by : {R : Type 0} (count : ℕ) (words_of : R → List ℕ) (value : R) (old between new : Passed) (object : ObjectView R) (moves : ℕ)
-    → SamePass old between → StandsWell between → Entered (entry.Got old.number object.block) old between → between.known ≡ old.known
+    → WasFree object.block old between → Entered (entry.Got old.number object.block) old between → between.known ≡ old.known
     → new ≡ record between { moves = moves; known = written object.block (words_of value) count between.known }
     → object.value ≡ value → IsStored count words_of value old new object
-stored_by count words_of value old between new object moves same well entered unchanged is has =
+stored_by count words_of value old between new object moves free entered unchanged is has =
     let block = object.block in
     let held : new.held ≡ block ∷ old.held = ap (λ (p : Passed). p.held) is ∙ entered.held in
     let known : new.known ≡ written block (words_of value) count between.known = ap (λ (p : Passed). p.known) is in
     record {
       value = has;
-      fresh = got_is_free old between (Got block) block same well refl entered;
+      fresh = free.not_own;
       holds = record {
         held = subst (λ (bs : List ℕ). Contains bs block) (sym held) (contains_head block old.held);
         known = subst (λ (k : List KnownWord). KnowsWords k block count (words_of value)) (sym known)

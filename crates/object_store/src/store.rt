@@ -67,7 +67,6 @@ impl<'a, R: Record + Drop> Store<'a, R> {
     {
         match self.pool.allocate(pass, steps) {
             Answer::Got(block) => {
-                pass.stands_well();
                 write_words(self.pool, pass, &block, R::WORDS, &value.to_words(), steps);
                 let value = Snapshot::of(&value);
                 Put::Stored(Object { block, value })

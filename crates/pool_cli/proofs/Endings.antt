@@ -1,36 +1,43 @@
 -- Why a run ends as it does.
-use Rattle.std.proofs.Common.{◌≡◌, ℕ, ◌+◌, ◌-◌, ◌*◌, ◌^◌, ◌<◌, ◌≤◌, ◌⊎◌, min, suc, List, [], ◌∷◌, length, refl, sym, ap, ◌∙◌, subst, inl, inr, arith, Some, None}
-use Rattle.std.specs.Prelude.{Bool, Option, fold, slice_get}
+use Rattle.std.proofs.Common.{◌≡◌, ℕ, ◌+◌, ◌-◌, ◌^◌, ◌<◌, ◌≤◌, ◌⊎◌, min, suc, List, [], ◌∷◌, length, refl, sym, ap, ◌∙◌, subst, inl, inr, arith, Some, None, Result, Ok, Err}
+use Rattle.std.specs.Prelude.{Bool, IfOk, Option, fold, slice_get}
 use Rattle.std.proofs.lemmas.Bool.{cases_lt}
+use Rattle.std.proofs.lemmas.Option.{get_or_from_slice_get, slice_get_within}
+use Rattle.std.proofs.lemmas.List.FromFn.{get_or-map-range_with_len, length-map-range_with_len}
 use Rattle.command_words.specs.declared.command.Command.{Command}
-use Rattle.command_words.specs.declared.command.Command.TheVariants.{Play as PlayCommand}
-use Rattle.command_words.specs.declared.command.Play.{Play}
+use Rattle.command_words.specs.declared.command.Command.TheVariants.{Play, Drill}
+use Rattle.command_words.specs.declared.command.Play.{Play as PlayWords}
+use Rattle.command_words.specs.declared.command.Drill.{Drill as DrillWords}
 use Rattle.word_layout.specs.declared.fault.ShapeFault.{ShapeFault}
 use Rattle.word_layout.specs.declared.fault.ShapeFault.TheVariants.{NoProcess, ManyProcesses, FewBatches, BadQuantum, ManyBlocks, WideBlock}
-use Rattle.word_layout.specs.Sizes.{Sizes, IsLength, blocks, limits_of}
+use Rattle.word_layout.specs.Sizes.{Sizes, IsLength, limits_of, sizes}
 use Rattle.word_layout.specs.Faults.{HasFault, IsFirstFault, rank}
 use Rattle.word_layout.proofs.Lengths.{one_length}
-use Rattle.word_layout.proofs.Limits.{two_blocks_a_batch}
 use Rattle.word_layout.proofs.Refusals.{no_fault}
 use Rattle.pool_model.proofs.Places.{slice_get_as_long}
+use Rattle.block_pool.specs.Closing.{Settlement}
 use Rattle.pool_io.specs.declared.files.Files as files_trait
 use Rattle.pool_io.specs.declared.sink.Sink as sink_trait
 use Rattle.pool_io.specs.Told.{GrowsBy}
 use Rattle.mtrace_reader.specs.declared.trace.Operation.{Operation}
-use Rattle.mtrace_reader.specs.declared.trace.TraceFault.{TraceFault}
-use Rattle.mtrace_reader.specs.declared.trace.TraceFault.TheVariants.{ReadFault, TooLong, BadLine, NoMemory}
+use Rattle.line_text.specs.declared.fault.TextFault.{TextFault}
+use Rattle.line_text.specs.declared.fault.TextFault.TheVariants.{ReadFault, TooLong, BadLine, NoMemory}
 use Rattle.mtrace_reader.specs.declared.steps.Script.{Script}
 use Rattle.mtrace_reader.specs.Reading.{bad_line, is_cut, operations_of}
 use Rattle.mtrace_reader.specs.Script.{after, begun}
 use Rattle.trace_player.specs.declared.tally.Tally.{Tally}
-use Rattle.trace_player.specs.Plain.{IsInTurn, PlayedInTurn, peaks_without_refusals, tallies_without_refusals}
+use Rattle.trace_player.specs.Plain.{tallies_without_refusals}
 use Rattle.trace_player.specs.Report.{report}
+use Rattle.pool_runs.specs.Drills.{drill_script, drill_scripts}
+use Rattle.pool_runs.specs.Enough.{HasEnough}
+use Rattle.pool_runs.specs.Settled.{IsSettledBy}
 use Rattle.pool_cli.specs.declared.ending.Ending.{Ending}
 use Rattle.pool_cli.specs.declared.ending.Ending.TheVariants.{Done, Words, Shape, Read, Long, Line, Write, Memory}
+use Rattle.pool_cli.specs.Asked.{IsScriptFor, IsScriptOf, batches_of, files_of, processes_of, quantum_of}
 use Rattle.pool_cli.specs.Ending.{status_of}
-use Rattle.pool_cli.specs.Causes.{CauseOf, Ends, EndsAtFile, EndsAtShape, EndsPlayed, GivesTallies, HasEnoughBlocks, Hold, IsAccepted, IsAmple, IsPlayable, IsPlayed, IsScriptOf, IsSure, IsUnhindered, IsWithin, taken}
+use Rattle.pool_cli.specs.Causes.{AreScriptsFor, CauseOf, Ends, EndsAtFile, EndsAtShape, EndsPlayed, GivesTallies, HasEnoughBlocks, Hold, IsAccepted, IsAmple, IsPlayable, IsPlayed, IsSure, IsUnhindered, IsWithin, taken}
 use Rattle.pool_cli.specs.Outside.{HasOpened, Outside, outside}
-use Rattle.pool_cli.specs.Scripts.{ReadsAll, StopsReading, StopsWith, ending_for}
+use Rattle.pool_cli.specs.Scripts.{HasScripts, ReadsAll, StopsReading, StopsWith, ending_for}
 use Rattle.pool_cli.specs.Shapes.{IsShapeOf}
 
 -- a fault with no more processes than are counted is the fault for all files
@@ -65,104 +72,127 @@ one_script size bytes one other p q = by_bytes one p ∙ sym (by_bytes other q)
         is.2 ∙ ap (λ (cut : Bool). (fold (after size) (begun cut) is.0.operations).script) is.1.cut
         ∙ ap (λ (operations : List Operation). (fold (after size) (begun (is_cut bytes)) operations).script) is.1.operations
 
--- files have one list of scripts
-one_list : (size : ℕ) (content : ℕ → List ℕ) (first : ℕ) (ones others : List Script) → length ones ≡ length others
-    → ((j : ℕ) (script : Script) → slice_get ones j ≡ Some script → IsScriptOf size (content (first + j)) script)
-    → ((j : ℕ) (script : Script) → slice_get others j ≡ Some script → IsScriptOf size (content (first + j)) script) → ones ≡ others
-one_list size content first [] [] long p q = refl
-one_list size content first [] (other ∷ others) long p q = absurd (omega (arith, long))
-one_list size content first (one ∷ ones) [] long p q = absurd (omega (arith, long))
-one_list size content first (one ∷ ones) (other ∷ others) long p q =
-    let head : one ≡ other = one_script size (content (first + 0)) one other (p 0 one refl) (q 0 other refl) in
+-- a process has one script
+one_script_for : (command : Command) (content : ℕ → List ℕ) (j : ℕ) (one other : Script) → IsScriptFor command content j one → IsScriptFor command content j other → one ≡ other
+one_script_for (Play play) content j one other p q = one_script play.size (content j) one other p q
+one_script_for (Drill drill) content j one other p q = p ∙ sym q
+
+-- lists whose items have one fact each, which holds of one item alone, are the same
+one_list : (Is : ℕ → Script → Type 0) → ((j : ℕ) (one other : Script) → Is j one → Is j other → one ≡ other) → (first : ℕ) (ones others : List Script) → length ones ≡ length others
+    → ((j : ℕ) (script : Script) → slice_get ones j ≡ Some script → Is (first + j) script)
+    → ((j : ℕ) (script : Script) → slice_get others j ≡ Some script → Is (first + j) script) → ones ≡ others
+one_list Is one first [] [] long p q = refl
+one_list Is one first [] (other ∷ others) long p q = absurd (omega (arith, long))
+one_list Is one first (script ∷ ones) [] long p q = absurd (omega (arith, long))
+one_list Is one first (script ∷ ones) (other ∷ others) long p q =
+    let head : script ≡ other = one (first + 0) script other (p 0 script refl) (q 0 other refl) in
     let next : (j : ℕ) → first + suc j ≡ first + 1 + j = λ j. omega arith in
-    let tail : ones ≡ others = one_list size content (first + 1) ones others (omega (arith, long))
-    (λ j script at. subst (λ (n : ℕ). IsScriptOf size (content n) script) (next j) (p (suc j) script at))
-    (λ j script at. subst (λ (n : ℕ). IsScriptOf size (content n) script) (next j) (q (suc j) script at)) in
+    let tail : ones ≡ others = one_list Is one (first + 1) ones others (omega (arith, long))
+    (λ j found at. subst (λ (n : ℕ). Is n found) (next j) (p (suc j) found at))
+    (λ j found at. subst (λ (n : ℕ). Is n found) (next j) (q (suc j) found at)) in
     cc
 
--- all files were read and played
-played_all : (told : List ℕ → Option (List ℕ)) (play : Play) (sizes : Sizes) (scripts : List Script) (tallies : List Tally)
-    → IsShapeOf play sizes → ReadsAll play.size told play.files scripts → PlayedInTurn (blocks sizes) scripts tallies
-    → (peaks_without_refusals scripts ≤ blocks sizes → tallies ≡ tallies_without_refusals scripts) → IsPlayed told play sizes tallies
-played_all told play sizes scripts tallies asked reads played free = record {
-  one_each = played.one_each ∙ reads.1.one_each;
-  fine = reads.1.fine;
+-- a command has one list of scripts
+one_list_for : (command : Command) (content : ℕ → List ℕ) (ones others : List Script) → AreScriptsFor command content ones → AreScriptsFor command content others → ones ≡ others
+one_list_for command content ones others p q =
+    let none_first : (j : ℕ) → j ≡ 0 + j = λ j. omega arith in
+    one_list (IsScriptFor command content) (one_script_for command content) 0 ones others (p.one_each ∙ sym q.one_each)
+    (λ j script at. subst (λ (n : ℕ). IsScriptFor command content n script) (none_first j) (p.each j script at))
+    (λ j script at. subst (λ (n : ℕ). IsScriptFor command content n script) (none_first j) (q.each j script at))
+
+-- all files were read and all scripts played
+played_all : (told : List ℕ → Option (List ℕ)) (command : Command) (sizes : Sizes) (scripts : List Script) (settled : Settlement) (tallies : List Tally)
+    → HasScripts told command scripts → IsSettledBy sizes scripts tallies settled → IsPlayed told command sizes settled tallies
+played_all told command sizes scripts settled tallies has played = record {
+  one_each = played.tallied.one_each ∙ has.one_each;
+  fine = has.fine;
   played = λ content hold. record {
-    history = played.history;
-    exact = played.exact (limits_of sizes) (asked.processes ∙ sym reads.1.one_each) refl (omega (arith, two_blocks_a_batch sizes asked.shape));
-    in_turn = subst (λ (n : ℕ). IsInTurn n played.history) reads.1.one_each played.in_turn;
+    shape = played.shape;
+    legal = played.legal;
+    short = played.short;
     each = λ j tally at.
-        let script = slice_get_as_long scripts tallies j tally played.one_each at in
-        (script.0, reads.1.read content hold j script.0 script.1, played.each j script.0 tally script.1 at);
+        let script = slice_get_as_long scripts tallies j tally played.tallied.one_each at in
+        (script.0, (has.are content hold).each j script.0 script.1, played.tallied.each j script.0 tally script.1 at);
   };
   unrefused = λ content hold others ample.
-      let none_first : (j : ℕ) → j ≡ 0 + j = λ j. omega arith in
-      let same : scripts ≡ others = one_list play.size content 0 scripts others (reads.1.one_each ∙ sym ample.are_scripts.one_each)
-      (λ j script at. subst (λ (n : ℕ). IsScriptOf play.size (content n) script) (none_first j) (reads.1.read content hold j script at))
-      (λ j script at. subst (λ (n : ℕ). IsScriptOf play.size (content n) script) (none_first j) (ample.are_scripts.each j script at)) in
-      let Free : List Script → Type 0 = λ some. peaks_without_refusals some ≤ blocks sizes → tallies ≡ tallies_without_refusals some in
-      subst Free same free ample.enough;
+      let same : scripts ≡ others = one_list_for command content scripts others (has.are content hold) ample.are_scripts in
+      played.unrefused (subst (HasEnough (limits_of sizes)) (sym same) ample.enough) ∙ ap tallies_without_refusals same;
 }
 
--- the same, from what the calls were given and answered
-played_by_calls : (told : List ℕ → Option (List ℕ)) (play : Play) (sizes : Sizes) (size count : ℕ) (names : List (List ℕ)) (scripts given : List Script) (tallies : List Tally)
-    → size ≡ play.size → names ≡ play.files → count ≡ blocks sizes → given ≡ scripts
-    → IsShapeOf play sizes → ReadsAll size told names scripts → PlayedInTurn count given tallies
-    → (peaks_without_refusals given ≤ count → tallies ≡ tallies_without_refusals given) → IsPlayed told play sizes tallies
-played_by_calls told play sizes size count names scripts given tallies same_size same_names same_count same_scripts asked reads played free =
-    let Reads : ℕ → List (List ℕ) → Type 0 = λ n files. ReadsAll n told files scripts in
-    let Plays : ℕ → List Script → Type 0 = λ n some. PlayedInTurn n some tallies in
-    let Free : ℕ → List Script → Type 0 = λ n some. peaks_without_refusals some ≤ n → tallies ≡ tallies_without_refusals some in
-    played_all told play sizes scripts tallies asked
-    (subst (Reads play.size) same_names (subst (λ (n : ℕ). Reads n names) same_size reads))
-    (subst (λ (n : ℕ). Plays n scripts) same_count (subst (Plays count) same_scripts played))
-    (subst (λ (n : ℕ). Free n scripts) same_count (subst (Free count) same_scripts free))
-
 -- the run ends with a report of the tallies that were answered
-pub ends_played : (meaning : Option Command) (before now : Outside) (Report : List ℕ → Type 0) (play : Play) (sizes : Sizes) (size count : ℕ) (names : List (List ℕ)) (scripts given : List Script) (tallies : List Tally)
-    → meaning ≡ Some (PlayCommand play) → size ≡ play.size → names ≡ play.files → count ≡ blocks sizes → given ≡ scripts
-    → IsShapeOf play sizes → ReadsAll size before.told names scripts → HasOpened before now (length names)
-    → PlayedInTurn count given tallies → (peaks_without_refusals given ≤ count → tallies ≡ tallies_without_refusals given)
-    → Report (report tallies) → EndsPlayed meaning before now Report
-ends_played meaning before now Report play sizes size count names scripts given tallies meant same_size same_names same_count same_scripts asked reads opened played free reported =
-    let all = played_by_calls before.told play sizes size count names scripts given tallies same_size same_names same_count same_scripts asked reads played free in
+pub ends_played : (meaning : Option Command) (before now : Outside) (closed : Option Settlement) (Report : List ℕ → Type 0) (command : Command) (sizes : Sizes) (scripts : List Script) (settled : Settlement) (tallies : List Tally)
+    → meaning ≡ Some command → IsShapeOf command sizes → HasScripts before.told command scripts → HasOpened before now (length (files_of command))
+    → closed ≡ Some settled → IsSettledBy sizes scripts tallies settled → Report (report tallies) → EndsPlayed meaning before now closed Report
+ends_played meaning before now closed Report command sizes scripts settled tallies meant asked has opened is_closed played reported = record {
+  settled = settled;
+  is_closed = is_closed;
+  tallies = tallies;
+  gives = record {
+    command = command;
+    sizes = sizes;
+    accepted = record { meant = meant; asked = asked };
+    played = played_all before.told command sizes scripts settled tallies has played;
+  };
+  opened = opened;
+  reported = reported;
+}
+
+-- the scripts of files that were read are those of a play
+pub read_scripts : (told : List ℕ → Option (List ℕ)) (play : PlayWords) (scripts : List Script) → ReadsAll play.size told play.files scripts → HasScripts told (Play play) scripts
+read_scripts told play scripts reads = record {
+  one_each = reads.1.one_each;
+  fine = reads.1.fine;
+  are = λ content hold. record { one_each = reads.1.one_each; each = reads.1.read content hold };
+}
+
+-- and those that were made are those of a drill
+pub made_scripts : (told : List ℕ → Option (List ℕ)) (drill : DrillWords) (scripts : List Script) → scripts ≡ drill_scripts drill.seed drill.calls drill.processes → HasScripts told (Drill drill) scripts
+made_scripts told drill scripts is =
+    let count : length scripts ≡ drill.processes = ap length is ∙ length-map-range_with_len (drill_script drill.seed drill.calls) 0 drill.processes in
     record {
-      tallies = tallies;
-      gives = record { play = play; sizes = sizes; accepted = record { meant = meant; asked = asked }; played = all };
-      opened = subst (HasOpened before now) (ap length same_names ∙ sym all.one_each) opened;
-      reported = reported;
+      one_each = count;
+      fine = λ content hold j low. absurd (omega (arith, low));
+      are = λ content hold. record { one_each = count; each = made_at };
     }
+  where
+    made_at : (j : ℕ) (script : Script) → slice_get scripts j ≡ Some script → script ≡ drill_script drill.seed drill.calls j
+    made_at j script at =
+        let found : slice_get (drill_scripts drill.seed drill.calls drill.processes) j ≡ Some script = subst (λ (some : List Script). slice_get some j ≡ Some script) is at in
+        let low = slice_get_within (drill_scripts drill.seed drill.calls drill.processes) j script found in
+        sym (get_or_from_slice_get (drill_scripts drill.seed drill.calls drill.processes) j script script found)
+        ∙ get_or-map-range_with_len (drill_script drill.seed drill.calls) 0 drill.processes j j script
+        (omega (arith, low, length-map-range_with_len (drill_script drill.seed drill.calls) 0 drill.processes)) (omega arith)
 
 -- the run ends at a file
-pub ends_at_file : {F S K : Type 0} (of_files : files_trait.Ghosts F S) (files files_now : F) (of_sink : sink_trait.Ghosts K) (out : K) (meaning : Option Command) (play : Play) (sizes : Sizes) (ending : Ending)
-    → IsAccepted meaning play sizes → StopsReading of_files files files_now play.files ending → CauseOf meaning (outside of_files files of_sink out) (outside of_files files_now of_sink out) ending
-ends_at_file of_files files files_now of_sink out meaning play sizes ending accepted stopped =
-    subst (CauseOf meaning (outside of_files files of_sink out) (outside of_files files_now of_sink out)) (sym stopped.is) (by_fault stopped.file stopped.fault stopped.opened stopped.stops)
+pub ends_at_file : {F S K : Type 0} (of_files : files_trait.Ghosts F S) (files files_now : F) (of_sink : sink_trait.Ghosts K) (out : K) (meaning : Option Command) (command : Command) (sizes : Sizes) (ending : Ending)
+    → IsAccepted meaning command sizes → StopsReading of_files files files_now (files_of command) ending → CauseOf meaning (outside of_files files of_sink out) (outside of_files files_now of_sink out) None ending
+ends_at_file of_files files files_now of_sink out meaning command sizes ending accepted stopped =
+    subst (CauseOf meaning (outside of_files files of_sink out) (outside of_files files_now of_sink out) None) (sym stopped.is) (by_fault stopped.file stopped.fault stopped.opened stopped.stops)
   where
-    by_fault : (file : ℕ) (fault : TraceFault) → of_files.opens files_now ≡ of_files.opens files + file → StopsWith of_files files files_now play.files file fault
-        → CauseOf meaning (outside of_files files of_sink out) (outside of_files files_now of_sink out) (ending_for file fault)
-    by_fault file ReadFault opened stops = (record { play = play; sizes = sizes; accepted = accepted; stops = stops.0; opened = opened; unwritten = refl }, stops.1)
-    by_fault file TooLong opened stops = record { play = play; sizes = sizes; accepted = accepted; stops = stops; opened = opened; unwritten = refl }
-    by_fault file (BadLine line) opened stops = record { play = play; sizes = sizes; accepted = accepted; stops = stops; opened = opened; unwritten = refl }
-    by_fault file NoMemory opened stops = refl
+    by_fault : (file : ℕ) (fault : TextFault) → of_files.opens files_now ≡ of_files.opens files + file → StopsWith of_files files files_now (files_of command) file fault
+        → CauseOf meaning (outside of_files files of_sink out) (outside of_files files_now of_sink out) None (ending_for file fault)
+    by_fault file ReadFault opened stops = ((record { command = command; sizes = sizes; accepted = accepted; stops = stops.0; opened = opened; unwritten = refl }, stops.1), refl)
+    by_fault file TooLong opened stops = (record { command = command; sizes = sizes; accepted = accepted; stops = stops; opened = opened; unwritten = refl }, refl)
+    by_fault file (BadLine line) opened stops = (record { command = command; sizes = sizes; accepted = accepted; stops = stops; opened = opened; unwritten = refl }, refl)
+    by_fault file NoMemory opened stops = (refl, refl)
 
 -- contents of all files are contents of the first of them
 hold_first : (told : List ℕ → Option (List ℕ)) (names : List (List ℕ)) (content : ℕ → List ℕ) (i n : ℕ) → i ≤ n → Hold told names content n → Hold told names content i
 hold_first told names content i n le hold j name lt at = hold j name (omega arith) at
 
--- two commands that the same words mean have the same files
-same_play : (meaning : Option Command) (one other : Play) → meaning ≡ Some (PlayCommand one) → meaning ≡ Some (PlayCommand other) → one ≡ other
-same_play meaning one other p q = let e : Some (PlayCommand one) ≡ Some (PlayCommand other) = sym p ∙ q in cc
+-- two commands that the same words mean are the same
+same_command : (meaning : Option Command) (one other : Command) → meaning ≡ Some one → meaning ≡ Some other → one ≡ other
+same_command meaning one other p q = let e : Some one ≡ Some other = sym p ∙ q in cc
 
 -- of a file at which a run ended, what is so where all files are told and fine
 at_told_file : (meaning : Option Command) (before after : Outside) (file : ℕ) (Fact : ℕ → List ℕ → Type 0) → EndsAtFile meaning before after file Fact → IsPlayable meaning before.told
     → (others : ℕ) × (bytes : List ℕ) × Fact others bytes × IsWithin others bytes × (bad_line bytes ≡ None)
 at_told_file meaning before after file Fact ends free =
-    let same : ends.play ≡ free.play = same_play meaning ends.play free.play ends.accepted.meant free.accepted.meant in
-    let names : length ends.play.files ≡ length free.play.files = ap (λ (play : Play). length play.files) same in
-    let hold : Hold before.told ends.play.files free.content (ends.stops.index + 1) =
-    hold_first before.told ends.play.files free.content (ends.stops.index + 1) (length free.play.files) (omega (arith, ends.stops.within, names))
-    (subst (λ (play : Play). Hold before.told play.files free.content (length free.play.files)) (sym same) free.hold) in
+    let same : ends.command ≡ free.command = same_command meaning ends.command free.command ends.accepted.meant free.accepted.meant in
+    let names : length (files_of ends.command) ≡ length (files_of free.command) = ap (λ (command : Command). length (files_of command)) same in
+    let hold : Hold before.told (files_of ends.command) free.content (ends.stops.index + 1) =
+    hold_first before.told (files_of ends.command) free.content (ends.stops.index + 1) (length (files_of free.command)) (omega (arith, ends.stops.within, names))
+    (subst (λ (command : Command). Hold before.told (files_of command) free.content (length (files_of free.command))) (sym same) free.hold) in
     let fine : IsWithin (taken free.content ends.stops.index) (free.content ends.stops.index) × (bad_line (free.content ends.stops.index) ≡ None) =
     free.fine ends.stops.index (omega (arith, ends.stops.within, names)) in
     (taken free.content ends.stops.index, free.content ends.stops.index, ends.stops.here free.content hold, fine.0, fine.1)
@@ -170,78 +200,86 @@ at_told_file meaning before after file Fact ends free =
 -- the numbers of a shape have no fault
 at_good_shape : (meaning : Option Command) (told : List ℕ → Option (List ℕ)) (fault : ShapeFault) → EndsAtShape meaning fault → IsPlayable meaning told → ⊥
 at_good_shape meaning told fault ends free =
-    let same : ends.play ≡ free.play = same_play meaning ends.play free.play ends.meant free.accepted.meant in
-    let first : IsFirstFault (length free.play.files) free.play.batches 0 free.play.quantum fault =
-    subst (λ (play : Play). IsFirstFault (length play.files) play.batches 0 play.quantum fault) same ends.first in
+    let same : ends.command ≡ free.command = same_command meaning ends.command free.command ends.meant free.accepted.meant in
+    let first : IsFirstFault (processes_of free.command) (batches_of free.command) 0 (quantum_of free.command) fault =
+    subst (λ (command : Command). IsFirstFault (processes_of command) (batches_of command) 0 (quantum_of command) fault) same ends.first in
     let asked = free.accepted.asked in
     no_fault free.sizes fault asked.shape
     (rw (asked.processes, asked.batches, asked.words, asked.quantum) first.has)
 
 -- where all files are told and fine, a run ends well or for want of memory, or the outside failed it
-ends_well_unless : (meaning : Option Command) (before after : Outside) (ending : Ending) (status : ℕ) → status ≡ status_of ending → CauseOf meaning before after ending → IsPlayable meaning before.told
-    → ((file : ℕ) → CauseOf meaning before after (Read file) → ⊥) → (CauseOf meaning before after Write → ⊥) → (status ≡ 0) ⊎ (status ≡ 8)
-ends_well_unless meaning before after Done status is cause free reads writes = inl is
-ends_well_unless meaning before after Words status is cause free reads writes = absurd (let e : None ≡ Some (PlayCommand free.play) = sym cause.0 ∙ free.accepted.meant in cc)
-ends_well_unless meaning before after (Shape fault) status is cause free reads writes = absurd (at_good_shape meaning before.told fault cause.0 free)
-ends_well_unless meaning before after (Read file) status is cause free reads writes = absurd (reads file cause)
-ends_well_unless meaning before after (Long file) status is cause free reads writes =
-    let fine = at_told_file meaning before after file (λ others bytes. ¬ IsWithin others bytes) cause free in absurd (fine.2 fine.3)
-ends_well_unless meaning before after (Line file line) status is cause free reads writes =
-    let fine = at_told_file meaning before after file (λ others bytes. IsWithin others bytes × (bad_line bytes ≡ Some line)) cause free in
+ends_well_unless : (meaning : Option Command) (before after : Outside) (closed : Option Settlement) (ending : Ending) (status : ℕ) → status ≡ status_of ending → CauseOf meaning before after closed ending
+    → IsPlayable meaning before.told → ((file : ℕ) → CauseOf meaning before after closed (Read file) → ⊥) → (CauseOf meaning before after closed Write → ⊥) → (status ≡ 0) ⊎ (status ≡ 8)
+ends_well_unless meaning before after closed Done status is cause free reads writes = inl is
+ends_well_unless meaning before after closed Words status is cause free reads writes = absurd (let e : None ≡ Some free.command = sym cause.0.0 ∙ free.accepted.meant in cc)
+ends_well_unless meaning before after closed (Shape fault) status is cause free reads writes = absurd (at_good_shape meaning before.told fault cause.0.0 free)
+ends_well_unless meaning before after closed (Read file) status is cause free reads writes = absurd (reads file cause)
+ends_well_unless meaning before after closed (Long file) status is cause free reads writes =
+    let fine = at_told_file meaning before after file (λ others bytes. ¬ IsWithin others bytes) cause.0 free in absurd (fine.2 fine.3)
+ends_well_unless meaning before after closed (Line file line) status is cause free reads writes =
+    let fine = at_told_file meaning before after file (λ others bytes. IsWithin others bytes × (bad_line bytes ≡ Some line)) cause.0 free in
     absurd (let e : None ≡ Some line = sym fine.4 ∙ fine.2.1 in cc)
-ends_well_unless meaning before after Write status is cause free reads writes = absurd (writes cause)
-ends_well_unless meaning before after Memory status is cause free reads writes = inr is
+ends_well_unless meaning before after closed Write status is cause free reads writes = absurd (writes cause)
+ends_well_unless meaning before after closed Memory status is cause free reads writes = inr is
 
--- two shapes that a play asks for have as many blocks
-same_blocks : (play : Play) (one other : Sizes) → IsShapeOf play one → IsShapeOf play other → blocks one ≡ blocks other
-unfolding blocks
-same_blocks play one other p q =
+-- two shapes that a command asks for are the same
+same_sizes : (command : Command) (one other : Sizes) → IsShapeOf command one → IsShapeOf command other → one ≡ other
+same_sizes command one other p q =
     let processes : other.processes ≡ one.processes = q.processes ∙ sym p.processes in
     let quantum : other.quantum ≡ one.quantum = q.quantum ∙ sym p.quantum in
     let batches : one.batches ≡ other.batches = p.batches ∙ sym q.batches in
+    let words : one.words ≡ other.words = p.words ∙ sym q.words in
     let length_of_other : IsLength one.processes one.quantum other.length =
     subst (λ (n : ℕ). IsLength n one.quantum other.length) processes (subst (λ (n : ℕ). IsLength other.processes n other.length) quantum q.shape.least_length) in
     let long : one.length ≡ other.length = one_length one.processes one.quantum one.length other.length p.shape.least_length length_of_other in
-    ap (λ (n : ℕ). n * one.length) batches ∙ ap (λ (n : ℕ). other.batches * n) long
+    let each : sizes one.processes one.batches one.words one.quantum one.length ≡ sizes other.processes other.batches other.words other.quantum other.length = cc in
+    each
 
--- tallies of files for which there are enough blocks
-ample_tallies : (meaning : Option Command) (told : List ℕ → Option (List ℕ)) (tallies : List Tally) (scripts : List Script) → GivesTallies meaning told tallies → IsAmple meaning told scripts → tallies ≡ tallies_without_refusals scripts
-ample_tallies meaning told tallies scripts gives ample =
-    let same : ample.play ≡ gives.play = same_play meaning ample.play gives.play ample.accepted.meant gives.accepted.meant in
-    let asked : IsShapeOf gives.play ample.sizes = subst (λ (play : Play). IsShapeOf play ample.sizes) same ample.accepted.asked in
-    let hold : Hold told gives.play.files ample.content (length gives.play.files) = subst (λ (play : Play). Hold told play.files ample.content (length play.files)) same ample.hold in
-    let enough : HasEnoughBlocks gives.play ample.sizes ample.content scripts = subst (λ (play : Play). HasEnoughBlocks play ample.sizes ample.content scripts) same ample.enough in
-    gives.played.unrefused ample.content hold scripts (record {
-      are_scripts = enough.are_scripts;
-      enough = rw (same_blocks gives.play gives.sizes ample.sizes gives.accepted.asked asked) enough.enough;
-    })
+-- tallies of scripts for which there are enough blocks
+ample_tallies : (meaning : Option Command) (told : List ℕ → Option (List ℕ)) (settled : Settlement) (tallies : List Tally) (scripts : List Script)
+    → GivesTallies meaning told settled tallies → IsAmple meaning told scripts → tallies ≡ tallies_without_refusals scripts
+ample_tallies meaning told settled tallies scripts gives ample =
+    let same : ample.command ≡ gives.command = same_command meaning ample.command gives.command ample.accepted.meant gives.accepted.meant in
+    let asked : IsShapeOf gives.command ample.sizes = subst (λ (command : Command). IsShapeOf command ample.sizes) same ample.accepted.asked in
+    let hold : Hold told (files_of gives.command) ample.content (length (files_of gives.command))
+    = subst (λ (command : Command). Hold told (files_of command) ample.content (length (files_of command))) same ample.hold in
+    let enough : HasEnoughBlocks gives.command ample.sizes ample.content scripts
+    = subst (λ (command : Command). HasEnoughBlocks command ample.sizes ample.content scripts) same ample.enough in
+    gives.played.unrefused ample.content hold scripts
+    (subst (λ (sizes : Sizes). HasEnoughBlocks gives.command sizes ample.content scripts) (same_sizes gives.command ample.sizes gives.sizes asked gives.accepted.asked) enough)
 
 -- the report of a run that ended well
-report_when_done : (meaning : Option Command) (before after : Outside) (ending : Ending) (status : ℕ) → status ≡ status_of ending → CauseOf meaning before after ending → status ≡ 0 → EndsPlayed meaning before after (GrowsBy before.out after.out)
-report_when_done meaning before after Done status is cause well = cause
-report_when_done meaning before after Words status is cause well = absurd (omega (arith, is, well))
-report_when_done meaning before after (Shape fault) status is cause well = absurd (omega (arith, is, well))
-report_when_done meaning before after (Read file) status is cause well = absurd (omega (arith, is, well))
-report_when_done meaning before after (Long file) status is cause well = absurd (omega (arith, is, well))
-report_when_done meaning before after (Line file line) status is cause well = absurd (omega (arith, is, well))
-report_when_done meaning before after Write status is cause well = absurd (omega (arith, is, well))
-report_when_done meaning before after Memory status is cause well = absurd (omega (arith, is, well))
+report_when_done : (meaning : Option Command) (before after : Outside) (closed : Option Settlement) (ending : Ending) (status : ℕ) → status ≡ status_of ending → CauseOf meaning before after closed ending
+    → status ≡ 0 → EndsPlayed meaning before after closed (GrowsBy before.out after.out)
+report_when_done meaning before after closed Done status is cause well = cause
+report_when_done meaning before after closed Words status is cause well = absurd (omega (arith, is, well))
+report_when_done meaning before after closed (Shape fault) status is cause well = absurd (omega (arith, is, well))
+report_when_done meaning before after closed (Read file) status is cause well = absurd (omega (arith, is, well))
+report_when_done meaning before after closed (Long file) status is cause well = absurd (omega (arith, is, well))
+report_when_done meaning before after closed (Line file line) status is cause well = absurd (omega (arith, is, well))
+report_when_done meaning before after closed Write status is cause well = absurd (omega (arith, is, well))
+report_when_done meaning before after closed Memory status is cause well = absurd (omega (arith, is, well))
 
-module _ (meaning : Option Command) (before after : Outside) (Told : Ending → Type 0) (status : ℕ) (ends : Ends meaning before after Told status) where
+module _ (meaning : Option Command) (before after : Outside) (closed : Option Settlement) (Told : Ending → Type 0) (status : ℕ) (ends : Ends meaning before after closed Told status) where
   -- where nothing hinders a run, it ends well or for want of memory
   pub unhindered : IsUnhindered meaning before after → (status ≡ 0) ⊎ (status ≡ 8)
   unhindered free =
-      ends_well_unless meaning before after ends.ending status ends.answered ends.cause free.playable (λ file read. free.read read.1) (λ write. free.written write.1)
+      ends_well_unless meaning before after closed ends.ending status ends.answered ends.cause free.playable (λ file read. free.read read.0.1) (λ write. free.written write.1)
 
   -- where nothing can hinder a run, it ends well or for want of memory
   pub sure : IsSure meaning before → (status ≡ 0) ⊎ (status ≡ 8)
   sure free =
-      ends_well_unless meaning before after ends.ending status ends.answered ends.cause free.playable
-      (λ file read. let at = at_told_file meaning before after file (λ _ _. ¬ before.reliable) read.0 free.playable in at.2 free.reliable)
-      (λ write. write.0.reported.1 (free.roomy write.0.tallies write.0.gives))
+      ends_well_unless meaning before after closed ends.ending status ends.answered ends.cause free.playable
+      (λ file read. let at = at_told_file meaning before after file (λ _ _. ¬ before.reliable) read.0.0 free.playable in at.2 free.reliable)
+      (λ write. write.0.reported.1 (free.roomy write.0.settled write.0.tallies write.0.gives))
 
   -- with enough blocks the report follows from the files alone
   pub enough : (scripts : List Script) → IsAmple meaning before.told scripts → status ≡ 0 → GrowsBy before.out after.out (report (tallies_without_refusals scripts))
   enough scripts ample well =
-      let done = report_when_done meaning before after ends.ending status ends.answered ends.cause well in
-      subst (λ tallies. GrowsBy before.out after.out (report tallies)) (ample_tallies meaning before.told done.tallies scripts done.gives ample) done.reported
+      let done = report_when_done meaning before after closed ends.ending status ends.answered ends.cause well in
+      subst (λ tallies. GrowsBy before.out after.out (report tallies)) (ample_tallies meaning before.told done.settled done.tallies scripts done.gives ample) done.reported
+
+-- what follows of a fact of an answer
+pub if_ok_more : {A E : Type 0} (P Q : A → Type 0) (answer : Result A E) → ((a : A) → P a → Q a) → IfOk answer P → IfOk answer Q
+if_ok_more P Q (Ok a) more p = more a p
+if_ok_more P Q (Err e) more p = tt

@@ -5,14 +5,15 @@ use Rattle.std.specs.declared.alloc.Global.{Global}
 use Rattle.std.proofs.lemmas.Bool.{cases_lt}
 use Rattle.std.proofs.lemmas.Option.{slice_get-map, slice_get_read, slice_get_within}
 use Rattle.pool_model.proofs.Places.{slice_get-push_cases}
-use Rattle.mtrace_reader.specs.declared.trace.TraceFault.{TraceFault}
-use Rattle.mtrace_reader.specs.declared.trace.TraceFault.TheVariants.{ReadFault, TooLong, BadLine, NoMemory}
+use Rattle.line_text.specs.declared.fault.TextFault.{TextFault}
+use Rattle.line_text.specs.declared.fault.TextFault.TheVariants.{ReadFault, TooLong, BadLine, NoMemory}
 use Rattle.mtrace_reader.specs.declared.steps.Script.{Script}
 use Rattle.mtrace_reader.specs.Reading.{bad_line}
 use Rattle.pool_io.specs.declared.files.Files.{Ghosts}
 use Rattle.pool_io.specs.Counts.{HasRisen}
 use Rattle.pool_cli.specs.declared.reading.FileScript.{FileScript}
-use Rattle.pool_cli.specs.Causes.{AreFine, Hold, IsScriptOf, IsWithin, StopsAt, taken}
+use Rattle.pool_cli.specs.Asked.{IsScriptOf}
+use Rattle.pool_cli.specs.Causes.{AreFine, Hold, IsWithin, StopsAt, taken}
 use Rattle.pool_cli.specs.Scripts.{FileAnswers, ReadsFirst, StopsWith}
 
 -- the name of the file that is read next
@@ -68,7 +69,7 @@ stops_at size told names i total scripts name Fact at reads fact = record {
 }
 
 -- a fault at the next file, where the files were as reliable before the reading as at this file
-pub stops_next : {F S : Type 0} (of : Ghosts F S) (before between after : F) (size : ℕ) (names : List (List ℕ)) (i total : ℕ) (scripts : List Script) (name : List ℕ) (fault : TraceFault)
+pub stops_next : {F S : Type 0} (of : Ghosts F S) (before between after : F) (size : ℕ) (names : List (List ℕ)) (i total : ℕ) (scripts : List Script) (name : List ℕ) (fault : TextFault)
     → slice_get names i ≡ Some name → ReadsFirst size (of.told before) names i total scripts
     → ((bytes : List ℕ) → of.told before name ≡ Some bytes → FileAnswers (of.reliable between) (2 ^ 26 - total) size bytes (Err fault))
     → (of.reliable before → of.reliable between) → of.faults before ≤ of.faults between → (fault ≡ ReadFault → HasRisen (of.faults between) (of.faults after))

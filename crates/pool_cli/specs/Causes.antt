@@ -1,29 +1,28 @@
 -- When each ending of a run comes.
 use Rattle.std.specs.Prelude.{◌≡◌, ℕ, ◌+◌, ◌^◌, ◌<◌, ◌≤◌, zero, suc, Option, Some, None, Result, List, length, slice_get}
 use Rattle.command_words.specs.declared.command.Command.{Command}
-use Rattle.command_words.specs.declared.command.Command.TheVariants.{Play as PlayCommand}
-use Rattle.command_words.specs.declared.command.Play.{Play}
 use Rattle.word_layout.specs.declared.fault.ShapeFault.{ShapeFault}
-use Rattle.word_layout.specs.Sizes.{Sizes, blocks, limits_of}
+use Rattle.word_layout.specs.Sizes.{Sizes, limits_of}
 use Rattle.word_layout.specs.Faults.{IsFirstFault}
-use Rattle.pool_model.specs.declared.entry.Entry.{Entry}
 use Rattle.pool_model.specs.History.{own}
-use Rattle.pool_model.specs.Legal.{IsExact}
+use Rattle.pool_model.specs.Legal.{IsLegal}
+use Rattle.block_pool.specs.Closing.{Settlement}
+use Rattle.pool_runs.specs.Enough.{HasEnough}
+use Rattle.pool_runs.specs.Settled.{TookFewSteps}
 use Rattle.pool_io.specs.Counts.{HasRisen}
 use Rattle.pool_io.specs.Told.{GrowsBy, GrowsByPart}
 use Rattle.pool_io.specs.Writes.{Writes}
 use Rattle.pool_io.specs.declared.files.Failed.{Failed}
 use Rattle.pool_io.specs.declared.sink.Sink.{Ghosts}
-use Rattle.mtrace_reader.specs.declared.trace.Trace.{Trace}
 use Rattle.mtrace_reader.specs.declared.steps.Script.{Script}
-use Rattle.mtrace_reader.specs.Reading.{IsReading, bad_line}
-use Rattle.mtrace_reader.specs.Script.{script_of}
+use Rattle.mtrace_reader.specs.Reading.{bad_line}
 use Rattle.trace_player.specs.declared.tally.Tally.{Tally}
 use Rattle.trace_player.specs.Fit.{IsTallied}
-use Rattle.trace_player.specs.Plain.{IsInTurn, peaks_without_refusals, tallies_without_refusals}
+use Rattle.trace_player.specs.Plain.{tallies_without_refusals}
 use Rattle.trace_player.specs.Report.{report}
 use Rattle.pool_cli.specs.declared.ending.Ending.{Ending}
 use Rattle.pool_cli.specs.declared.ending.Ending.TheVariants.{Done, Words, Shape, Read, Long, Line, Write, Memory}
+use Rattle.pool_cli.specs.Asked.{IsScriptFor, batches_of, files_of, processes_of, quantum_of}
 use Rattle.pool_cli.specs.Ending.{line_of, status_of}
 use Rattle.pool_cli.specs.Outside.{HasOpened, IsUntouched, IsUnwritten, Outside, TakesText}
 use Rattle.pool_cli.specs.Shapes.{IsShapeOf}
@@ -45,42 +44,42 @@ IsWithin before bytes = (length bytes ≤ 2 ^ 24) × (before + length bytes ≤ 
 abbrev pub AreFine : (ℕ → List ℕ) → ℕ → Type 0
 AreFine content count = (j : ℕ) → j < count → IsWithin (taken content j) (content j) × (bad_line (content j) ≡ None)
 
--- the script of a file's bytes, where a block has `size` bytes
-abbrev pub IsScriptOf : ℕ → List ℕ → Script → Type 0
-IsScriptOf size bytes script = (trace : Trace) × IsReading bytes trace × (script ≡ script_of trace size)
+-- these are the scripts that a command plays, where the files have these contents, one for each process
+pub record AreScriptsFor (command : Command) (content : ℕ → List ℕ) (scripts : List Script) : Type 0 where
+  pub one_each : length scripts ≡ processes_of command
+  pub each : (j : ℕ) (script : Script) → slice_get scripts j ≡ Some script → IsScriptFor command content j script
 
--- these are the scripts of files with these contents, one each
-pub record AreScriptsOf (size : ℕ) (content : ℕ → List ℕ) (count : ℕ) (scripts : List Script) : Type 0 where
-  pub one_each : length scripts ≡ count
-  pub each : (j : ℕ) (script : Script) → slice_get scripts j ≡ Some script → IsScriptOf size (content j) script
+-- the words ask for this command, and its numbers are those of a pool without data words
+pub record IsAccepted (meaning : Option Command) (command : Command) (sizes : Sizes) : Type 0 where
+  pub meant : meaning ≡ Some command
+  pub asked : IsShapeOf command sizes
 
--- the words ask for this play, and its numbers are those of a pool: a process for each file, no data words
-pub record IsAccepted (meaning : Option Command) (play : Play) (sizes : Sizes) : Type 0 where
-  pub meant : meaning ≡ Some (PlayCommand play)
-  pub asked : IsShapeOf play sizes
-
--- one history of a free set, which refuses only where all blocks are held: the files were played one after the other, and the
--- entries of each process fit the script of its file and give its tally
-pub record IsHistoryOf (play : Play) (sizes : Sizes) (content : ℕ → List ℕ) (tallies : List Tally) : Type 0 where
-  pub history : List Entry
-  pub exact : IsExact (limits_of sizes) history
-  pub in_turn : IsInTurn (length play.files) history
+-- the pool was closed with one legal history of a free set; each process made at most a quantum of steps and one in each of its calls;
+-- and its entries fit its script, with refusals that they determine, and give its tally
+pub record IsHistoryOf (command : Command) (sizes : Sizes) (content : ℕ → List ℕ) (settled : Settlement) (tallies : List Tally) : Type 0 where
+  pub shape : settled.sizes ≡ sizes
+  pub legal : IsLegal (limits_of sizes) settled.history
+  pub short : TookFewSteps sizes.processes settled
   pub each : (j : ℕ) (tally : Tally) → slice_get tallies j ≡ Some tally
-      → (script : Script) × IsScriptOf play.size (content j) script × IsTallied j script (own history j) tally
+      → (script : Script) × IsScriptFor command content j script × IsTallied j script (own settled.history j) tally
 
--- these are the scripts of files with these contents, and the pool has as many blocks as they hold at most if nothing is refused
-pub record HasEnoughBlocks (play : Play) (sizes : Sizes) (content : ℕ → List ℕ) (scripts : List Script) : Type 0 where
-  pub are_scripts : AreScriptsOf play.size content (length play.files) scripts
-  pub enough : peaks_without_refusals scripts ≤ blocks sizes
+-- these are the scripts that the command plays, and the pool has more blocks than its processes may withhold and the scripts hold at
+-- most if nothing is refused
+pub record HasEnoughBlocks (command : Command) (sizes : Sizes) (content : ℕ → List ℕ) (scripts : List Script) : Type 0 where
+  pub are_scripts : AreScriptsFor command content scripts
+  pub enough : HasEnough (limits_of sizes) scripts
 
--- all files were read and played: they are fine, the tallies are computed from one history, and with enough blocks from the
--- scripts alone
-pub record IsPlayed (told : List ℕ → Option (List ℕ)) (play : Play) (sizes : Sizes) (tallies : List Tally) : Type 0 where
-  pub one_each : length tallies ≡ length play.files
-  pub fine : (content : ℕ → List ℕ) → Hold told play.files content (length play.files) → AreFine content (length play.files)
-  pub played : (content : ℕ → List ℕ) → Hold told play.files content (length play.files) → IsHistoryOf play sizes content tallies
-  pub unrefused : (content : ℕ → List ℕ) → Hold told play.files content (length play.files)
-      → (scripts : List Script) → HasEnoughBlocks play sizes content scripts → tallies ≡ tallies_without_refusals scripts
+-- all files were read and all scripts played: the files are fine, the tallies are computed from the one history, and with enough
+-- blocks from the scripts alone
+pub record IsPlayed (told : List ℕ → Option (List ℕ)) (command : Command) (sizes : Sizes) (settled : Settlement) (tallies : List Tally)
+    : Type 0 where
+  pub one_each : length tallies ≡ processes_of command
+  pub fine : (content : ℕ → List ℕ) → Hold told (files_of command) content (length (files_of command))
+      → AreFine content (length (files_of command))
+  pub played : (content : ℕ → List ℕ) → Hold told (files_of command) content (length (files_of command))
+      → IsHistoryOf command sizes content settled tallies
+  pub unrefused : (content : ℕ → List ℕ) → Hold told (files_of command) content (length (files_of command))
+      → (scripts : List Script) → HasEnoughBlocks command sizes content scripts → tallies ≡ tallies_without_refusals scripts
 
 -- the run ended at a file, which has this fact after so many bytes of the files before it, which are fine
 pub record StopsAt (told : List ℕ → Option (List ℕ)) (names : List (List ℕ)) (file : ℕ) (Fact : ℕ → List ℕ → Type 0) : Type 0 where
@@ -92,68 +91,79 @@ pub record StopsAt (told : List ℕ → Option (List ℕ)) (names : List (List �
 
 -- the words were accepted and the run ended at a file, the last that was opened
 pub record EndsAtFile (meaning : Option Command) (before after : Outside) (file : ℕ) (Fact : ℕ → List ℕ → Type 0) : Type 0 where
-  pub play : Play
+  pub command : Command
   pub sizes : Sizes
-  pub accepted : IsAccepted meaning play sizes
-  pub stops : StopsAt before.told play.files file Fact
+  pub accepted : IsAccepted meaning command sizes
+  pub stops : StopsAt before.told (files_of command) file Fact
   pub opened : HasOpened before after file
   pub unwritten : IsUnwritten before after
 
--- the words were accepted, and playing their files gives these tallies
-pub record GivesTallies (meaning : Option Command) (told : List ℕ → Option (List ℕ)) (tallies : List Tally) : Type 0 where
-  pub play : Play
+-- the words were accepted, and what they ask for gives this history and these tallies
+pub record GivesTallies (meaning : Option Command) (told : List ℕ → Option (List ℕ)) (settled : Settlement) (tallies : List Tally)
+    : Type 0 where
+  pub command : Command
   pub sizes : Sizes
-  pub accepted : IsAccepted meaning play sizes
-  pub played : IsPlayed told play sizes tallies
+  pub accepted : IsAccepted meaning command sizes
+  pub played : IsPlayed told command sizes settled tallies
 
--- all files were opened and played, and this was done with their report
-pub record EndsPlayed (meaning : Option Command) (before after : Outside) (Report : List ℕ → Type 0) : Type 0 where
+-- all files were opened, all scripts played, and the pool closed with this history; this was done with the report
+pub record EndsPlayed (meaning : Option Command) (before after : Outside) (closed : Option Settlement) (Report : List ℕ → Type 0)
+    : Type 0 where
+  pub settled : Settlement
+  pub is_closed : closed ≡ Some settled
   pub tallies : List Tally
-  pub gives : GivesTallies meaning before.told tallies
-  pub opened : HasOpened before after (length tallies)
+  pub gives : GivesTallies meaning before.told settled tallies
+  pub opened : HasOpened before after (length (files_of gives.command))
   pub reported : Report (report tallies)
 
--- the words ask for a play whose numbers have this fault and none before it
+-- the words ask for a pool whose numbers have this fault and none before it
 pub record EndsAtShape (meaning : Option Command) (fault : ShapeFault) : Type 0 where
-  pub play : Play
-  pub meant : meaning ≡ Some (PlayCommand play)
-  pub first : IsFirstFault (length play.files) play.batches 0 play.quantum fault
+  pub command : Command
+  pub meant : meaning ≡ Some command
+  pub first : IsFirstFault (processes_of command) (batches_of command) 0 (quantum_of command) fault
 
--- When each ending comes. Where the bytes of the files up to an unread one are told, the files weren't reliable, and an output
--- that failed wasn't sure to take the report. Want of memory may come at any time before the playing.
-abbrev pub CauseOf : Option Command → Outside → Outside → Ending → Type 0
-CauseOf meaning before after Done = EndsPlayed meaning before after (GrowsBy before.out after.out)
-CauseOf meaning before after Words = (meaning ≡ None) × IsUntouched before after
-CauseOf meaning before after (Shape fault) = EndsAtShape meaning fault × IsUntouched before after
-CauseOf meaning before after (Read file) =
+-- When a run ends before its pool is closed. Where the bytes of the files up to an unread one are told, the files weren't reliable.
+-- Want of memory may come at any time before the playing.
+abbrev pub EarlyCause : Option Command → Outside → Outside → Ending → Type 0
+EarlyCause meaning before after Done = ⊥
+EarlyCause meaning before after Words = (meaning ≡ None) × IsUntouched before after
+EarlyCause meaning before after (Shape fault) = EndsAtShape meaning fault × IsUntouched before after
+EarlyCause meaning before after (Read file) =
     EndsAtFile meaning before after file (λ _ _. ¬ before.reliable) × HasRisen before.file_faults after.file_faults
-CauseOf meaning before after (Long file) = EndsAtFile meaning before after file (λ others bytes. ¬ IsWithin others bytes)
-CauseOf meaning before after (Line file line) =
+EarlyCause meaning before after (Long file) = EndsAtFile meaning before after file (λ others bytes. ¬ IsWithin others bytes)
+EarlyCause meaning before after (Line file line) =
     EndsAtFile meaning before after file (λ others bytes. IsWithin others bytes × (bad_line bytes ≡ Some line))
-CauseOf meaning before after Write =
-    EndsPlayed meaning before after (λ text. GrowsByPart before.out after.out text × ¬ TakesText before text)
+EarlyCause meaning before after Write = ⊥
+EarlyCause meaning before after Memory = IsUnwritten before after
+
+-- When each ending comes, and what the pool was closed with. An output that failed wasn't sure to take the report.
+abbrev pub CauseOf : Option Command → Outside → Outside → Option Settlement → Ending → Type 0
+CauseOf meaning before after closed Done = EndsPlayed meaning before after closed (GrowsBy before.out after.out)
+CauseOf meaning before after closed Write =
+    EndsPlayed meaning before after closed (λ text. GrowsByPart before.out after.out text × ¬ TakesText before text)
     × HasRisen before.out_faults after.out_faults
-CauseOf meaning before after Memory = IsUnwritten before after
+CauseOf meaning before after closed ending = EarlyCause meaning before after ending × (closed ≡ None)
 
 -- the line of the ending was written to this sink, or a part of it where the sink failed
 abbrev pub IsTold : {K : Type 0} → Ghosts K → K → K → Ending → Type 0
 IsTold sink before after ending = (result : Result (Unit {0}) Failed) × Writes sink (line_of ending) before after result
 
--- a run with this status: it had cause to end so, and was told so
-pub record Ends (meaning : Option Command) (before after : Outside) (Told : Ending → Type 0) (status : ℕ) : Type 0 where
+-- a run with this status and this history: it had cause to end so, and was told so
+pub record Ends (meaning : Option Command) (before after : Outside) (closed : Option Settlement) (Told : Ending → Type 0) (status : ℕ)
+    : Type 0 where
   pub ending : Ending
-  pub cause : CauseOf meaning before after ending
+  pub cause : CauseOf meaning before after closed ending
   pub line : Told ending
   pub answered : status ≡ status_of ending
 
 -- the words are accepted, and all files are told and fine
 pub record IsPlayable (meaning : Option Command) (told : List ℕ → Option (List ℕ)) : Type 0 where
-  pub play : Play
+  pub command : Command
   pub sizes : Sizes
-  pub accepted : IsAccepted meaning play sizes
+  pub accepted : IsAccepted meaning command sizes
   pub content : ℕ → List ℕ
-  pub hold : Hold told play.files content (length play.files)
-  pub fine : AreFine content (length play.files)
+  pub hold : Hold told (files_of command) content (length (files_of command))
+  pub fine : AreFine content (length (files_of command))
 
 -- besides, neither the files nor the output failed in the run
 pub record IsUnhindered (meaning : Option Command) (before after : Outside) : Type 0 where
@@ -165,13 +175,14 @@ pub record IsUnhindered (meaning : Option Command) (before after : Outside) : Ty
 pub record IsSure (meaning : Option Command) (before : Outside) : Type 0 where
   pub playable : IsPlayable meaning before.told
   pub reliable : before.reliable
-  pub roomy : (tallies : List Tally) → GivesTallies meaning before.told tallies → TakesText before (report tallies)
+  pub roomy : (settled : Settlement) (tallies : List Tally) → GivesTallies meaning before.told settled tallies
+      → TakesText before (report tallies)
 
--- the words are accepted, all files are told, and these are their scripts, for which there are enough blocks
+-- the words are accepted, all files are told, and these are the scripts, for which there are enough blocks
 pub record IsAmple (meaning : Option Command) (told : List ℕ → Option (List ℕ)) (scripts : List Script) : Type 0 where
-  pub play : Play
+  pub command : Command
   pub sizes : Sizes
-  pub accepted : IsAccepted meaning play sizes
+  pub accepted : IsAccepted meaning command sizes
   pub content : ℕ → List ℕ
-  pub hold : Hold told play.files content (length play.files)
-  pub enough : HasEnoughBlocks play sizes content scripts
+  pub hold : Hold told (files_of command) content (length (files_of command))
+  pub enough : HasEnoughBlocks command sizes content scripts

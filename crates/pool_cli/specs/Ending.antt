@@ -1,9 +1,11 @@
 -- How a run ends: its status, and its line on the error sink.
-use Rattle.std.specs.Prelude.{ℕ, Result, Ok, Err, List, [], ◌++◌, codes, decimal}
+use Rattle.std.specs.Prelude.{ℕ, Option, None, Result, Ok, Err, List, [], ◌++◌, codes, decimal}
 use Rattle.command_words.specs.declared.fault.WordsFault.{WordsFault}
 use Rattle.command_words.specs.declared.fault.WordsFault.TheVariants.{Faulty, NoMemory}
 use Rattle.word_layout.specs.Faults.{number_of}
+use Rattle.block_pool.specs.Closing.{Settlement}
 use Rattle.pool_cli.specs.declared.ending.Ending.{Ending}
+use Rattle.pool_cli.specs.declared.ending.Worked.{Worked}
 use Rattle.pool_cli.specs.declared.ending.Ending.TheVariants.{Done, Words, Shape, Read, Long, Line, Write, Memory}
 
 -- the status of an ending
@@ -37,7 +39,12 @@ abbrev pub for_words : WordsFault → Ending
 for_words Faulty = Words
 for_words NoMemory = Memory
 
--- the ending of work that did all, or ended early
-abbrev pub ending_of : Result (Unit {0}) Ending → Ending
-ending_of (Ok done) = Done
+-- the ending of work that played, or ended early
+abbrev pub ending_of : Result Worked Ending → Ending
+ending_of (Ok worked) = worked.ending
 ending_of (Err ending) = ending
+
+-- what its pool was closed with
+abbrev pub settled_of : Result Worked Ending → Option Settlement
+settled_of (Ok worked) = worked.settled
+settled_of (Err ending) = None

@@ -1,15 +1,44 @@
 // How a run ends.
 ghost use Rattle.std.specs.Prelude.{◌≡◌};
 
+use block_pool::Settled;
 use command_words::WordsFault;
 use pool_model::NoMemory;
 use word_layout::ShapeFault;
 
 /// How a run ended, as its caller is told.
-#[derive(Clone, Copy, Debug, PartialEq, Eq, Hash)]
+#[derive(Drop)]
 pub struct Ended {
     /// The status with which the program ends.
     pub status: u8,
+    /// What the run's pool was closed with; None where the run ended before its playing, so with a status other than 0
+    /// and 7.
+    pub settled: Option<Settled>,
+}
+
+/// How a run's work ended, and what its pool was closed with.
+#[derive(Drop)]
+pub(crate) struct Worked {
+    pub(crate) ending: Ending,
+    pub(crate) settled: Option<Settled>,
+}
+
+impl Worked {
+    ghost use Rattle.pool_cli.specs.Ending.{ending_of, settled_of};
+
+    /// How work ended that played, or ended early.
+    pub(crate) fn after(work: Result<Worked, Ending>) -> Worked
+        ensures ending { result.ending ≡ ending_of work }
+        ensures settled { result.settled ≡ settled_of work }
+    {
+        match work {
+            Ok(worked) => worked,
+            Err(ending) => Worked {
+                ending,
+                settled: None,
+            },
+        }
+    }
 }
 
 /// How a run ended, and the numbers of its line on the error sink. Files and lines are numbered from 1.
@@ -34,17 +63,7 @@ pub enum Ending {
 }
 
 impl Ending {
-    ghost use Rattle.pool_cli.specs.Ending.{ending_of, status_of};
-
-    /// How work ended that did all, or ended early.
-    pub(crate) fn after(work: Result<(), Ending>) -> Ending
-        ensures { result ≡ ending_of work }
-    {
-        match work {
-            Ok(()) => Ending::Done,
-            Err(ending) => ending,
-        }
-    }
+    ghost use Rattle.pool_cli.specs.Ending.{status_of};
 
     /// The status with which the program ends.
     pub fn status(&self) -> u8

@@ -6,6 +6,8 @@ mod line;
 mod program;
 mod reading;
 mod report;
+mod scripts;
+mod shape;
 mod tell;
 
 pub use ending::{Ended, Ending};

@@ -1,29 +1,30 @@
 // The top call.
-ghost use Rattle.std.specs.Prelude.{◌≡◌, ◌⊎◌, ◌^◌, ◌<◌, List, Some, Option, IfOk, IfErr, map, string_bytes};
+ghost use Rattle.std.specs.Prelude.{◌≡◌, ◌⊎◌, ◌^◌, ◌<◌, List, Some, Option, map, string_bytes};
 ghost use Rattle.command_words.specs.declared.command.Command.{Command};
-ghost use Rattle.command_words.specs.Meant.{meant};
-ghost use Rattle.pool_cli.specs.Ending.{ending_of};
+ghost use Rattle.command_words.specs.Meant.{HasFewCalls, meant};
+ghost use Rattle.pool_cli.specs.Ending.{ending_of, settled_of};
 ghost use Rattle.pool_io.specs.Told.{GrowsBy};
 ghost use Rattle.mtrace_reader.specs.declared.steps.Script.{Script};
 ghost use Rattle.trace_player.specs.Plain.{tallies_without_refusals};
 ghost use Rattle.trace_player.specs.Report.{report};
 ghost use Rattle.pool_cli.specs.Causes.{CauseOf, Ends, IsAmple, IsSure, IsTold, IsUnhindered};
 ghost use Rattle.pool_cli.specs.Outside.{outside};
-ghost use Rattle.pool_cli.specs.Shapes.{IsShapeOf, IsRefused};
 
-use crate::reading::read_files;
+use crate::ending::Worked;
 use crate::report::write_report;
+use crate::scripts::scripts_of;
+use crate::shape::shape_of;
 use crate::tell::tell;
 use crate::{Ended, Ending};
-use command_words::{Command, Play, read_words};
+use command_words::{Command, read_words};
 use pool_io::{Files, Gate, Sink};
+use pool_runs::play_on_pool;
 use std::alloc::Global;
 use std::thread::Threads;
-use trace_player::play_plain;
-use word_layout::Shape;
 
-/// Does all that the program does: reads the words, plays their files and writes the report to `out`. Where
-/// it ends otherwise, its line is written to `err`; a fault of `err` changes no status.
+/// Does all that the program does: reads the words, plays what they ask for over a pool, each process on a
+/// thread where one can be had, and writes the report to `out`. Where it ends otherwise, its line is written to `err`;
+/// a fault of `err` changes no status. The gate is told of each call of the pool before it.
 ///
 /// Each status comes exactly as the causes say: 0 after the whole report, 2 for faulty words, 3 for a shape
 /// that is refused, 4 to 6 for a file, 7 where `out` failed. Want of memory, 8, comes before the playing.
@@ -40,6 +41,7 @@ pub fn run<R: Threads + Sync, F: Files, K: Sink, G: Gate + Sync>(
     ensures ends { Ends (meant (map string_bytes words.now))
         (outside F.Files files.old K.Sink out.old)
         (outside F.Files files.new K.Sink out.new)
+        result.settled
         (IsTold K.Sink err.old err.new)
         result.status }
     ensures unhindered { IsUnhindered (meant (map string_bytes words.now))
@@ -52,71 +54,60 @@ pub fn run<R: Threads + Sync, F: Files, K: Sink, G: Gate + Sync>(
         → result.status ≡ 0
         → GrowsBy (K.written out.old) (K.written out.new) (report (tallies_without_refusals scripts)) }
 {
-    let _ = rt;
-    let _ = gate;
-    let ending = Ending::after(work(alloc, words, files, out));
-    let _ = tell(err, ending);
+    let worked = Worked::after(work(rt, alloc, words, files, out, gate));
+    let _ = tell(err, worked.ending);
     Ended {
-        status: ending.status(),
+        status: worked.ending.status(),
+        settled: worked.settled,
     }
 }
 
 /// Does what the words ask for, and answers what ended it early.
-fn work<F: Files, K: Sink>(
+fn work<R: Threads + Sync, F: Files, K: Sink, G: Gate + Sync>(
+    rt: &R,
     alloc: Global,
     words: &[String],
     files: &mut F,
     out: &mut K,
-) -> Result<(), Ending>
+    gate: &G,
+) -> Result<Worked, Ending>
     requires { F.opens files.old < 2 ^ 63 }
     ensures { CauseOf (meant (map string_bytes words.now))
         (outside F.Files files.old K.Sink out.old)
         (outside F.Files files.new K.Sink out.new)
+        (settled_of result)
         (ending_of result) }
 {
-    let play = play_of(read_words(alloc, words)?);
-    play_files(alloc, &play, files, out)
+    let command = read_words(alloc, words)?;
+    play_command(rt, alloc, &command, files, out, gate)
 }
 
-/// The play that a command asks for.
-fn play_of(command: Command) -> Play
-    ensures { command ≡ Command.Play result }
-{
-    match command {
-        Command::Play(play) => play,
-    }
-}
-
-/// Plays the files and writes the report, and answers what ended it early.
-fn play_files<F: Files, K: Sink>(
+/// Plays what a command asks for and writes the report, and answers what ended it early.
+fn play_command<R: Threads + Sync, F: Files, K: Sink, G: Gate + Sync>(
+    rt: &R,
     alloc: Global,
-    play: &Play,
+    command: &Command,
     files: &mut F,
     out: &mut K,
-) -> Result<(), Ending>
-    requires { F.opens files.old < 2 ^ 63 }
-    ensures { (meaning : Option Command) → meaning ≡ Some (Command.Play play.now) → CauseOf meaning
+    gate: &G,
+) -> Result<Worked, Ending>
+    requires opens { F.opens files.old < 2 ^ 63 }
+    requires few { HasFewCalls command.now }
+    ensures { (meaning : Option Command) → meaning ≡ Some command.now → CauseOf meaning
         (outside F.Files files.old K.Sink out.old)
         (outside F.Files files.new K.Sink out.new)
+        (settled_of result)
         (ending_of result) }
 {
-    let shape = shape_of(play)?;
-    let scripts = read_files(alloc, files, play.files.as_slice(), u64::from(play.size))?;
-    let tallies = play_plain(alloc, shape.blocks(), &scripts)?;
-    match write_report(out, &tallies) {
-        Ok(()) => Ok(()),
-        Err(_) => Err(Ending::Write),
-    }
-}
-
-/// The numbers of the pool that a play asks for: a process for each file, no data words.
-fn shape_of(play: &Play) -> Result<Shape, Ending>
-    ensures ok { IfOk result (IsShapeOf play.now) }
-    ensures refused { IfErr result (IsRefused play.now) }
-{
-    let processes = play.files.len().min(u32::MAX as usize) as u32;
-    match Shape::with_quantum(processes, play.batches, 0, play.quantum) {
-        Ok(shape) => Ok(shape),
-        Err(fault) => Err(Ending::Shape(fault)),
-    }
+    let shape = shape_of(command)?;
+    let scripts = scripts_of(alloc, command, files)?;
+    let played = play_on_pool(rt, alloc, &shape, &scripts, gate)?;
+    let ending = match write_report(out, &played.tallies) {
+        Ok(()) => Ending::Done,
+        Err(_) => Ending::Write,
+    };
+    Ok(Worked {
+        ending,
+        settled: Some(played.settled),
+    })
 }

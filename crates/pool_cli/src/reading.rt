@@ -1,7 +1,7 @@
 // The files of a play: each is opened, read and made a script, in turn.
 ghost use Rattle.std.specs.Prelude.{◌≡◌, ◌≢◌, ℕ, ◌+◌, ◌-◌, ◌^◌, ◌<◌, ◌≤◌, List, length, map, min, All, IfOk, IfErr, OnOk, Some, Err, string_bytes};
 ghost use Rattle.pool_io.specs.Counts.{HasRisen};
-ghost use Rattle.mtrace_reader.specs.Script.{IsWellFormed};
+ghost use Rattle.pool_runs.specs.Playable.{IsPlayable};
 ghost use Rattle.pool_cli.specs.Scripts.{FileAnswers, ReadsAll, StopsReading, ending_for};
 
 use crate::Ending;
@@ -31,7 +31,7 @@ fn read_file<F: Files>(
     ensures answer { (bytes : List ℕ) → F.told files.old name.now ≡ Some bytes →
         FileAnswers (F.reliable files.old) room size bytes result }
     ensures within { IfOk result (λ file. file.bytes ≤ room) }
-    ensures well_formed { IfOk result (λ file. IsWellFormed file.script) }
+    ensures playable { IfOk result (λ file. IsPlayable file.script) }
 
     ensures names { F.told files.new ≡ F.told files.old }
     ensures opens { F.opens files.new ≡ F.opens files.old + 1 }
@@ -74,7 +74,7 @@ pub(crate) fn read_files<F: Files>(
     requires { F.opens files.old + length names.now < 2 ^ 64 }
     ensures scripts { IfOk result
         (λ scripts. ReadsAll size (F.told files.old) (map string_bytes names.now) scripts.items) }
-    ensures well_formed { IfOk result (λ scripts. All IsWellFormed scripts.items) }
+    ensures playable { IfOk result (λ scripts. All IsPlayable scripts.items) }
     ensures opened { OnOk result (F.opens files.new ≡ F.opens files.old + length names.now) }
     ensures stopped { IfErr result (StopsReading F.Files files.old files.new (map string_bytes names.now)) }
 {

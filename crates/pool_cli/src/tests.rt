@@ -1,12 +1,13 @@
 ghost use Rattle.std.specs.Prelude.{◌≡◌, ◌^◌, ◌<◌, IfOk};
 
 use crate::run;
-use pool_io::{MemoryFiles, MemorySink, OpenGate};
+use pool_io::{Gate, MemoryFiles, MemorySink, OpenGate};
 use pool_model::NoMemory;
 use std::alloc::{AllocError, Global};
-use std::str;
+use std::sync::atomic::{AtomicBool, Ordering};
 use std::test::Fail;
 use std::thread::Threads;
+use std::{hint, str};
 
 const AMPLE: usize = 4096;
 
@@ -32,6 +33,7 @@ const COLUMNS: [&str; 10] = [
 #[derive(Debug, Drop)]
 struct Outcome {
     status: u8,
+    settled: bool,
     out: MemorySink,
     err: MemorySink,
 }
@@ -102,28 +104,22 @@ fn words_of(alloc: Global, line: &str) -> Result<Vec<String>, AllocError> {
 }
 
 // Runs the words of a line with these sinks.
-fn run_with<R: Threads + Sync>(
+fn run_with<R: Threads + Sync, G: Gate + Sync>(
     rt: &R,
     alloc: Global,
     line: &str,
     files: &mut MemoryFiles,
     mut out: MemorySink,
     mut err: MemorySink,
+    gate: &G,
 ) -> Result<Outcome, Fail>
     requires { files.old.opens < 2 ^ 63 }
 {
     let words = words_of(alloc, line)?;
-    let ended = run(
-        rt,
-        alloc,
-        words.as_slice(),
-        files,
-        &mut out,
-        &mut err,
-        &OpenGate,
-    );
+    let ended = run(rt, alloc, words.as_slice(), files, &mut out, &mut err, gate);
     Ok(Outcome {
         status: ended.status,
+        settled: ended.settled.is_some(),
         out,
         err,
     })
@@ -140,7 +136,7 @@ fn run_line<R: Threads + Sync>(
 {
     let out = failing_sink(alloc, AMPLE, AMPLE, NEVER)?;
     let err = failing_sink(alloc, AMPLE, AMPLE, NEVER)?;
-    run_with(rt, alloc, line, files, out, err)
+    run_with(rt, alloc, line, files, out, err, &OpenGate)
 }
 
 // The line of a report with these numbers, which are parted by spaces.
@@ -351,7 +347,7 @@ fn each_line_is_one_write(rt: HostRuntime) -> Result<(), Fail> {
 }
 
 // Words that open no file, the status, and the line on the error sink.
-static REFUSED: [(&str, u8, &str); 10] = [
+static REFUSED: [(&str, u8, &str); 13] = [
     ("pooltrace", 2, "pooltrace: words\n"),
     ("pooltrace plays f", 2, "pooltrace: words\n"),
     ("pooltrace play", 2, "pooltrace: words\n"),
@@ -374,6 +370,9 @@ static REFUSED: [(&str, u8, &str); 10] = [
         "pooltrace: shape 3\n",
     ),
     ("pooltrace play --quantum 3 f", 3, "pooltrace: shape 6\n"),
+    ("pooltrace drill f", 2, "pooltrace: words\n"),
+    ("pooltrace drill --calls 131073", 2, "pooltrace: words\n"),
+    ("pooltrace drill --processes 0", 3, "pooltrace: shape 1\n"),
 ];
 
 #[test]
@@ -381,8 +380,96 @@ fn faulty_words_and_refused_shapes_open_no_file(rt: HostRuntime) -> Result<(), F
     for (line, status, err) in REFUSED.iter() {
         let (outcome, opens) = answer(&rt, rt.alloc(), line, &[("f", FIRST_TRACE)])?;
         assert_eq!(rt; outcome.parts(), (*status, "", *err), "{line}");
-        assert_eq!(rt; opens, 0, "{line}");
+        assert_eq!(rt; (opens, outcome.settled), (0, false), "{line}");
     }
+    Ok(())
+}
+
+#[test]
+fn small_drills(rt: HostRuntime) -> Result<(), Fail> {
+    let alloc = rt.alloc();
+    let zeros = report(alloc, &[ZEROS], ZEROS)?;
+    for (calls, text) in [("2", FIRST_REPORT), ("0", zeros.as_str())] {
+        let line = format!(in alloc; "pooltrace drill --seed 1 --processes 1 --calls {calls}")?;
+        let (outcome, opens) = answer(&rt, alloc, line.as_str(), &[])?;
+        assert_eq!(rt; outcome.parts(), (0, text, ""), "{line}");
+        assert_eq!(rt; (opens, outcome.settled), (0, true), "{line}");
+    }
+    Ok(())
+}
+
+#[test]
+fn large_drill(rt: HostRuntime) -> Result<(), Fail> {
+    let line = "pooltrace drill --seed 1 --processes 4 --calls 100000";
+    let text = report(
+        rt.alloc(),
+        &[
+            "45125 45014 4935 0 0 0 0 243 111 0",
+            "45132 45129 4870 0 0 0 0 235 3 0",
+            "45156 45017 4922 0 0 0 0 242 139 0",
+            "45214 45042 4883 0 0 0 0 241 172 0",
+        ],
+        "180627 180202 19610 0 0 0 0 961 425 0",
+    )?;
+    let (outcome, _) = answer(&rt, rt.alloc(), line, &[])?;
+    assert_eq!(rt; outcome.parts(), (0, text.as_str(), ""));
+    Ok(())
+}
+
+// A gate at which each of two processes waits before its first call until the other is before its own.
+#[derive(Drop)]
+struct Meeting {
+    first: AtomicBool,
+    second: AtomicBool,
+    missed: AtomicBool,
+}
+
+// How often a process looks for the other one at most.
+const MOST_LOOKS: u32 = 100_000_000;
+
+impl Gate for Meeting {
+    fn pass(&self, process: u32, call: u64) {
+        if call > 0 {
+            return;
+        }
+        let (own, other) = if process == 0 {
+            (&self.first, &self.second)
+        } else {
+            (&self.second, &self.first)
+        };
+        own.store(true, Ordering::SeqCst);
+        for _look in 0..MOST_LOOKS {
+            if other.load(Ordering::SeqCst) {
+                return;
+            }
+            hint::spin_loop();
+        }
+        self.missed.store(true, Ordering::SeqCst);
+    }
+}
+
+#[test]
+fn two_players_meet_before_their_first_calls(rt: HostRuntime) -> Result<(), Fail> {
+    let alloc = rt.alloc();
+    let mut files = files_of(alloc, &[("f", RESIZE), ("g", RESIZE)])?;
+    let out = failing_sink(alloc, AMPLE, AMPLE, NEVER)?;
+    let err = failing_sink(alloc, AMPLE, AMPLE, NEVER)?;
+    let gate = Meeting {
+        first: AtomicBool::new(false),
+        second: AtomicBool::new(false),
+        missed: AtomicBool::new(false),
+    };
+    let outcome = run_with(
+        &rt,
+        alloc,
+        "pooltrace play f g",
+        &mut files,
+        out,
+        err,
+        &gate,
+    )?;
+    assert_eq!(rt; outcome.status, 0);
+    assert!(rt; !gate.missed.load(Ordering::SeqCst));
     Ok(())
 }
 
@@ -472,12 +559,21 @@ fn one_failing_write(rt: HostRuntime) -> Result<(), Fail> {
         let mut files = files_of(alloc, &[("e", EMPTY_TRACE)])?;
         let sink = failing_sink(alloc, *room, *most, *failing)?;
         let err = failing_sink(alloc, AMPLE, AMPLE, NEVER)?;
-        let outcome = run_with(&rt, alloc, "pooltrace play e", &mut files, sink, err)?;
+        let outcome = run_with(
+            &rt,
+            alloc,
+            "pooltrace play e",
+            &mut files,
+            sink,
+            err,
+            &OpenGate,
+        )?;
         assert_eq!(rt;
             outcome.parts(),
             (7, *out, "pooltrace: write\n"),
             "{room} {most} {failing}"
         );
+        assert!(rt; outcome.settled, "{room} {most} {failing}");
     }
     Ok(())
 }
@@ -496,7 +592,15 @@ fn a_failing_error_sink_changes_no_status(rt: HostRuntime) -> Result<(), Fail> {
         let mut files = failing_files(alloc, &[("e", EMPTY_TRACE)], 1, 3)?;
         let out = failing_sink(alloc, AMPLE, AMPLE, NEVER)?;
         let sink = failing_sink(alloc, *room, *most, *failing)?;
-        let outcome = run_with(&rt, alloc, "pooltrace play e", &mut files, out, sink)?;
+        let outcome = run_with(
+            &rt,
+            alloc,
+            "pooltrace play e",
+            &mut files,
+            out,
+            sink,
+            &OpenGate,
+        )?;
         assert_eq!(rt; outcome.parts(), (4, "", *err), "{room} {most} {failing}");
     }
     Ok(())

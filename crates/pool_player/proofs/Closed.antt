@@ -13,7 +13,8 @@ use Rattle.pool_io.specs.Gates.{ToldBefore}
 use Rattle.block_pool.specs.Closing.{AreAllPasses, AreInOrder, FitsPass, IsClosed, Settlement}
 use Rattle.block_pool.specs.Passing.{Passed, Pooled}
 use Rattle.block_pool.proofs.Ordered.{ordered_are_all}
-use Rattle.pool_player.specs.All.{PlayedAll, PlayedIn}
+use Rattle.pool_player.specs.All.{PlayedAll, PlayedIn, TookSteps}
+use Rattle.pool_player.specs.Calling.{Grows}
 use Rattle.pool_player.specs.Together.{PlayedOnce, PlayedTogether}
 use Rattle.pool_player.proofs.Growing.{begins_le}
 
@@ -44,10 +45,20 @@ pub all_passes_again : (told : ℕ → ℕ → Type 0) (pool : Pooled) (before a
 all_passes_again told pool before after scripts tallies ordered same t =
     ordered_are_all pool after (still_in_order told pool before after scripts tallies ordered same t)
 
+-- the calls that a process made were short
+took_steps : (settled : Settlement) (k : ℕ) (entries : List Entry) (old new : Passed) → new.number ≡ k → settled.sizes ≡ old.sizes
+    → FitsPass settled new → Grows entries old new → TookSteps settled k old.moves (length entries)
+took_steps settled k entries old new number sizes fits grown = record {
+  moves = new.moves;
+  made = ap (slice_get settled.moves) (sym number) ∙ fits.moves;
+  some = grown.moved;
+  few = rw sizes grown.few;
+}
+
 -- what one process played stands in the history
 played_in : (told : ℕ → ℕ → Type 0) (settled : Settlement) (k : ℕ) (old new : Passed) (script : Script) (tally : Tally) → old.number ≡ k
-    → FitsPass settled new → PlayedOnce told script old new tally → PlayedIn told settled.history k old script tally
-played_in told settled k old new script tally number fits once =
+    → settled.sizes ≡ old.sizes → FitsPass settled new → PlayedOnce told script old new tally → PlayedIn told settled k old script tally
+played_in told settled k old new script tally number sizes fits once =
     let new_number : new.number ≡ k = once.grown.same.number ∙ number in
     let less : length old.seen ≤ length new.seen = begins_le old.seen new.seen once.grown.seen in
     record {
@@ -56,6 +67,7 @@ played_in told settled k old new script tally number fits once =
       begins = sym (take-take (length old.seen) (length new.seen) settled.history less) ∙ ap (take (length old.seen)) fits.begins
           ∙ once.grown.seen;
       tallied = subst (λ (i : ℕ). IsTallied i script once.entries tally) number once.tallied;
+      steps = took_steps settled k once.entries old new new_number sizes fits once.grown;
       told_all = subst (λ (i : ℕ). ToldBefore told i (length once.entries)) number once.told_all;
     }
 
@@ -73,5 +85,6 @@ played_all_in told pool before after scripts tallies settled ordered same t clos
       let once = t.each k old new.0 script tally at_old new.1 at_script at_tally in
       let here : get_or after k new.0 ≡ new.0 = get_or_from_slice_get after k new.0 new.0 new.1 in
       let fits : FitsPass settled new.0 = subst (FitsPass settled) here (closed.each k new.0 (omega (arith, within, t.passes))) in
-      played_in told settled k old new.0 script tally (ordered.each k old at_old).1 fits once;
+      let of_pool = ordered.each k old at_old in
+      played_in told settled k old new.0 script tally of_pool.1 (closed.shape ∙ sym of_pool.0.sizes) fits once;
 }

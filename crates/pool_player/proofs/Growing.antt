@@ -22,7 +22,7 @@ pub begins_le : (first second : List Entry) → take (length first) second ≡ f
 begins_le first second begins = omega (arith, length-take (length first) second, ap length begins)
 
 -- what begins with a list begins with what that one begins with
-begins_so : (first second third past entries : List Entry) → take (length first) second ≡ first → take (length second) past ≡ second
+pub begins_so : (first second third past entries : List Entry) → take (length first) second ≡ first → take (length second) past ≡ second
     → third ≡ past ++ entries → take (length first) third ≡ first
 begins_so first second third past entries one two ends =
     let less : length first ≤ length second = begins_le first second one in

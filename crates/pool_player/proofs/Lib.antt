@@ -1,4 +1,3 @@
-pub mod Fresh
 pub mod Calling
 pub mod Growing
 pub mod Slots

@@ -30,9 +30,7 @@ fn allocate_told<G: Gate>(pool: &Pool, pass: &mut Pass, gate: &G, call: u64) -> 
     let _ = gate;
     let _ = call;
     let _quantum = pool.shape().quantum();
-    let answer = pool.allocate(pass, &mut Steps::new(Quiet::new()));
-    pass.stands_well();
-    answer
+    pool.allocate(pass, &mut Steps::new(Quiet::new()))
 }
 
 /// A free, this call of its process. The gate was told of it.

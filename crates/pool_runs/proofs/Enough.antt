@@ -1,11 +1,10 @@
 -- With enough blocks nothing is refused.
-use Rattle.std.proofs.Common.{◌≡◌, ℕ, ◌+◌, ◌-◌, ◌<◌, ◌≤◌, ◌==◌, zero, suc, Bool, true, false, cond, max, List, [], ◌∷◌, ◌++◌, length, take, drop, map, filter, replicate, get_or, refl, sym, ap, ◌∙◌, subst, inl, inr, arith, append_assoc, length-append, Some}
+use Rattle.std.proofs.Common.{◌≡◌, ℕ, ◌+◌, ◌<◌, ◌≤◌, ◌==◌, zero, suc, Bool, true, false, cond, max, List, [], ◌∷◌, ◌++◌, length, take, drop, map, filter, replicate, get_or, refl, sym, ap, ◌∙◌, subst, inl, inr, arith, append_assoc, Some}
 use Rattle.std.specs.Prelude.{All, Option, fold, sum_by, slice_get, IfSome}
-use Rattle.std.specs.List.{Contains, count_by, flat_map, range_with_len}
+use Rattle.std.specs.List.{Contains, flat_map, range_with_len}
 use Rattle.std.proofs.Math.Nat.{le-max_left, le-max_right}
-use Rattle.std.proofs.lemmas.Bool.{cases_lt}
 use Rattle.std.proofs.lemmas.Option.{get_or_from_slice_get, slice_get-get_or, slice_get_within}
-use Rattle.std.proofs.lemmas.List.{take_more, take-append-drop, length-replicate, take_all, length-take-le}
+use Rattle.std.proofs.lemmas.List.{take_more, take-append-drop, length-replicate, take_all}
 use Rattle.std.proofs.lemmas.List.Sums.{sum_by-cons}
 use Rattle.std.proofs.lemmas.List.FromFn.{get_or-map-range_with_len, length-map-range_with_len}
 use Rattle.std.proofs.lemmas.List.Elements.{filter-append, Contains-append_left, Contains-append_right, Contains-append_cases}
@@ -13,9 +12,9 @@ use Rattle.process_sums.specs.Sums.{total}
 use Rattle.process_sums.proofs.Sums.{total_more, total_parts}
 use Rattle.pool_model.specs.declared.entry.Entry.{Entry}
 use Rattle.pool_model.specs.declared.entry.Entry.TheVariants.{Dry}
-use Rattle.pool_model.specs.Limits.{Limits, greatest_slack}
-use Rattle.pool_model.specs.History.{own, held, grip, process_of, unheld, slack}
-use Rattle.pool_model.specs.Legal.{IsLegal, MayFollow, HadFew, EachEntry}
+use Rattle.pool_model.specs.Limits.{Limits}
+use Rattle.pool_model.specs.History.{own, held, grip, process_of}
+use Rattle.pool_model.specs.Legal.{IsLegal, MayFollow, HadFew}
 use Rattle.pool_model.proofs.Histories.{legal_take, slack_at_most}
 use Rattle.pool_model.proofs.Places.{slice_get_as_long}
 use Rattle.history_invariant.proofs.Shared.{legal_shared}
@@ -23,9 +22,9 @@ use Rattle.mtrace_reader.specs.declared.steps.Step.{Step}
 use Rattle.mtrace_reader.specs.declared.steps.Script.{Script}
 use Rattle.mtrace_reader.specs.Script.{IsWellFormed}
 use Rattle.trace_player.specs.declared.tally.Tally.{Tally}
-use Rattle.trace_player.specs.Tally.{greatest, holding, is_refused, no_refusals, peak_of, tally_of}
+use Rattle.trace_player.specs.Tally.{holding, is_refused, no_refusals, peak_of, tally_of}
 use Rattle.trace_player.specs.Fit.{Fits, IsTallied, calls_of}
-use Rattle.trace_player.specs.Plain.{peaks_without_refusals, tallies_without_refusals}
+use Rattle.trace_player.specs.Plain.{peaks_without_refusals}
 use Rattle.pool_runs.specs.Enough.{AreTallied, EnoughBlocksRefuseNothing, HasEnough}
 use Rattle.pool_runs.proofs.Unrefused.{NoneIsDry, calls_without_refusals, counts_steps}
 

@@ -1,2 +1,4 @@
-mod Unrefused
 mod Enough
+mod Playable
+mod Settling
+mod Unrefused

@@ -1,1 +1,4 @@
+pub mod Drills
 pub mod Enough
+pub mod Playable
+pub mod Settled

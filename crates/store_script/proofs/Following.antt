@@ -6,7 +6,7 @@ use Rattle.std.specs.Ordering.{nat_cmp}
 use Rattle.std.specs.BTreeMap.{get}
 use Rattle.std.proofs.lemmas.Bool.Decides.{nat_tests}
 use Rattle.std.proofs.lemmas.Map.Entries.{lookup-filter-keys}
-use Rattle.mtrace_reader.proofs.LivePairs.{same_key, cond_not}
+use Rattle.line_text.proofs.Choices.{same_key, cond_not}
 use Rattle.store_script.specs.declared.quad.Quad.{Quad}
 use Rattle.store_script.specs.declared.answered.Answered.TheVariants.{Done}
 use Rattle.store_script.specs.declared.replies.PlainStore.{PlainStore}
@@ -14,7 +14,7 @@ use Rattle.store_script.specs.Replies.{Kept, Walk, kept, present_but, after_set,
 use Rattle.store_script.specs.PlainStore.{IsAfter}
 
 -- without a key each other one keeps what it kept, and it keeps nothing
-kept-present_but : (walk : Walk) (key q : ℕ) → lookup (eqb q) (present_but walk key) ≡ cond (eqb key q) None (kept walk q)
+pub kept-present_but : (walk : Walk) (key q : ℕ) → lookup (eqb q) (present_but walk key) ≡ cond (eqb key q) None (kept walk q)
 kept-present_but walk key q =
     lookup-filter-keys (eqb q) (λ k. not (eqb k key)) (not (eqb key q)) (same_key key q) walk.present
     ∙ cond_not (eqb key q) (kept walk q) None
@@ -30,7 +30,7 @@ kept_some : (o : Option Kept) (value : Quad) → Some value ≡ option_map (λ k
 kept_some None value is = cc
 kept_some (Some k) value is = (k, refl, cc)
 
-eqb-sym : (x y : ℕ) → eqb x y ≡ eqb y x
+pub eqb-sym : (x y : ℕ) → eqb x y ≡ eqb y x
 eqb-sym x y = grind (arith, nat_tests)
 
 module _ (before after : PlainStore) (walk : Walk) (key : ℕ) (value : Quad) (at : IsAfter before walk)
@@ -62,7 +62,8 @@ module _ (before after : PlainStore) (walk : Walk) (key : ℕ) (value : Quad) (a
       let same_value : (q : ℕ) (b : Bool) → eqb key q ≡ b → cond b (Some (changed value index number)) (get nat_cmp before.present q)
       ≡ option_map (λ k. k.value) (cond (eqb q key) (Some next) (lookup (eqb q) (present_but walk key))) = λ q b is.
       rw (eqb-sym q key, is, kept-present_but walk key q, is)
-      (elim b as (λ b. cond b (Some (changed value index number)) (get nat_cmp before.present q) ≡ option_map (λ k. k.value) (cond b (Some next) (cond b None (kept walk q)))) [
+      (elim b as (λ b. cond b (Some (changed value index number)) (get nat_cmp before.present q) ≡ option_map (λ k. k.value)
+      (cond b (Some next) (cond b None (kept walk q)))) [
         | true ↦ ap (λ v. Some (changed v index number)) (sym here.2)
         | false ↦ at.values q
       ])

@@ -1,9 +1,7 @@
-pub mod Digits
 pub mod Following
 pub mod Lines
 pub mod Meanings
 pub mod Pages
 pub mod Places
 pub mod Readings
-pub mod Taking
 pub mod Writing

@@ -4,16 +4,17 @@ use Rattle.std.specs.Prelude.{nat_lt}
 use Rattle.std.specs.Str.{bytes_eq}
 use Rattle.std.proofs.lemmas.Bool.Decides.{Decides-and, Decides-ltb}
 use Rattle.std.proofs.lemmas.Slice.Eq.{bytes_eq-Decides}
-use Rattle.mtrace_reader.specs.Words.{words}
-use Rattle.mtrace_reader.proofs.Meanings.{chosen, some_is}
+use Rattle.line_text.specs.Words.{words}
+use Rattle.line_text.specs.Meanings.{meaning_said}
+use Rattle.line_text.proofs.Choices.{chosen, some_is}
 use Rattle.store_script.specs.Number.{number_of}
 use Rattle.store_script.specs.declared.quad.Quad.{Quad}
-use Rattle.store_script.specs.declared.line.Meaning.{Meaning}
-use Rattle.store_script.specs.declared.line.Meaning.TheVariants.{Skipped, Says, Bad}
+use Rattle.line_text.specs.declared.meaning.Meaning.{Meaning}
+use Rattle.line_text.specs.declared.meaning.Meaning.TheVariants.{Skipped, Says, Bad}
 use Rattle.store_script.specs.declared.line.Request.{Request}
 use Rattle.store_script.specs.declared.line.Request.TheVariants.{Put, Get, Set, Del}
 use Rattle.store_script.specs.Line.{AreNumbers, Spells, Means, with_number, numbers_of, said_of_one, said_of_three, said_of_five, said_of}
-use Rattle.store_script.specs.Line.{said, meaning_said, meaning_of_words, meaning_of}
+use Rattle.store_script.specs.Line.{said, meaning_of_words, meaning_of}
 
 -- numbers that words spell are computed
 numbers_complete : (ws : List (List ℕ)) (ns : List ℕ) → AreNumbers ws ns → numbers_of ws ≡ Some ns
@@ -47,11 +48,14 @@ SaysOf name numbers (Del key) = (name ≡ codes "del") × (numbers ≡ key ∷ [
 
 one_sound : (name : List ℕ) (key : ℕ) (request : Request) → said_of_one name key ≡ Some request → SaysOf name (key ∷ []) request
 one_sound name key request is =
-    elim (chosen (bytes_eq name (codes "get")) (Some (Get key)) (cond (bytes_eq name (codes "del")) (Some (Del key)) None) (Some request) is) as (λ _. SaysOf name (key ∷ []) request) [
+    elim (chosen (bytes_eq name (codes "get")) (Some (Get key)) (cond (bytes_eq name (codes "del")) (Some (Del key)) None) (Some request)
+    is) as (λ _. SaysOf name (key ∷ []) request) [
       | inl get ↦ subst (SaysOf name (key ∷ [])) (some_is (Get key) request get.1) ((bytes_eq-Decides name (codes "get")).0 get.0, refl)
       | inr other ↦
-          elim (chosen (bytes_eq name (codes "del")) (Some (Del key)) None (Some request) other.1) as (λ _. SaysOf name (key ∷ []) request) [
-            | inl del ↦ subst (SaysOf name (key ∷ [])) (some_is (Del key) request del.1) ((bytes_eq-Decides name (codes "del")).0 del.0, refl)
+          elim (chosen (bytes_eq name (codes "del")) (Some (Del key)) None (Some request) other.1)
+          as (λ _. SaysOf name (key ∷ []) request) [
+            | inl del ↦ subst (SaysOf name (key ∷ [])) (some_is (Del key) request del.1)
+                ((bytes_eq-Decides name (codes "del")).0 del.0, refl)
             | inr neither ↦ absurd (cc (neither.1))
           ]
     ]
@@ -63,7 +67,8 @@ Decides-set name index =
 three_sound : (name : List ℕ) (key index value : ℕ) (request : Request) → said_of_three name key index value ≡ Some request
     → SaysOf name (key ∷ index ∷ value ∷ []) request
 three_sound name key index value request is =
-    elim (chosen (bytes_eq name (codes "set") && nat_lt index 4) (Some (Set key index value)) None (Some request) is) as (λ _. SaysOf name (key ∷ index ∷ value ∷ []) request) [
+    elim (chosen (bytes_eq name (codes "set") && nat_lt index 4) (Some (Set key index value)) None (Some request) is)
+    as (λ _. SaysOf name (key ∷ index ∷ value ∷ []) request) [
       | inl set ↦
           let both = (Decides-set name index).0 set.0 in
           subst (SaysOf name (key ∷ index ∷ value ∷ [])) (some_is (Set key index value) request set.1) (both.0, refl, both.1)
@@ -73,9 +78,11 @@ three_sound name key index value request is =
 five_sound : (name : List ℕ) (key : ℕ) (value : Quad) (request : Request) → said_of_five name key value ≡ Some request
     → SaysOf name (key ∷ value.a ∷ value.b ∷ value.c ∷ value.d ∷ []) request
 five_sound name key value request is =
-    elim (chosen (bytes_eq name (codes "put")) (Some (Put key value)) None (Some request) is) as (λ _. SaysOf name (key ∷ value.a ∷ value.b ∷ value.c ∷ value.d ∷ []) request) [
+    elim (chosen (bytes_eq name (codes "put")) (Some (Put key value)) None (Some request) is)
+    as (λ _. SaysOf name (key ∷ value.a ∷ value.b ∷ value.c ∷ value.d ∷ []) request) [
       | inl put ↦
-          subst (SaysOf name (key ∷ value.a ∷ value.b ∷ value.c ∷ value.d ∷ [])) (some_is (Put key value) request put.1) ((bytes_eq-Decides name (codes "put")).0 put.0, refl)
+          subst (SaysOf name (key ∷ value.a ∷ value.b ∷ value.c ∷ value.d ∷ [])) (some_is (Put key value) request put.1)
+          ((bytes_eq-Decides name (codes "put")).0 put.0, refl)
       | inr other ↦ absurd (cc (other.1))
     ]
 
@@ -116,7 +123,7 @@ said_complete name ws (Set key index value) spells =
 said_complete name ws (Del key) spells = rw (numbers_complete ws _ spells.1, spells.0) refl
 
 -- the meaning of words
-abbrev WordsMean : List (List ℕ) → Meaning → Type 0
+abbrev WordsMean : List (List ℕ) → Meaning Request → Type 0
 WordsMean ws Skipped = ws ≡ []
 WordsMean ws (Says request) = Spells ws request
 WordsMean ws Bad = ¬ (ws ≡ []) × ((request : Request) → ¬ (Spells ws request))
@@ -137,7 +144,7 @@ unsaid : (name : List ℕ) (ws : List (List ℕ)) (o : Option Request) → said 
 unsaid name ws None is no_request = refl
 unsaid name ws (Some request) is no_request = absurd (no_request request (said_sound name ws request is))
 
-meant_is_computed : (ws : List (List ℕ)) (meaning : Meaning) → WordsMean ws meaning → meaning_of_words ws ≡ meaning
+meant_is_computed : (ws : List (List ℕ)) (meaning : Meaning Request) → WordsMean ws meaning → meaning_of_words ws ≡ meaning
 meant_is_computed [] Skipped means = refl
 meant_is_computed [] (Says request) means = absurd means
 meant_is_computed [] Bad means = absurd (means.0 refl)
@@ -145,17 +152,17 @@ meant_is_computed (name ∷ ws) Skipped means = cc
 meant_is_computed (name ∷ ws) (Says request) means = ap meaning_said (said_complete name ws request means)
 meant_is_computed (name ∷ ws) Bad means = unsaid name ws (said name (numbers_of ws)) refl means.1
 
-means_by_words : (line : List ℕ) (meaning : Meaning) → WordsMean (words line) meaning → Means line meaning
+means_by_words : (line : List ℕ) (meaning : Meaning Request) → WordsMean (words line) meaning → Means line meaning
 means_by_words line Skipped means = means
 means_by_words line (Says request) means = means
 means_by_words line Bad means = means
 
-words_by_means : (line : List ℕ) (meaning : Meaning) → Means line meaning → WordsMean (words line) meaning
+words_by_means : (line : List ℕ) (meaning : Meaning Request) → Means line meaning → WordsMean (words line) meaning
 words_by_means line Skipped means = means
 words_by_means line (Says request) means = means
 words_by_means line Bad means = means
 
-pub each_line_means_one_thing : (line : List ℕ) (meaning : Meaning)
+pub each_line_means_one_thing : (line : List ℕ) (meaning : Meaning Request)
     → (Means line meaning → meaning_of line ≡ meaning) × (meaning_of line ≡ meaning → Means line meaning)
 each_line_means_one_thing line meaning = (
   λ means. meant_is_computed (words line) meaning (words_by_means line meaning means),

@@ -4,7 +4,7 @@ use Rattle.std.proofs.Common.{arith}
 use Rattle.std.proofs.lemmas.Bool.Decides.{nat_tests}
 use Rattle.std.proofs.Common.{◌<◌, suc, get_or, ap}
 use Rattle.std.proofs.lemmas.Bool.{eqb-true}
-use Rattle.mtrace_reader.proofs.Meanings.{some_is}
+use Rattle.line_text.proofs.Choices.{some_is}
 use Rattle.std.specs.Ordering.{nat_cmp}
 use Rattle.std.specs.BTreeMap.{get, btree_map_len}
 use Rattle.std.proofs.lemmas.List.{length-append}
@@ -16,7 +16,8 @@ use Rattle.store_script.specs.declared.slots.SlotTable.{SlotTable}
 not_first : (key first : ℕ) (others : List ℕ) → place_of key (first ∷ others) ≡ None
     → (eqb first key ≡ false) × (place_of key others ≡ None)
 not_first key first others h =
-    elim (eqb first key) as (λ b. cond b (Some 0) (option_map (λ place. place + 1) (place_of key others)) ≡ None → (b ≡ false) × (place_of key others ≡ None)) [
+    elim (eqb first key)
+    as (λ b. cond b (Some 0) (option_map (λ place. place + 1) (place_of key others)) ≡ None → (b ≡ false) × (place_of key others ≡ None)) [
       | true ↦ λ e. absurd (cc)
       | false ↦ elim (place_of key others) as (λ o. option_map (λ place. place + 1) o ≡ None → (false ≡ false) × (o ≡ None)) [
         | None ↦ λ e. (refl, refl)
@@ -40,7 +41,8 @@ first_is key place first others same is =
     let zero_is : 0 ≡ place = cc in
     (omega arith, ap (λ n. get_or (first ∷ others) n 0) (sym zero_is) ∙ same)
 
-later_is : (key place before first : ℕ) (others : List ℕ) → (before < length others) × (get_or others before 0 ≡ key) → Some (before + 1) ≡ Some place
+later_is : (key place before first : ℕ) (others : List ℕ) → (before < length others) × (get_or others before 0 ≡ key)
+    → Some (before + 1) ≡ Some place
     → (place < length (first ∷ others)) × (get_or (first ∷ others) place 0 ≡ key)
 later_is key place before first others at is =
     let next : suc before ≡ place = omega (arith, some_is (before + 1) place is) in

@@ -23,7 +23,8 @@ place_stays key q slot keys at =
       | None ↦ λ fresh.
           place_of-push key q keys fresh
           ∙ elim (eqb key q) as (λ b. eqb key q ≡ b → cond b (Some (length keys)) (place_of q keys) ≡ Some slot) [
-            | true ↦ λ same. let none_at : place_of q keys ≡ None = subst (λ k. place_of k keys ≡ None) (eqb-true key q same) fresh in absurd (cc)
+            | true ↦ λ same. let none_at : place_of q keys ≡ None = subst (λ k. place_of k keys ≡ None) (eqb-true key q same) fresh in
+                absurd (cc)
             | false ↦ λ _. at
           ]
           refl
@@ -68,7 +69,8 @@ HasSlotIn-push commands command each next =
     let keys = keys_of commands in
     let more = with_key (keys_of commands) (key_of command) in
     All-push (HasSlotIn more) commands command
-    (All-weaker (HasSlotIn (keys_of commands)) (HasSlotIn more) (λ c at. place_stays (key_of command) (key_of c) (slot_of c) (keys_of commands) at) commands each)
+    (All-weaker (HasSlotIn (keys_of commands)) (HasSlotIn more)
+    (λ c at. place_stays (key_of command) (key_of c) (slot_of c) (keys_of commands) at) commands each)
     next
 
 -- a writer that keeps a request
@@ -82,7 +84,8 @@ keeps before after request slot next pushed index requests at =
     let grown : keys_of after.commands.items ≡ with_key (keys_of before.commands.items) (key_asked request) =
     ap keys_of pushed ∙ keys_of-push before.commands.items (command_of request slot) ∙ ap (with_key (keys_of before.commands.items)) key
     in
-    let placed : place_of (key_of (command_of request slot)) (with_key (keys_of before.commands.items) (key_of (command_of request slot))) ≡ Some (slot_of (command_of request slot)) =
+    let placed : place_of (key_of (command_of request slot))
+    (with_key (keys_of before.commands.items) (key_of (command_of request slot))) ≡ Some (slot_of (command_of request slot)) =
     ap (λ k. place_of k (with_key (keys_of before.commands.items) k)) key ∙ named.1 ∙ ap Some (sym (slot_of-command request slot))
     in
     let each = HasSlotIn-push before.commands.items (command_of request slot) at.each placed in
@@ -95,5 +98,6 @@ keeps before after request slot next pushed index requests at =
           let P : List Command → Type 0 = λ commands. All (HasSlotIn (keys_of commands)) commands in
           let Q : List ℕ → Type 0 = λ keys. All (HasSlotIn keys) (before.commands.items ++ command_of request slot ∷ []) in
           subst P (sym pushed) (subst Q (sym (keys_of-push before.commands.items (command_of request slot))) each);
-      indices = subst (All HasIndex) (sym pushed) (All-push HasIndex before.commands.items (command_of request slot) at.indices (HasIndex-command request slot index));
+      indices = subst (All HasIndex) (sym pushed)
+          (All-push HasIndex before.commands.items (command_of request slot) at.indices (HasIndex-command request slot index));
     }

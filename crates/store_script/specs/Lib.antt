@@ -1,4 +1,3 @@
-pub mod Fault
 pub mod Fit
 pub mod Line
 pub mod Number

@@ -1,11 +1,12 @@
 -- What a line of a store script means.
 use Rattle.std.specs.Prelude.{◌≡◌, ℕ, ◌<◌, ◌&&◌, nat_lt, List, [], ◌∷◌, Option, Some, None, if◌then◌else◌, codes}
 use Rattle.std.specs.Str.{bytes_eq}
-use Rattle.mtrace_reader.specs.Words.{words}
+use Rattle.line_text.specs.Words.{words}
+use Rattle.line_text.specs.Meanings.{meaning_said}
 use Rattle.store_script.specs.Number.{number_of}
 use Rattle.store_script.specs.declared.quad.Quad.{Quad}
-use Rattle.store_script.specs.declared.line.Meaning.{Meaning}
-use Rattle.store_script.specs.declared.line.Meaning.TheVariants.{Skipped, Says, Bad}
+use Rattle.line_text.specs.declared.meaning.Meaning.{Meaning}
+use Rattle.line_text.specs.declared.meaning.Meaning.TheVariants.{Skipped, Says, Bad}
 use Rattle.store_script.specs.declared.line.Request.{Request}
 use Rattle.store_script.specs.declared.line.Request.TheVariants.{Put, Get, Set, Del}
 
@@ -24,7 +25,7 @@ Spells (name ∷ words) (Set key index value) = (name ≡ codes "set") × AreNum
 Spells (name ∷ words) (Del key) = (name ≡ codes "del") × AreNumbers words (key ∷ [])
 
 -- what a line means: it has no words and is skipped, it says a request, or it is bad, which is any other line
-abbrev pub Means : List ℕ → Meaning → Type 0
+abbrev pub Means : List ℕ → Meaning Request → Type 0
 Means line Skipped = words line ≡ []
 Means line (Says request) = Spells (words line) request
 Means line Bad = ¬ (words line ≡ []) × ((request : Request) → ¬ (Spells (words line) request))
@@ -65,16 +66,11 @@ abbrev pub said : List ℕ → Option (List ℕ) → Option Request
 said name None = None
 said name (Some numbers) = said_of name numbers
 
--- what a line means whose words say a request or nothing
-abbrev pub meaning_said : Option Request → Meaning
-meaning_said None = Bad
-meaning_said (Some request) = Says request
-
 -- the meaning of words, computed
-abbrev pub meaning_of_words : List (List ℕ) → Meaning
+abbrev pub meaning_of_words : List (List ℕ) → Meaning Request
 meaning_of_words [] = Skipped
 meaning_of_words (name ∷ words) = meaning_said (said name (numbers_of words))
 
 -- the meaning of a line
-abbrev pub meaning_of : List ℕ → Meaning
+abbrev pub meaning_of : List ℕ → Meaning Request
 meaning_of line = meaning_of_words (words line)

@@ -1,12 +1,13 @@
 -- What is known of a script that is being written.
 use Rattle.std.specs.Prelude.{◌≡◌, ℕ, true, List, [], ◌∷◌, ◌++◌, map, All}
 use Rattle.store_script.specs.Script.{request_of, keys_of, HasSlotIn, HasIndex, HasIndexOf}
-use Rattle.store_script.specs.Reading.{meanings, requested, first_bad, is_bad, bad_line}
+use Rattle.line_text.specs.Meanings.{said, first_bad, is_bad}
+use Rattle.store_script.specs.Reading.{meanings, bad_line}
 use Rattle.store_script.specs.Slots.{Names}
-use Rattle.store_script.specs.declared.line.Meaning.{Meaning}
+use Rattle.line_text.specs.declared.meaning.Meaning.{Meaning}
 use Rattle.store_script.specs.declared.line.Request.{Request}
-use Rattle.store_script.specs.declared.fault.ScriptFault.{ScriptFault}
-use Rattle.store_script.specs.declared.fault.ScriptFault.TheVariants.{ReadFault, TooLong, BadLine, NoMemory}
+use Rattle.line_text.specs.declared.fault.TextFault.{TextFault}
+use Rattle.line_text.specs.declared.fault.TextFault.TheVariants.{ReadFault, TooLong, BadLine, NoMemory}
 use Rattle.store_script.specs.declared.reading.ScriptWriter.{ScriptWriter}
 
 -- the commands are these requests, each with the slot of its key, and the table has the keys
@@ -21,11 +22,11 @@ abbrev pub Keeps : ScriptWriter → ScriptWriter → Request → Type 0
 Keeps before after request = HasIndexOf request → (requests : List Request) → IsAt before requests → IsAt after (requests ++ request ∷ [])
 
 -- a writer keeps what a line of this meaning asks for
-abbrev pub ReadsLine : ScriptWriter → ScriptWriter → Meaning → Type 0
-ReadsLine before after meaning = (requests : List Request) → IsAt before requests → IsAt after (requests ++ requested (meaning ∷ []))
+abbrev pub ReadsLine : ScriptWriter → ScriptWriter → Meaning Request → Type 0
+ReadsLine before after meaning = (requests : List Request) → IsAt before requests → IsAt after (requests ++ said (meaning ∷ []))
 
 -- where a line of this number and this meaning stops the reading
-abbrev pub StopsAt : ℕ → Meaning → ScriptFault → Type 0
+abbrev pub StopsAt : ℕ → Meaning Request → TextFault → Type 0
 StopsAt number meaning (BadLine line) = (line ≡ number) × (is_bad meaning ≡ true)
 StopsAt number meaning NoMemory = Unit {0}
 StopsAt number meaning ReadFault = ⊥
@@ -35,5 +36,5 @@ StopsAt number meaning TooLong = ⊥
 pub record HasRead (bytes rest : List ℕ) (number : ℕ) (writer : ScriptWriter) : Type 0 where
   pub so_far : List Request
   pub at : IsAt writer so_far
-  pub others : so_far ++ requested (meanings rest) ≡ requested (meanings bytes)
+  pub others : so_far ++ said (meanings rest) ≡ said (meanings bytes)
   pub good : first_bad number (meanings rest) ≡ bad_line bytes

@@ -1,8 +1,7 @@
 // What a store script says: its commands, each with the slot of its key.
-ghost use Rattle.std.specs.Prelude.{◌≡◌};
 
 use crate::Quad;
-use std::marker::Model;
+use line_text::Listed;
 
 /// What a player does to the key of a slot. A slot is a place for one record, numbered from 0 in the order in which the
 /// keys first occur.
@@ -34,42 +33,7 @@ pub enum Command {
 }
 
 /// Commands in the order of their lines. Contracts see the list.
-#[derive(Debug, Drop)]
-pub struct CommandList {
-    commands: Vec<Command>,
-}
-
-impl Model for CommandList {
-    ghost use Rattle.std.specs.Prelude.{List};
-    ghost use Rattle.store_script.specs.declared.command.Command.{Command};
-
-    ghost Value = { List Command };
-
-    ghost view = { λ list. list.commands.items };
-}
-
-impl CommandList {
-    /// The commands of a vector. Takes no memory.
-    pub fn new(commands: Vec<Command>) -> CommandList
-        ensures { result ≡ commands.items }
-    {
-        CommandList { commands }
-    }
-
-    /// The commands as a slice.
-    pub fn as_slice(&self) -> &[Command]
-        ensures { result.now ≡ self.now }
-    {
-        self.commands.as_slice()
-    }
-
-    /// Gives the vector back. Takes no memory.
-    pub fn into_vec(self) -> Vec<Command>
-        ensures { result.items ≡ self }
-    {
-        self.commands
-    }
-}
+pub type CommandList = Listed<Command>;
 
 /// What a store script says as a whole.
 #[derive(Debug, Drop)]

@@ -2,13 +2,14 @@
 ghost use Rattle.std.specs.Prelude.{◌≡◌, ◌<◌, ◌↔◌, ℕ, List, Contains};
 ghost use Rattle.store_script.specs.declared.command.Command.{Command};
 ghost use Rattle.store_script.specs.declared.command.StoreScript.{StoreScript};
-ghost use Rattle.store_script.specs.declared.line.Meaning.{Meaning};
+ghost use Rattle.line_text.specs.declared.meaning.Meaning.{Meaning};
+ghost use Rattle.store_script.specs.declared.line.Request.{Request};
 ghost use Rattle.store_script.specs.Line.{Means, meaning_of};
 ghost use Rattle.store_script.specs.Script.{IsWellFormed, key_of, slot_of};
 
 /// Each line means one thing, and that is its meaning as it is computed.
 pub fn each_line_means_one_thing()
-    ensures { (line : List ℕ) (meaning : Meaning) → Means line meaning ↔ (meaning_of line ≡ meaning) }
+    ensures { (line : List ℕ) (meaning : Meaning Request) → Means line meaning ↔ (meaning_of line ≡ meaning) }
 {}
 
 /// Each slot of a well-formed script is below the number of its slots.

@@ -6,10 +6,8 @@
 
 mod answered;
 mod command;
-mod fault;
 pub mod laws;
 mod line;
-mod number;
 mod quad;
 mod reading;
 mod record;
@@ -17,12 +15,11 @@ mod replies;
 mod slots;
 mod source;
 mod text;
-mod words;
 
 pub use answered::Answered;
 pub use command::{Command, CommandList, StoreScript};
-pub use fault::ScriptFault;
-pub use line::{Meaning, Request};
+pub use line::Request;
+pub use line_text::{Meaning, TextFault as ScriptFault};
 pub use quad::Quad;
 pub use record::Record;
 pub use replies::answers;

@@ -1,13 +1,12 @@
 // What one line of a store script means, read in place.
 ghost use Rattle.std.specs.Prelude.{◌≡◌, option_map};
-ghost use Rattle.mtrace_reader.specs.Words.{words};
+ghost use Rattle.line_text.specs.Words.{words};
 ghost use Rattle.store_script.specs.Line.{numbers_of, said, said_of, said_of_one, said_of_three, said_of_five, meaning_of};
 ghost use Rattle.store_script.specs.Numbers.{few};
 
-use crate::number::number;
-use crate::words::split_first_word;
 use crate::{Command, Quad};
 use arrayvec::ArrayVec;
+use line_text::{Meaning, number, split_first_word};
 
 /// What a line of a script asks for.
 #[derive(Clone, Copy, Debug, PartialEq, Eq, Hash)]
@@ -55,16 +54,8 @@ impl Request {
     }
 }
 
-/// What a line means.
-#[derive(Clone, Copy, Debug, PartialEq, Eq, Hash)]
-pub enum Meaning {
-    /// Nothing.
-    Skipped,
-    /// This request.
-    Says(Request),
-    /// It isn't of the script language.
-    Bad,
-}
+/// The most digits of a number.
+const MOST_DIGITS: usize = 20;
 
 /// The most numbers of a line.
 const MOST_NUMBERS: usize = 5;
@@ -79,7 +70,7 @@ fn numbers(line: &[u8]) -> Option<ArrayVec<u64, MOST_NUMBERS>>
     let mut numbers = ArrayVec::new();
     let mut rest = line;
     while let Some((word, after)) = split_first_word(rest) {
-        let number = number(word)?;
+        let number = number(word, 10, MOST_DIGITS)?;
         if numbers.is_full() {
             return None;
         }
@@ -149,7 +140,7 @@ fn read_request(name: &[u8], rest: &[u8]) -> Option<Request>
 }
 
 /// What a line means, which stands here without the byte 10 that ends it.
-pub(crate) fn read_line(line: &[u8]) -> Meaning
+pub(crate) fn read_line(line: &[u8]) -> Meaning<Request>
     ensures { result ≡ meaning_of line.now }
 {
     let Some((name, rest)) = split_first_word(line) else {

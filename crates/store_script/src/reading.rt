@@ -1,15 +1,17 @@
 // The script of bytes that were read, line by line.
 ghost use Rattle.std.specs.Prelude.{◌≡◌, ◌+◌, ◌<◌, ◌≤◌, ◌^◌, [], false, length, IfErr, OnOk};
 ghost use Rattle.std.specs.BTreeMap.{btree_map_len};
+ghost use Rattle.line_text.specs.Meanings.{is_bad};
 ghost use Rattle.store_script.specs.Line.{meaning_of};
-ghost use Rattle.store_script.specs.Reading.{AnswersTo, is_bad};
+ghost use Rattle.store_script.specs.Reading.{AnswersTo};
 ghost use Rattle.store_script.specs.ScriptWriter.{IsAt, Keeps, ReadsLine, StopsAt};
 
+use crate::ScriptFault;
 use crate::command::{Command, CommandList, StoreScript};
-use crate::fault::ScriptFault;
-use crate::line::{Meaning, Request, read_line};
+use crate::line::{Request, read_line};
 use crate::slots::SlotTable;
-use mtrace_reader::split_line;
+use line_text::{Meaning, split_line};
+use pool_model::NoMemory;
 use std::alloc::Global;
 
 /// A script that is being written.
@@ -32,11 +34,10 @@ impl ScriptWriter {
     }
 
     /// Keeps a request as a command with the slot of its key.
-    fn keep(&mut self, request: Request) -> Result<(), ScriptFault>
+    fn keep(&mut self, request: Request) -> Result<(), NoMemory>
         requires { btree_map_len self.old.slots.slots < 2 ^ 32 }
         ensures kept { OnOk result (Keeps self.old self.new request) }
         ensures one_more { OnOk result (btree_map_len self.new.slots.slots ≤ btree_map_len self.old.slots.slots + 1) }
-        ensures memory { IfErr result (λ fault. fault ≡ ScriptFault.NoMemory) }
     {
         let slot = self.slots.slot(request.key())?;
         self.commands.push(request.with_slot(slot))?;
@@ -53,7 +54,7 @@ impl ScriptWriter {
     {
         match read_line(line) {
             Meaning::Skipped => Ok(()),
-            Meaning::Says(request) => self.keep(request),
+            Meaning::Says(request) => Ok(self.keep(request)?),
             Meaning::Bad => Err(ScriptFault::BadLine(number)),
         }
     }

@@ -1,9 +1,9 @@
 // The slots of keys.
-ghost use Rattle.std.specs.Prelude.{◌≡◌, ◌+◌, ◌<◌, ◌≤◌, ◌^◌, [], IfOk, IfErr};
+ghost use Rattle.std.specs.Prelude.{◌≡◌, ◌+◌, ◌<◌, ◌≤◌, ◌^◌, [], IfOk};
 ghost use Rattle.std.specs.BTreeMap.{btree_map_len};
 ghost use Rattle.store_script.specs.Slots.{Names, NamesNext};
 
-use crate::fault::ScriptFault;
+use pool_model::NoMemory;
 use std::alloc::Global;
 use std::collections::BTreeMap;
 use std::collections::btree_map::Entry;
@@ -34,11 +34,10 @@ impl SlotTable {
     }
 
     /// The slot of a key: the next one, where the key is new.
-    pub(crate) fn slot(&mut self, key: u64) -> Result<u32, ScriptFault>
+    pub(crate) fn slot(&mut self, key: u64) -> Result<u32, NoMemory>
         requires { btree_map_len self.old.slots < 2 ^ 32 }
         ensures slot { IfOk result (λ slot. NamesNext self.old self.new key slot) }
         ensures one_more { IfOk result (λ _. btree_map_len self.new.slots ≤ btree_map_len self.old.slots + 1) }
-        ensures memory { IfErr result (λ fault. fault ≡ ScriptFault.NoMemory) }
     {
         let next = self.slots.len() as u32;
         match self.slots.entry(key)? {

@@ -1,8 +1,8 @@
 // Scripts that are read, answered and written as replies.
+use crate::ScriptFault;
 use crate::answered::Answered;
 use crate::command::Command;
 use crate::command::Command::{Del, Get, Put, Set};
-use crate::fault::ScriptFault;
 use crate::quad::Quad;
 use crate::replies::answers;
 use crate::source::read_script;

@@ -1,16 +1,14 @@
-use Rattle.std.proofs.Common.{◌∙◌, ap, ap₂}
+use Rattle.std.proofs.Common.{◌∙◌, ap₂}
 use Rattle.std.proofs.lemmas.Result.{IfOk-weaker}
 use Rattle.clap.specs.Words.{with_rule}
 use Rattle.command_words.specs.Drill.{drill_app}
-use Rattle.command_words.specs.Options.{without_help}
-use Rattle.command_words.proofs.Parses.{app_of-without_help}
 use Rattle.command_words.proofs.drill_words.drill_command.Goals as goal
 
 pub returns : goal.returns
 unfolding drill_app
 returns c =
-    let named = app_of-without_help c.new.result c.disable_help_flag.result c.disable_help_flag.ensures ∙ ap without_help c.new.ensures.app in
-    let with_seed = c.in_ok-arg.ensures.shape c.option.ensures.local ∙ ap₂ with_rule named c.option.ensures.rule in
+    let with_seed = c.in_ok-arg.ensures.shape c.option.ensures.local ∙ ap₂ with_rule c.bare_command.ensures c.option.ensures.rule in
     let with_processes = c.in_ok-arg-2.ensures.shape c.option-2.ensures.local ∙ ap₂ with_rule with_seed c.option-2.ensures.rule in
     let with_calls = c.in_ok-arg-3.ensures.shape c.option-3.ensures.local ∙ ap₂ with_rule with_processes c.option-3.ensures.rule in
-    IfOk-weaker c.arg-4.result _ _ (λ command added. added.shape c.option-4.ensures.local ∙ ap₂ with_rule with_calls c.option-4.ensures.rule) c.arg-4.ensures
+    IfOk-weaker c.arg-4.result _ _
+    (λ command added. added.shape c.option-4.ensures.local ∙ ap₂ with_rule with_calls c.option-4.ensures.rule) c.arg-4.ensures

@@ -1,23 +1,27 @@
-use Rattle.std.proofs.Common.{◌∙◌, map, string_bytes, sym}
-use Rattle.clap.specs.Words.{app_of, found_of}
-use Rattle.command_words.proofs.Drills.{asked_or_none, drill_meant-parsed, drill_meant-refused}
+use Rattle.std.proofs.Common.{◌∙◌, subst, sym}
+use Rattle.command_words.specs.Options.{IsReadable}
+use Rattle.command_words.specs.Drill.{drill_app, drill_in, drill_meant}
+use Rattle.command_words.proofs.Parses.{asked_of-matched, asked_of-refused, handed_on}
+use Rattle.command_words.proofs.Drills.{asked_or_none, drill_is_readable}
 use Rattle.command_words.proofs.drill_words.read_drill.Goals as goal
 
-pub returns-in-Ok-clause-ok : goal.returns-in-Ok-clause-ok
-returns-in-Ok-clause-ok c =
-    let meant = drill_meant-parsed (app_of c.in_ok-command.command) (map string_bytes c.args.words.now) (found_of c.in-Ok.matches)
-    c.in_ok-command.ensures c.in-Ok.ensures.kinds (λ simple. (c.in-Ok.ensures.matches simple).0) in
-    (asked_or_none _ c.ok_or.result (meant ∙ sym c.drill_of.ensures ∙ c.ok_or.ensures.ok_part)).0
+pub read_matches-requires : goal.read_matches-requires
+read_matches-requires c = subst IsReadable (sym c.in_ok-drill_command.ensures) drill_is_readable
 
-pub returns-in-Ok-clause-faulty : goal.returns-in-Ok-clause-faulty
-returns-in-Ok-clause-faulty c =
-    let meant = drill_meant-parsed (app_of c.in_ok-command.command) (map string_bytes c.args.words.now) (found_of c.in-Ok.matches)
-    c.in_ok-command.ensures c.in-Ok.ensures.kinds (λ simple. (c.in-Ok.ensures.matches simple).0) in
-    (asked_or_none _ c.ok_or.result (meant ∙ sym c.drill_of.ensures ∙ c.ok_or.ensures.ok_part)).1
+pub returns-in_err-matches-clause-faulty : goal.returns-in_err-matches-clause-faulty
+unfolding drill_meant
+returns-in_err-matches-clause-faulty c =
+    handed_on c.from_residual-in_err-matches.result c.in_err-matches.field-0.0 _ c.from_residual-in_err-matches.ensures.1
+    (λ is. asked_of-refused drill_in drill_app _ _ c.in_ok-drill_command.ensures (c.in_err-matches.ensures.faulty is))
 
-pub returns : goal.returns
-returns c = record {
-  ok = tt;
-  faulty = λ _. drill_meant-refused (app_of c.in_ok-command.command) (map string_bytes c.args.words.now) c.in-Err.error
-      c.in_ok-command.ensures c.in-Err.ensures.kinds (λ memory. c.in_default.not-OutOfMemory (c.kind.ensures ∙ memory));
-}
+pub returns-clause-ok : goal.returns-clause-ok
+unfolding drill_meant
+returns-clause-ok c =
+    let meant = asked_of-matched drill_in drill_app _ _ c.in_ok-drill_command.ensures _ c.in_ok-matches.ensures.ok in
+    (asked_or_none _ c.ok_or.result (meant ∙ sym c.drill_of.ensures.asked ∙ c.ok_or.ensures.ok_part)).0
+
+pub returns-clause-faulty : goal.returns-clause-faulty
+unfolding drill_meant
+returns-clause-faulty c =
+    let meant = asked_of-matched drill_in drill_app _ _ c.in_ok-drill_command.ensures _ c.in_ok-matches.ensures.ok in
+    (asked_or_none _ c.ok_or.result (meant ∙ sym c.drill_of.ensures.asked ∙ c.ok_or.ensures.ok_part)).1

@@ -4,8 +4,9 @@ use Rattle.command_words.proofs.number.read_number.Goals as goal
 
 pub returns-then-not-has_digits_alone : goal.returns-then-not-has_digits_alone
 returns-then-not-has_digits_alone c =
-    sym (no_number 32 c.args.text.now (sym c.has_digits_alone.ensures ∙ c.if-not-has_digits_alone.true))
+    sym (no_number 64 c.args.text.now (sym c.has_digits_alone.ensures ∙ c.if-not-has_digits_alone.true))
 
 pub returns : goal.returns
-returns c = c.ok.ensures.value
-    ∙ parsed_number 32 c.args.text.now c.parse.result (sym c.has_digits_alone.ensures ∙ c.if-not-has_digits_alone.false) c.parse.ensures.value.0
+returns c =
+    let digits = sym c.has_digits_alone.ensures ∙ c.if-not-has_digits_alone.false in
+    c.ok.ensures.value ∙ parsed_number 64 c.args.text.now c.parse.result digits c.parse.ensures.value.0

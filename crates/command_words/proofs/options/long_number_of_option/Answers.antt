@@ -11,6 +11,6 @@ returns-in_err-get_str c = c.from_residual.ensures
     ∙ number_at-text 64 (found_of c.args.matches.now) c.args.name.now c.get_str.result c.get_str.ensures
 
 pub returns : goal.returns
-returns c = c.read_long_number.ensures
+returns c = c.read_number.ensures
     ∙ ap (option_and_then (λ t. number_of 64 t.now)) (sym c.in_ok-get_str.was)
     ∙ number_at-text 64 (found_of c.args.matches.now) c.args.name.now c.get_str.result c.get_str.ensures

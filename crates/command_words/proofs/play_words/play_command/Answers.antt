@@ -1,16 +1,13 @@
-use Rattle.std.proofs.Common.{rules, ◌≡◌, ◌∙◌, ap, ap₂}
+use Rattle.std.proofs.Common.{rules, ◌≡◌, ◌∙◌, ap₂}
 use Rattle.std.proofs.lemmas.Result.{IfOk-weaker}
 use Rattle.clap.specs.Words.{rule_of, with_rule}
-use Rattle.command_words.specs.Options.{without_help}
 use Rattle.command_words.specs.Play.{files_rule, play_app}
-use Rattle.command_words.proofs.Parses.{app_of-without_help}
 use Rattle.command_words.proofs.play_words.play_command.Goals as goal
 
 pub returns : goal.returns
 unfolding play_app
 returns c =
-    let named = app_of-without_help c.new-2.result c.disable_help_flag.result c.disable_help_flag.ensures ∙ ap without_help c.new-2.ensures.app in
-    let with_batches = c.in_ok-arg.ensures.shape c.option.ensures.local ∙ ap₂ with_rule named c.option.ensures.rule in
+    let with_batches = c.in_ok-arg.ensures.shape c.option.ensures.local ∙ ap₂ with_rule c.bare_command.ensures c.option.ensures.rule in
     let with_size = c.in_ok-arg-2.ensures.shape c.option-2.ensures.local ∙ ap₂ with_rule with_batches c.option-2.ensures.rule in
     let with_quantum = c.in_ok-arg-3.ensures.shape c.option-3.ensures.local ∙ ap₂ with_rule with_size c.option-3.ensures.rule in
     let files : rule_of c.required-files.result ≡ files_rule = search rules in

@@ -3,7 +3,8 @@ use Rattle.std.specs.Prelude.{codes, option_map}
 use Rattle.std.specs.Result.{result_ok}
 use Rattle.clap.specs.Words.{found_of, rows_of}
 use Rattle.command_words.proofs.Parses.{may_be_faulty}
-use Rattle.command_words.proofs.Plays.{all_of-values, play_in-all, play_in-no_batches, play_in-no_files, play_in-no_quantum, play_in-no_size}
+use Rattle.command_words.proofs.Plays.{all_of-values, play_in-all}
+use Rattle.command_words.proofs.Plays.{play_in-no_batches, play_in-no_files, play_in-no_quantum, play_in-no_size}
 use Rattle.command_words.proofs.play_words.play_of.Goals as goal
 
 pub returns-in_err-batches-clause-faulty : goal.returns-in_err-batches-clause-faulty

@@ -1,24 +1,28 @@
-use Rattle.std.proofs.Common.{◌∙◌, map, string_bytes}
+use Rattle.std.proofs.Common.{◌∙◌, subst, sym}
 use Rattle.std.proofs.lemmas.Result.{IfErr-weaker, IfOk-weaker}
-use Rattle.clap.specs.Words.{app_of, found_of}
-use Rattle.command_words.proofs.Plays.{play_meant-parsed, play_meant-refused}
+use Rattle.command_words.specs.Options.{IsReadable}
+use Rattle.command_words.specs.Play.{play_app, play_in, play_meant}
+use Rattle.command_words.proofs.Parses.{asked_of-matched, asked_of-refused, handed_on}
+use Rattle.command_words.proofs.Plays.{play_is_readable}
 use Rattle.command_words.proofs.play_words.read_play.Goals as goal
 
-pub returns-in-Ok-clause-ok : goal.returns-in-Ok-clause-ok
-returns-in-Ok-clause-ok c =
-    let meant = play_meant-parsed (app_of c.in_ok-command.command) (map string_bytes c.args.words.now) (found_of c.in-Ok.matches)
-    c.in_ok-command.ensures c.in-Ok.ensures.kinds (λ simple. (c.in-Ok.ensures.matches simple).0) in
+pub read_matches-requires : goal.read_matches-requires
+read_matches-requires c = subst IsReadable (sym c.in_ok-play_command.ensures) play_is_readable
+
+pub returns-in_err-matches-clause-faulty : goal.returns-in_err-matches-clause-faulty
+unfolding play_meant
+returns-in_err-matches-clause-faulty c =
+    handed_on c.from_residual-in_err-matches.result c.in_err-matches.field-0.0 _ c.from_residual-in_err-matches.ensures.1
+    (λ is. asked_of-refused play_in play_app _ _ c.in_ok-play_command.ensures (c.in_err-matches.ensures.faulty is))
+
+pub returns-clause-ok : goal.returns-clause-ok
+unfolding play_meant
+returns-clause-ok c =
+    let meant = asked_of-matched play_in play_app _ _ c.in_ok-play_command.ensures _ c.in_ok-matches.ensures.ok in
     IfOk-weaker c.play_of.result _ _ (λ play asked. meant ∙ asked) c.play_of.ensures.ok
 
-pub returns-in-Ok-clause-faulty : goal.returns-in-Ok-clause-faulty
-returns-in-Ok-clause-faulty c =
-    let meant = play_meant-parsed (app_of c.in_ok-command.command) (map string_bytes c.args.words.now) (found_of c.in-Ok.matches)
-    c.in_ok-command.ensures c.in-Ok.ensures.kinds (λ simple. (c.in-Ok.ensures.matches simple).0) in
+pub returns-clause-faulty : goal.returns-clause-faulty
+unfolding play_meant
+returns-clause-faulty c =
+    let meant = asked_of-matched play_in play_app _ _ c.in_ok-play_command.ensures _ c.in_ok-matches.ensures.ok in
     IfErr-weaker c.play_of.result _ _ (λ fault none is. meant ∙ none is) c.play_of.ensures.faulty
-
-pub returns : goal.returns
-returns c = record {
-  ok = tt;
-  faulty = λ _. play_meant-refused (app_of c.in_ok-command.command) (map string_bytes c.args.words.now) c.in-Err.error
-      c.in_ok-command.ensures c.in-Err.ensures.kinds (λ memory. c.in_default.not-OutOfMemory (c.kind.ensures ∙ memory));
-}

@@ -1,9 +1,9 @@
-use Rattle.std.proofs.Common.{◌∙◌, Some, ap, map, string_bytes, sym}
+use Rattle.std.proofs.Common.{◌∙◌, ap, map, string_bytes, sym}
 use Rattle.std.specs.Prelude.{option_map}
 use Rattle.std.proofs.lemmas.Option.{slice_get-map, slice_get_past}
-use Rattle.command_words.specs.Play.{play_meant}
-use Rattle.command_words.specs.declared.command.Command.TheVariants.{Play}
-use Rattle.command_words.proofs.Meanings.{handed_on, meant-no_name, meant-play, meant-unknown, second_word, words_after}
+use Rattle.command_words.specs.declared.command.Command.TheVariants.{Drill, Play}
+use Rattle.command_words.proofs.Meanings.{meant-no_name, means_drill, means_nothing, means_play}
+use Rattle.command_words.proofs.Parses.{handed_on}
 use Rattle.command_words.proofs.read.read_words.Goals as goal
 
 pub returns-in_default-clause-faulty : goal.returns-in_default-clause-faulty
@@ -14,21 +14,32 @@ returns-in_default-clause-faulty c = λ _. meant-no_name (map string_bytes c.arg
 pub returns-in_err-read_play-in-play-clause-faulty : goal.returns-in_err-read_play-in-play-clause-faulty
 returns-in_err-read_play-in-play-clause-faulty c =
     let lookup = c.in-Some.ensures.lookup in
-    let second = second_word c.args.words.now c.in-Some.name.now lookup.3.0 lookup.1 ∙ ap Some (sym c.as_str.ensures.value ∙ c.in-play.is) in
+    let meant = means_play c.args.words.now c.in-Some.name.now lookup.3.0 lookup.1 (sym c.as_str.ensures.value ∙ c.in-play.is) in
     handed_on c.from_residual.result c.in_err-read_play-in-play.field-0.0 _ c.from_residual.ensures.1
-    (λ faulty. meant-play (map string_bytes c.args.words.now) second
-    ∙ ap (option_map Play) (ap play_meant (sym (words_after c.args.words.now)) ∙ c.in_err-read_play-in-play.ensures.faulty faulty))
+    (λ is. meant ∙ ap (option_map Play) (c.in_err-read_play-in-play.ensures.faulty is))
 
 pub returns-in_ok-read_play-in-play-clause-ok : goal.returns-in_ok-read_play-in-play-clause-ok
 returns-in_ok-read_play-in-play-clause-ok c =
     let lookup = c.in-Some.ensures.lookup in
-    let second = second_word c.args.words.now c.in-Some.name.now lookup.3.0 lookup.1 ∙ ap Some (sym c.as_str.ensures.value ∙ c.in-play.is) in
-    meant-play (map string_bytes c.args.words.now) second
-    ∙ ap (option_map Play) (ap play_meant (sym (words_after c.args.words.now)) ∙ c.in_ok-read_play-in-play.ensures.ok)
+    means_play c.args.words.now c.in-Some.name.now lookup.3.0 lookup.1 (sym c.as_str.ensures.value ∙ c.in-play.is)
+    ∙ ap (option_map Play) c.in_ok-read_play-in-play.ensures.ok
+
+pub returns-in_err-read_drill-in-drill-clause-faulty : goal.returns-in_err-read_drill-in-drill-clause-faulty
+returns-in_err-read_drill-in-drill-clause-faulty c =
+    let lookup = c.in-Some.ensures.lookup in
+    let meant = means_drill c.args.words.now c.in-Some.name.now lookup.3.0 lookup.1 (sym c.as_str.ensures.value ∙ c.in-drill.is) in
+    handed_on c.from_residual-in_err-read_drill-in-drill.result c.in_err-read_drill-in-drill.field-0.0 _
+    c.from_residual-in_err-read_drill-in-drill.ensures.1
+    (λ is. meant ∙ ap (option_map Drill) (c.in_err-read_drill-in-drill.ensures.faulty is))
+
+pub returns-in_ok-read_drill-in-drill-clause-ok : goal.returns-in_ok-read_drill-in-drill-clause-ok
+returns-in_ok-read_drill-in-drill-clause-ok c =
+    let lookup = c.in-Some.ensures.lookup in
+    means_drill c.args.words.now c.in-Some.name.now lookup.3.0 lookup.1 (sym c.as_str.ensures.value ∙ c.in-drill.is)
+    ∙ ap (option_map Drill) c.in_ok-read_drill-in-drill.ensures.ok
 
 pub returns-in_default-as_str-clause-faulty : goal.returns-in_default-as_str-clause-faulty
 returns-in_default-as_str-clause-faulty c =
     let lookup = c.in-Some.ensures.lookup in
-    let second = second_word c.args.words.now c.in-Some.name.now lookup.3.0 lookup.1 in
-    λ _. meant-unknown (map string_bytes c.args.words.now) (string_bytes c.in-Some.name.now) second
-    (λ is. c.in_default-as_str.not-play (c.as_str.ensures.value ∙ is))
+    λ _. means_nothing c.args.words.now c.in-Some.name.now lookup.3.0 lookup.1
+    (λ is. c.in_default-as_str.not-play (c.as_str.ensures.value ∙ is)) (λ is. c.in_default-as_str.not-drill (c.as_str.ensures.value ∙ is))

@@ -1,7 +1,7 @@
-use Rattle.std.proofs.Common.{map, ap, ◌∙◌, Some}
+use Rattle.std.proofs.Common.{map}
 use Rattle.std.specs.Prelude.{string_bytes}
 use Rattle.command_words.specs.Meant.{meant}
 use Rattle.pool_cli.proofs.program.work.Goals as goal
 
 pub returns : goal.returns
-returns g c = c.play_files.ensures (meant (map string_bytes c.args.words.now)) (c.in_ok-read_words.ensures.ok ∙ ap Some c.play_of-play.ensures)
+returns g c = c.play_command.ensures (meant (map string_bytes c.args.words.now)) c.in_ok-command.ensures.ok

@@ -1,7 +1,7 @@
 use Rattle.std.proofs.Common.{◌≡◌, ◌+◌, ◌∷◌, [], ◌++◌, refl, ap, ◌∙◌, arith, Err}
 use Rattle.std.proofs.lemmas.List.Elements.{All-push}
-use Rattle.mtrace_reader.specs.declared.trace.TraceFault.TheVariants.{NoMemory}
-use Rattle.mtrace_reader.specs.Script.{IsWellFormed}
+use Rattle.line_text.specs.declared.fault.TextFault.TheVariants.{NoMemory}
+use Rattle.pool_runs.specs.Playable.{IsPlayable}
 use Rattle.pool_cli.proofs.FilesRead.{name_at, reads_next, stops_next}
 use Rattle.pool_cli.proofs.reading.read_files.Goals as goal
 
@@ -35,7 +35,7 @@ loop-index-preserved g c =
           (name_at c.args.names.now c.loop-index.index _ c.loop-index-test.true c.index-names-index.is) c.loop-index.invariant.reads
           (λ bytes has. c.in-Ok.ensures.answer bytes (ap (λ (told : _). told c.as_str.result.now) c.loop-index.invariant.names ∙ ap (g.F.Files.told c.args.files.now) c.as_str.ensures.value ∙ has))
           c.in-Ok.ensures.within);
-      well_formed = rw pushed (All-push IsWellFormed c.loop-index.scripts.items c.in-Ok.file.script c.loop-index.invariant.well_formed c.in-Ok.ensures.well_formed);
+      playable = rw pushed (All-push IsPlayable c.loop-index.scripts.items c.in-Ok.file.script c.loop-index.invariant.playable c.in-Ok.ensures.playable);
       names = c.read_file.ensures.names ∙ c.loop-index.invariant.names;
       opens = omega (arith, c.read_file.ensures.opens, c.loop-index.invariant.opens);
       reliable = λ sure. c.read_file.ensures.reliable (c.loop-index.invariant.reliable sure);

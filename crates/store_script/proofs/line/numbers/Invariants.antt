@@ -1,5 +1,5 @@
 use Rattle.std.proofs.Common.{◌≡◌, ◌≤◌, length}
-use Rattle.mtrace_reader.specs.Words.{words}
+use Rattle.line_text.specs.Words.{words}
 use Rattle.store_script.specs.Line.{numbers_of}
 use Rattle.store_script.specs.Numbers.{behind}
 use Rattle.store_script.proofs.line.numbers.Given as goal

@@ -8,14 +8,16 @@ returns-in_err-read c =
     let parts = c.in-Some.ensures in
     let same : c.from_residual.result ≡ Err c.in_err-read.field-0.0 = grind (arith, common_steps) in
     rw same
-    (stops_at_line _ _ _ _ c.loop-line.writer c.loop-line.invariant.read c.in-Some.line.now c.in-Some.after.now _ parts.line parts.parts c.in_err-read.ensures.fault)
+    (stops_at_line _ _ _ _ c.loop-line.writer c.loop-line.invariant.read c.in-Some.line.now c.in-Some.after.now _ parts.line parts.parts
+    c.in_err-read.ensures.fault)
 
 pub loop-line-preserved : goal.loop-line-preserved
 loop-line-preserved c =
     let parts = c.in-Some.ensures in
     let read = c.in_ok-read.ensures in
     record {
-      read = has_read_line _ _ _ _ _ c.loop-line.invariant.read c.in-Some.line.now c.in-Some.after.now parts.line parts.parts read.good read.read;
+      read = has_read_line _ _ _ _ _ c.loop-line.invariant.read c.in-Some.line.now c.in-Some.after.now parts.line parts.parts read.good
+          read.read;
       few_lines = grind (arith, common_steps, parts.parts);
       few_keys = grind (arith, common_steps, parts.parts, read.one_more);
     }

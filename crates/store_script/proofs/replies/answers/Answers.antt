@@ -10,7 +10,8 @@ loop-command-preserved c =
     let items = c.as_slice-command-items.result.now in
     record {
       walked =
-          rw (fold_more (after c.args.refused.now) begun items c.loop-command.command-index (Put 0 0 (record { a = 0; b = 0; c = 0; d = 0 })) (omega arith))
+          rw (fold_more (after c.args.refused.now) begun items c.loop-command.command-index
+          (Put 0 0 (record { a = 0; b = 0; c = 0; d = 0 })) (omega arith))
           (c.in_ok-follow.ensures.follows _ so_far.walked);
       few = omega (arith, c.in_ok-follow.ensures.counted, so_far.few);
     }

@@ -1,4 +1,4 @@
-use Rattle.store_script.proofs.Taking.{few_answered}
+use Rattle.store_script.proofs.Readings.{few_answered}
 use Rattle.store_script.proofs.source.read_script.Goals as goal
 
 pub returns-clause-few : goal.returns-clause-few

@@ -8,7 +8,8 @@ pub returns-in_err-make_room : goal.returns-in_err-make_room
 returns-in_err-make_room g c =
     let p = err_from_is_err_and c.from_residual.result c.from_residual.ensures.1 in
     rw p.1
-    (paged_part g.K.Sink _ _ _ c.loop-answer.page.bytes c.args.file c.args.answers.now c.loop-answer.answer-index c.loop-answer.invariant _ _
+    (paged_part g.K.Sink _ _ _ c.loop-answer.page.bytes c.args.file c.args.answers.now c.loop-answer.answer-index c.loop-answer.invariant _
+    _
     c.in_err-make_room.ensures.flushed.part)
 
 pub loop-answer-preserved : goal.loop-answer-preserved

@@ -1,5 +1,6 @@
 use Rattle.std.proofs.Common.{None, refl, arith}
 use Rattle.block_pool.proofs.Counting.{holds_few, holds_one_more}
+use Rattle.block_pool.proofs.Fresh.{free_so}
 use Rattle.block_pool.proofs.Passing.{allocated_so, got_is_some, dry_is_none, legal_so}
 use Rattle.block_pool.proofs.pool.Pool.allocate.Goals as goal
 
@@ -14,6 +15,12 @@ pub returns-in-Some-clause-legal : goal.returns-in-Some-clause-legal
 returns-in-Some-clause-legal g c =
     let (called, none) = c.in-Some.ensures.called in
     rw (← c.pass.view_is) (legal_so _ _ _ _ c.pass.inside.process c.allocate.new.self c.allocate.ensures.between called.made)
+
+pub returns-in-Some-clause-free : goal.returns-in-Some-clause-free
+returns-in-Some-clause-free g c =
+    let (called, none) = c.in-Some.ensures.called in
+    rw (← c.pass.view_is) (free_so _ _ _ c.pass.inside.process c.allocate.new.self c.allocate.ensures.seat c.allocate.ensures.between
+    called.made)
 
 pub returns-in-Some-clause-plan : goal.returns-in-Some-clause-plan
 returns-in-Some-clause-plan g c =

@@ -1,5 +1,5 @@
 use Rattle.std.proofs.Common.{arith, ap, ◌∙◌, ◌+◌, ◌∷◌, [], ◌++◌}
-use Rattle.mtrace_reader.specs.Reading.{said}
+use Rattle.line_text.specs.Meanings.{said}
 use Rattle.mtrace_reader.proofs.Readers.{has_read_line}
 use Rattle.mtrace_reader.proofs.reading.LineReader.read_end.Goals as goal
 
@@ -9,4 +9,5 @@ returns-clause-read c = λ open_end bytes read.
     let meaning = c.in_ok-meaning.meaning in
     has_read_line bytes c.args.others.now c.args.self.now _ open_end read meaning taken.meaning
     (c.in_ok-bad.ensures.kept ∙ ap (λ list. list.items ++ said (meaning ∷ [])) taken.operations)
-    (c.or-self.ensures ∙ grind (arith, c.then_some.ensures, c.in_ok-bad.ensures.bad, taken.bad_line, taken.number)) (ap (λ n. n + 1) taken.number) taken.emptied
+    (c.or-self.ensures ∙ grind (arith, c.then_some.ensures, c.in_ok-bad.ensures.bad, taken.bad_line, taken.number))
+    (ap (λ n. n + 1) taken.number) taken.emptied

@@ -1,0 +1,136 @@
+/* The calls, one by one, and then with threads: no two of them ever hold one block. */
+#include "loskebri.h"
+#include <pthread.h>
+#include <stdatomic.h>
+#include <stdio.h>
+
+#define CHECK(c) do { if (!(c)) { printf("line %d: %s\n", __LINE__, #c); return 1; } } while (0)
+enum { THREADS = 4, BATCHES = 16, BLOCKS = 16 * 10, ROUNDS = 200000, MOST = 24 };
+
+static _Atomic int owner[BLOCKS];
+static _Atomic int wrong;
+
+static void give_back(loskebri_pass *pass, uint32_t block) {
+    loskebri_number word = loskebri_read(pass, block, 1);
+    if (word.status != LOSKEBRI_DONE || word.number != block + 7) wrong++;
+    atomic_store(&owner[block], 0);
+    if (loskebri_free(pass, block) != LOSKEBRI_DONE) wrong++;
+    if (loskebri_free(pass, block) != LOSKEBRI_NOT_HELD) wrong++;
+}
+
+static void *work(void *arg) {
+    loskebri_pass *pass = arg;
+    uint32_t held[MOST];
+    int n = 0;
+    for (int i = 0; i < ROUNDS; i++) {
+        if (n < MOST && (i % 5 < 3 || n == 0)) {
+            loskebri_block a = loskebri_allocate(pass);
+            if (a.status == LOSKEBRI_DRY) continue;
+            if (a.status != LOSKEBRI_DONE || a.block >= BLOCKS) { wrong++; return 0; }
+            if (atomic_exchange(&owner[a.block], 1) != 0) wrong++;
+            if (loskebri_write(pass, a.block, 1, a.block + 7) != LOSKEBRI_DONE) wrong++;
+            held[n++] = a.block;
+        } else {
+            give_back(pass, held[--n]);
+        }
+    }
+    while (n > 0) give_back(pass, held[--n]);
+    return 0;
+}
+
+static int refused(void) {
+    loskebri_pass p[33] = {0};
+    CHECK(loskebri_open(4, 0, 8, p, 0) == LOSKEBRI_NO_PROCESS);
+    CHECK(loskebri_open(66, 0, 8, p, 33) == LOSKEBRI_MANY_PROCESSES);
+    CHECK(loskebri_open(3, 0, 8, p, 2) == LOSKEBRI_FEW_BATCHES);
+    CHECK(loskebri_open(4, 0, 3, p, 2) == LOSKEBRI_BAD_QUANTUM);
+    CHECK(loskebri_open(4294967295u, 0, 8, p, 2) == LOSKEBRI_MANY_BLOCKS);
+    CHECK(loskebri_open(4, 9, 8, p, 2) == LOSKEBRI_WIDE_BLOCK);
+    for (int i = 0; i < 33; i++) CHECK(p[i].at == 0);
+    return 0;
+}
+
+static int closed(void) {
+    loskebri_pass p = {0};
+    CHECK(loskebri_allocate(&p).status == LOSKEBRI_CLOSED);
+    CHECK(loskebri_free(&p, 0) == LOSKEBRI_CLOSED);
+    CHECK(loskebri_read(&p, 0, 0).status == LOSKEBRI_CLOSED);
+    CHECK(loskebri_write(&p, 0, 0, 1) == LOSKEBRI_CLOSED);
+    CHECK(loskebri_age(&p).status == LOSKEBRI_CLOSED);
+    CHECK(loskebri_holding(&p).status == LOSKEBRI_CLOSED);
+    CHECK(loskebri_shape(&p).status == LOSKEBRI_CLOSED);
+    loskebri_close(&p);
+    CHECK(p.at == 0);
+    return 0;
+}
+
+/* Two processes with 4 batches of 6 blocks: 8 * 6 >= 16 * 2 + 15. */
+static int alone(void) {
+    loskebri_pass p[2] = {0};
+    CHECK(loskebri_open(4, 2, 8, p, 2) == LOSKEBRI_DONE);
+    for (uint32_t i = 0; i < 2; i++) {
+        loskebri_shape_numbers s = loskebri_shape(&p[i]);
+        CHECK(s.status == LOSKEBRI_DONE && s.process == i && s.processes == 2 && s.batches == 4 && s.batch_length == 6);
+        CHECK(s.blocks == 24 && s.words == 2 && s.quantum == 8);
+    }
+    loskebri_block a = loskebri_allocate(&p[0]), b = loskebri_allocate(&p[1]);
+    CHECK(a.status == LOSKEBRI_DONE && b.status == LOSKEBRI_DONE && a.block != b.block && a.block < 24 && b.block < 24);
+    CHECK(loskebri_holding(&p[0]).number == 1);
+    CHECK(loskebri_write(&p[0], a.block, 1, 99) == LOSKEBRI_DONE);
+    CHECK(loskebri_read(&p[0], a.block, 1).number == 99);
+    CHECK(loskebri_read(&p[0], a.block, 2).status == LOSKEBRI_NO_WORD);
+    CHECK(loskebri_write(&p[0], a.block, 2, 1) == LOSKEBRI_NO_WORD);
+    CHECK(loskebri_read(&p[0], b.block, 0).status == LOSKEBRI_NOT_HELD);
+    CHECK(loskebri_write(&p[0], b.block, 0, 1) == LOSKEBRI_NOT_HELD);
+    CHECK(loskebri_free(&p[0], b.block) == LOSKEBRI_NOT_HELD);
+    CHECK(loskebri_free(&p[0], 4000000000u) == LOSKEBRI_NOT_HELD);
+    CHECK(loskebri_free(&p[0], a.block) == LOSKEBRI_DONE);
+    CHECK(loskebri_free(&p[0], a.block) == LOSKEBRI_NOT_HELD);
+    CHECK(loskebri_holding(&p[0]).number == 0);
+    CHECK(loskebri_age(&p[0]).status == LOSKEBRI_DONE);
+    loskebri_close(&p[0]);
+    loskebri_close(&p[1]);
+    CHECK(loskebri_free(&p[1], b.block) == LOSKEBRI_CLOSED);
+    return 0;
+}
+
+/* One of two processes gets its own twelve of 24 blocks, and then is refused while the other's are unheld. */
+static int dry(void) {
+    loskebri_pass p[2] = {0};
+    uint32_t last = 0;
+    CHECK(loskebri_open(4, 0, 8, p, 2) == LOSKEBRI_DONE);
+    for (int i = 0; i < 12; i++) {
+        loskebri_block a = loskebri_allocate(&p[0]);
+        CHECK(a.status == LOSKEBRI_DONE);
+        last = a.block;
+    }
+    CHECK(loskebri_allocate(&p[0]).status == LOSKEBRI_DRY);
+    CHECK(loskebri_holding(&p[0]).number == 12);
+    CHECK(loskebri_free(&p[0], last) == LOSKEBRI_DONE);
+    CHECK(loskebri_allocate(&p[0]).block == last);
+    loskebri_close(&p[0]);
+    loskebri_close(&p[1]);
+    return 0;
+}
+
+/* Four processes with 16 batches of 10 blocks: 8 * 10 >= 16 * 4 + 15. */
+static int threads(void) {
+    loskebri_pass p[THREADS] = {0};
+    CHECK(loskebri_open(BATCHES, 2, 8, p, THREADS) == LOSKEBRI_DONE);
+    CHECK(loskebri_shape(&p[0]).blocks == BLOCKS);
+    pthread_t t[THREADS];
+    for (int i = 0; i < THREADS; i++) CHECK(pthread_create(&t[i], 0, work, &p[i]) == 0);
+    for (int i = 0; i < THREADS; i++) CHECK(pthread_join(t[i], 0) == 0);
+    CHECK(wrong == 0);
+    for (int i = 0; i < THREADS; i++) {
+        CHECK(loskebri_holding(&p[i]).number == 0);
+        loskebri_close(&p[i]);
+    }
+    return 0;
+}
+
+int main(void) {
+    if (refused() || closed() || alone() || dry() || threads()) return 1;
+    puts("test: ok");
+    return 0;
+}

@@ -1,0 +1,311 @@
+//! Pools, their passes and their blocks.
+
+use crate::error::{FreeError, FreeFault, OpenError, Refusal, WordFault};
+use crate::foreign::{self, Handle};
+use std::fmt;
+use std::sync::atomic::{AtomicU64, Ordering};
+
+/// What a pool is asked to be.
+#[derive(Debug, Clone, Copy, PartialEq, Eq)]
+pub struct Shape {
+    /// How many processes it has, each with a pass: 1 to 32.
+    pub processes: u32,
+    /// How many batches of blocks it has: at least two for each process. A batch has the least number `l` of blocks
+    /// with `quantum * l >= 16 * processes + 15`, and the pool at most 2^22 blocks.
+    pub batches: u32,
+    /// How many data words a block has: 0 to 8.
+    pub words: u32,
+    /// How many steps of a transfer a call makes at most: 1, 2, 4, 8 or 16.
+    pub quantum: u32,
+}
+
+impl Shape {
+    /// The shape with these processes and batches, no data words and a quantum of 8.
+    #[must_use]
+    pub const fn new(processes: u32, batches: u32) -> Shape {
+        Shape {
+            processes,
+            batches,
+            words: 0,
+            quantum: 8,
+        }
+    }
+
+    /// This shape with so many data words a block.
+    #[must_use]
+    pub const fn with_words(self, words: u32) -> Shape {
+        Shape { words, ..self }
+    }
+
+    /// This shape with another quantum.
+    #[must_use]
+    pub const fn with_quantum(self, quantum: u32) -> Shape {
+        Shape { quantum, ..self }
+    }
+}
+
+/// The numbers of a pool that is open.
+#[derive(Debug, Clone, Copy, PartialEq, Eq)]
+pub struct Numbers {
+    /// How many processes it has.
+    pub processes: u32,
+    /// How many batches it has.
+    pub batches: u32,
+    /// How many blocks a batch has.
+    pub batch_length: u32,
+    /// How many blocks it has. Their numbers are those below.
+    pub blocks: u32,
+    /// How many data words a block has.
+    pub words: u32,
+    /// How many steps of a transfer a call makes at most.
+    pub quantum: u32,
+}
+
+/// A pool that was opened, with the passes of all its processes.
+///
+/// The pool's memory goes back with the last of its passes.
+#[derive(Debug)]
+pub struct Pool {
+    numbers: Numbers,
+    passes: Vec<Pass>,
+}
+
+/// Tells pools apart: no two get one number.
+static OPENED: AtomicU64 = AtomicU64::new(0);
+
+impl Pool {
+    /// Opens a pool of this shape. All memory of the pool is taken here.
+    ///
+    /// # Errors
+    ///
+    /// The first fault of the shape, or [`OpenError::NoMemory`]. Nothing is left then.
+    pub fn open(shape: &Shape) -> Result<Pool, OpenError> {
+        let count = usize::try_from(shape.processes).map_err(|_| OpenError::ManyProcesses)?;
+        // No more handles than a pool may have are made before the shape is looked at.
+        let mut handles: Vec<Handle> = (0..count.min(33)).map(|_| Handle::CLOSED).collect();
+        // SAFETY: the pointer and the count are those of one vector of closed handles.
+        let status = unsafe {
+            foreign::loskebri_open(
+                shape.batches,
+                shape.words,
+                shape.quantum,
+                handles.as_mut_ptr(),
+                handles.len(),
+            )
+        };
+        opened(status)?;
+        let pool = OPENED.fetch_add(1, Ordering::Relaxed);
+        let passes: Vec<Pass> = handles
+            .into_iter()
+            .map(|handle| Pass::of(handle, pool))
+            .collect();
+        Ok(Pool {
+            numbers: passes[0].numbers,
+            passes,
+        })
+    }
+
+    /// The numbers of this pool.
+    #[must_use]
+    pub fn numbers(&self) -> Numbers {
+        self.numbers
+    }
+
+    /// The passes, in the order of their processes, one for each thread that is to use the pool.
+    #[must_use]
+    pub fn into_passes(self) -> Vec<Pass> {
+        self.passes
+    }
+}
+
+/// What the status of an opening means.
+fn opened(status: u32) -> Result<(), OpenError> {
+    match status {
+        foreign::DONE => Ok(()),
+        foreign::NO_PROCESS => Err(OpenError::NoProcess),
+        foreign::MANY_PROCESSES => Err(OpenError::ManyProcesses),
+        foreign::FEW_BATCHES => Err(OpenError::FewBatches),
+        foreign::BAD_QUANTUM => Err(OpenError::BadQuantum),
+        foreign::MANY_BLOCKS => Err(OpenError::ManyBlocks),
+        foreign::WIDE_BLOCK => Err(OpenError::WideBlock),
+        foreign::NO_MEMORY => Err(OpenError::NoMemory),
+        _ => unreachable!("opening has no status {status}"),
+    }
+}
+
+/// A block that a pass holds. It is given back by [`Pass::free`]; one that is dropped stays held as long as the pool is.
+#[derive(Debug, PartialEq, Eq)]
+#[must_use = "a block that is dropped stays held"]
+pub struct Block {
+    number: u32,
+    process: u32,
+    pool: u64,
+}
+
+impl Block {
+    /// Its number, below [`Numbers::blocks`]. No two blocks that are held at one time have one number.
+    #[must_use]
+    pub fn number(&self) -> u32 {
+        self.number
+    }
+}
+
+/// The pass of one process. It may go to any thread, and is used by one at a time.
+///
+/// Dropping it leaves what it holds held, and what it keeps lost to the other passes.
+pub struct Pass {
+    handle: Handle,
+    pool: u64,
+    process: u32,
+    numbers: Numbers,
+}
+
+// SAFETY: a handle may be used from any thread, by one call at a time, and every call takes it by `&mut`.
+unsafe impl Send for Pass {}
+
+impl Pass {
+    /// The pass behind an open handle.
+    fn of(mut handle: Handle, pool: u64) -> Pass {
+        let shape = foreign::loskebri_shape(&mut handle);
+        debug_assert_eq!(shape.status, foreign::DONE);
+        Pass {
+            handle,
+            pool,
+            process: shape.process,
+            numbers: Numbers {
+                processes: shape.processes,
+                batches: shape.batches,
+                batch_length: shape.batch_length,
+                blocks: shape.blocks,
+                words: shape.words,
+                quantum: shape.quantum,
+            },
+        }
+    }
+
+    /// The number of its process, below [`Numbers::processes`].
+    #[must_use]
+    pub fn process(&self) -> u32 {
+        self.process
+    }
+
+    /// The numbers of its pool.
+    #[must_use]
+    pub fn numbers(&self) -> Numbers {
+        self.numbers
+    }
+
+    /// How many blocks it holds.
+    #[must_use]
+    pub fn holding(&mut self) -> u64 {
+        foreign::loskebri_holding(&mut self.handle).number
+    }
+
+    /// How many transfers it has begun.
+    #[must_use]
+    pub fn age(&mut self) -> u64 {
+        foreign::loskebri_age(&mut self.handle).number
+    }
+
+    /// Gets a block that nobody holds, in at most `quantum + 1` counted steps.
+    ///
+    /// # Errors
+    ///
+    /// [`Refusal::Dry`] where the pass's own pool has no block after this call's steps, [`Refusal::Spent`] after 2^32
+    /// transfers. The pass stays usable after `Dry`.
+    pub fn allocate(&mut self) -> Result<Block, Refusal> {
+        let answer = foreign::loskebri_allocate(&mut self.handle);
+        match answer.status {
+            foreign::DONE => Ok(Block {
+                number: answer.block,
+                process: self.process,
+                pool: self.pool,
+            }),
+            foreign::DRY => Err(Refusal::Dry),
+            _ => Err(Refusal::Spent),
+        }
+    }
+
+    /// Gives a block back that this pass holds, in at most `quantum + 1` counted steps.
+    ///
+    /// # Errors
+    ///
+    /// The block comes back where another pass holds it, and where this pass has begun 2^32 transfers.
+    pub fn free(&mut self, block: Block) -> Result<(), FreeError> {
+        if !self.holds(&block) {
+            let fault = FreeFault::NotHeld;
+            return Err(FreeError { block, fault });
+        }
+        match foreign::loskebri_free(&mut self.handle, block.number) {
+            foreign::DONE => Ok(()),
+            status => {
+                debug_assert_eq!(status, foreign::SPENT);
+                let fault = FreeFault::Spent;
+                Err(FreeError { block, fault })
+            }
+        }
+    }
+
+    /// Loads a data word of a block: what was written there last since the block was got, and some number where nothing
+    /// was. One counted step.
+    ///
+    /// # Errors
+    ///
+    /// Where another pass holds the block, or it has no such word.
+    pub fn read(&mut self, block: &Block, index: u32) -> Result<u64, WordFault> {
+        if !self.holds(block) {
+            return Err(WordFault::NotHeld);
+        }
+        let answer = foreign::loskebri_read(&mut self.handle, block.number, index);
+        accessed(answer.status).map(|()| answer.number)
+    }
+
+    /// Stores a data word of a block. One counted step.
+    ///
+    /// # Errors
+    ///
+    /// Where another pass holds the block, or it has no such word.
+    pub fn write(&mut self, block: &Block, index: u32, value: u64) -> Result<(), WordFault> {
+        if !self.holds(block) {
+            return Err(WordFault::NotHeld);
+        }
+        accessed(foreign::loskebri_write(
+            &mut self.handle,
+            block.number,
+            index,
+            value,
+        ))
+    }
+
+    /// Whether the block was got by this pass.
+    fn holds(&self, block: &Block) -> bool {
+        (block.pool, block.process) == (self.pool, self.process)
+    }
+}
+
+/// What the status of a read or a write means.
+fn accessed(status: u32) -> Result<(), WordFault> {
+    match status {
+        foreign::DONE => Ok(()),
+        foreign::NO_WORD => Err(WordFault::NoWord),
+        status => {
+            debug_assert_eq!(status, foreign::NOT_HELD);
+            Err(WordFault::NotHeld)
+        }
+    }
+}
+
+impl Drop for Pass {
+    fn drop(&mut self) {
+        foreign::loskebri_close(&mut self.handle);
+    }
+}
+
+impl fmt::Debug for Pass {
+    fn fmt(&self, f: &mut fmt::Formatter<'_>) -> fmt::Result {
+        f.debug_struct("Pass")
+            .field("process", &self.process)
+            .field("numbers", &self.numbers)
+            .finish_non_exhaustive()
+    }
+}

@@ -1,0 +1,7 @@
+pub mod Answers
+pub mod Fault
+pub mod Lines
+pub mod Meanings
+pub mod Number
+pub mod Taken
+pub mod Words

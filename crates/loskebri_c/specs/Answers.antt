@@ -1,0 +1,51 @@
+-- What the calls of C answer, of the pass that a handle owns before and after.
+use Rattle.std.specs.Prelude.{◌≡◌, ℕ, ◌⊎◌, Option, Some, None}
+use Rattle.block_pool.specs.Passing.{Passed}
+use Rattle.pool_member.specs.Calling.{AnswersAllocate, AnswersFree, IsFaulty, ReadsWord, WritesWord}
+use Rattle.pool_member.specs.declared.member.Getting.TheVariants as getting
+use Rattle.pool_member.specs.declared.member.Freeing.TheVariants as freeing
+use Rattle.pool_member.specs.declared.member.WordFault.{WordFault}
+use Rattle.pool_member.specs.declared.member.WordFault.TheVariants as fault
+
+-- a closed handle answers 5 and stays closed
+abbrev pub StaysClosed : Option Passed → Option Passed → ℕ → Type 0
+StaysClosed old new status = old ≡ None → (status ≡ 5) × (new ≡ None)
+
+-- an allocate of an open handle, which stays open: status 0 with a block, 1 for a refusal, 4 where the pass is spent
+abbrev pub AllocateAnswered : Passed → Option Passed → ℕ → ℕ → Type 0
+AllocateAnswered old None status block = ⊥
+AllocateAnswered old (Some new) status block =
+    ((status ≡ 0) × AnswersAllocate (getting.Got block) old new) ⊎ (((status ≡ 1) × (block ≡ 0) × AnswersAllocate getting.Dry old new)
+    ⊎ ((status ≡ 4) × (block ≡ 0) × AnswersAllocate getting.Spent old new))
+
+-- a free: status 0 where the block went back, 2 where the pass doesn't hold it, 4 where it does and is spent
+abbrev pub FreeAnswered : Passed → Option Passed → ℕ → ℕ → Type 0
+FreeAnswered old None status block = ⊥
+FreeAnswered old (Some new) status block =
+    ((status ≡ 0) × AnswersFree block freeing.Freed old new) ⊎ (((status ≡ 2) × AnswersFree block freeing.NotHeld old new)
+    ⊎ ((status ≡ 4) × AnswersFree block freeing.Spent old new))
+
+-- the status of a fault
+abbrev pub status_of : WordFault → ℕ
+status_of fault.NotHeld = 2
+status_of fault.NoWord = 3
+
+-- a fault that is told by its status, with nothing changed
+abbrev pub FaultAnswered : Passed → Passed → ℕ → ℕ → ℕ → Type 0
+FaultAnswered old new status block index = (why : WordFault) × (status ≡ status_of why) × IsFaulty block index old new why
+
+-- a read: status 0 with the word, else its fault
+abbrev pub ReadAnswered : Passed → Option Passed → ℕ → ℕ → ℕ → ℕ → Type 0
+ReadAnswered old None status value block index = ⊥
+ReadAnswered old (Some new) status value block index =
+    ((status ≡ 0) × ReadsWord block index value old new) ⊎ ((value ≡ 0) × FaultAnswered old new status block index)
+
+-- a write: status 0, else its fault
+abbrev pub WriteAnswered : Passed → Option Passed → ℕ → ℕ → ℕ → ℕ → Type 0
+WriteAnswered old None status block index value = ⊥
+WriteAnswered old (Some new) status block index value =
+    ((status ≡ 0) × WritesWord block index value old new) ⊎ FaultAnswered old new status block index
+
+-- a question: status 0 with this number, and the handle stays as it was
+abbrev pub Tells : ℕ → Option Passed → Option Passed → ℕ → ℕ → Type 0
+Tells told old new status number = (status ≡ 0) × (number ≡ told) × (new ≡ old)

@@ -1,0 +1,6 @@
+pub use Rattle.pool_member.specs.Calling
+pub use Rattle.pool_member.specs.Opening
+pub mod Kept
+pub mod Answers
+pub mod Described
+pub mod Filling

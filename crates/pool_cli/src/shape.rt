@@ -1,0 +1,45 @@
+// The numbers of the pool that a command asks for.
+ghost use Rattle.std.specs.Prelude.{IfOk, IfErr};
+ghost use Rattle.command_words.specs.declared.command.Command.{Command};
+ghost use Rattle.pool_cli.specs.Shapes.{IsShapeOf, IsRefused};
+
+use crate::Ending;
+use command_words::{Command, Drill, Play};
+use word_layout::Shape;
+
+/// How many batches the pool of a drill has.
+const DRILL_BATCHES: u32 = 1024;
+
+/// The numbers of a play's pool: a process for each file.
+fn play_shape(play: &Play) -> Result<Shape, Ending>
+    ensures ok { IfOk result (IsShapeOf (Command.Play play.now)) }
+    ensures refused { IfErr result (IsRefused (Command.Play play.now)) }
+{
+    let processes = play.files.len().min(u32::MAX as usize) as u32;
+    match Shape::with_quantum(processes, play.batches, 0, play.quantum) {
+        Ok(shape) => Ok(shape),
+        Err(fault) => Err(Ending::Shape(fault)),
+    }
+}
+
+/// The numbers of a drill's pool.
+fn drill_shape(drill: &Drill) -> Result<Shape, Ending>
+    ensures ok { IfOk result (IsShapeOf (Command.Drill drill.now)) }
+    ensures refused { IfErr result (IsRefused (Command.Drill drill.now)) }
+{
+    match Shape::with_quantum(drill.processes, DRILL_BATCHES, 0, drill.quantum) {
+        Ok(shape) => Ok(shape),
+        Err(fault) => Err(Ending::Shape(fault)),
+    }
+}
+
+/// The numbers of the pool that a command asks for. It has no data words.
+pub(crate) fn shape_of(command: &Command) -> Result<Shape, Ending>
+    ensures ok { IfOk result (IsShapeOf command.now) }
+    ensures refused { IfErr result (IsRefused command.now) }
+{
+    match command {
+        Command::Play(play) => play_shape(play),
+        Command::Drill(drill) => drill_shape(drill),
+    }
+}
