@@ -7,7 +7,7 @@ ghost use Rattle.transfer_machine.specs.Machine.{CanAct};
 ghost use Rattle.pool_table.specs.declared.about.About.TheVariants.{Alone};
 ghost use Rattle.pool_table.specs.Views.{seat_of_process};
 ghost use Rattle.pool_table.specs.Steps.{Among};
-ghost use Rattle.batch_stack.specs.declared.progress.Progress.TheVariants.{Going};
+ghost use Rattle.batch_stack.specs.declared.progress.Progress.TheVariants.{Gave, Going};
 ghost use Rattle.batch_stack.specs.Alone.{Advanced, GoesAlone, RestsAlone, spares_in, spares_about};
 
 use super::Transfer;
@@ -22,6 +22,7 @@ use word_layout::Shape;
 
 mod stale;
 mod takes;
+mod threads;
 
 /// A step that was made.
 #[derive(Drop)]
@@ -194,6 +195,16 @@ fn is_going(progress: Progress) -> bool
     match progress {
         Progress::Going => true,
         Progress::Took(_) | Progress::Empty | Progress::Gave => false,
+    }
+}
+
+/// Whether a give ended.
+fn has_given(progress: Progress) -> bool
+    ensures { IsTrue result ↔ progress ≡ Gave }
+{
+    match progress {
+        Progress::Gave => true,
+        Progress::Going | Progress::Took(_) | Progress::Empty => false,
     }
 }
 

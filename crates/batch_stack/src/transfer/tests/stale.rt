@@ -1,11 +1,12 @@
 // A stale helper: it loaded a state that two later ones have replaced.
-ghost use Rattle.std.specs.Prelude.{◌≡◌, [], ◌∷◌, IsTrue, ◌↔◌};
+ghost use Rattle.std.specs.Prelude.{◌≡◌, [], ◌∷◌};
 ghost use Rattle.word_layout.specs.Names.{table_words};
 ghost use Rattle.word_table.specs.Seats.{SameSeat};
-ghost use Rattle.batch_stack.specs.declared.progress.Progress.TheVariants.{Gave};
 ghost use Rattle.batch_stack.specs.Alone.{RestsAlone, spares_in};
 
-use super::{begin_give, begin_take, first_spare, make, make_part, open, open_two, take};
+use super::{
+    begin_give, begin_take, first_spare, has_given, make, make_part, open, open_two, take,
+};
 use crate::progress::Progress;
 use crate::transfer::Transfer;
 use pool_table::{PoolSeat, PoolTable};
@@ -13,16 +14,6 @@ use std::alloc::Global;
 use std::process::Abort;
 use std::test::Fail;
 use word_layout::Shape;
-
-/// Whether a give ended.
-fn has_given(progress: Progress) -> bool
-    ensures { IsTrue result ↔ progress ≡ Gave }
-{
-    match progress {
-        Progress::Gave => true,
-        Progress::Going | Progress::Took(_) | Progress::Empty => false,
-    }
-}
 
 /// A whole give of the one spare, on these words.
 fn give_on(
