@@ -1,7 +1,6 @@
 -- a process that makes transfers outside any call: what it may begin at rest, and how it goes on
-use Rattle.std.proofs.Common.{◌≡◌, ◌≢◌, ℕ, ◌+◌, ◌*◌, ◌<◌, ◌≤◌, ◌==◌, Bool, true, false, List, [], ◌∷◌, length, refl, sym, ap, ◌∙◌, subst, arith}
-use Rattle.std.specs.Prelude.{◌-◌, if◌then◌else◌, nat_lt, nat_le, not, ◌&&◌, ◌||◌, take}
-use Rattle.std.proofs.lemmas.Bool.{false≢true}
+use Rattle.std.proofs.Common.{◌≡◌, ◌≢◌, ℕ, ◌+◌, ◌*◌, ◌<◌, ◌≤◌, ◌==◌, true, false, [], ◌∷◌, ◌++◌, length, refl, sym, ap, ◌∙◌, subst, arith}
+use Rattle.std.specs.Prelude.{◌-◌, nat_lt, take}
 use Rattle.std.proofs.lemmas.Bool.Decides.{nat_tests}
 use Rattle.word_layout.specs.Sizes.{Sizes}
 use Rattle.word_layout.specs.Names.{word_at}
@@ -11,12 +10,10 @@ use Rattle.word_layout.specs.declared.announced.Wish.TheVariants.{Take, Give}
 use Rattle.transfer_machine.specs.Machine.{begun, CanAct}
 use Rattle.transfer_machine.specs.Opening.{opening_transfer}
 use Rattle.transfer_machine.specs.Stages.{is_rest}
-use Rattle.transfer_machine.specs.declared.stage.NextStep.TheVariants.{Announce}
 use Rattle.transfer_machine.specs.declared.transfer.TransferView.{TransferView}
 use Rattle.pool_machine.specs.Beginning.{alone_begun}
-use Rattle.pool_machine.specs.declared.view.PoolView.{PoolView}
 use Rattle.pool_machine.specs.declared.view.ProcessView.{ProcessView}
-use Rattle.interleaving_core.specs.Moves.{moving_view, may_go_alone, may_wish}
+use Rattle.interleaving_core.specs.Moves.{moving_view, may_wish}
 use Rattle.interleaving_core.specs.TransferLaws.{moves_transfer}
 use Rattle.interleaving_core.proofs.Joins.{keeps}
 use Rattle.pool_table.specs.declared.about.About.TheVariants.{Alone}
@@ -27,8 +24,10 @@ use Rattle.pool_table.specs.Steps.{Among, CanStep}
 use Rattle.pool_table.specs.Transfers.{Agrees}
 use Rattle.pool_table.proofs.Transfers.{transfer_can_act}
 use Rattle.pool_table.proofs.Turns.{seat_of}
-use Rattle.batch_stack.specs.Alone.{GoesAlone, RestsAlone, spares_in, spares_about}
-use Rattle.batch_stack.specs.Running.{GoesOn}
+use Rattle.batch_stack.specs.declared.progress.Progress.{Progress}
+use Rattle.batch_stack.specs.declared.progress.Progress.TheVariants.{Going, Took, Gave}
+use Rattle.batch_stack.specs.Alone.{GoesAlone, RestsAlone, Advanced, EndsAtRest, spares_in, spares_about, spares_after}
+use Rattle.batch_stack.specs.Running.{Running, MadeStep, GoesOn, wishing}
 
 -- at the opening a process is at rest, with one spare
 process_rests : (sizes : Sizes) (process seats : ℕ) → Among (seat_of_process sizes process seats)
@@ -106,15 +105,76 @@ give_spares sizes v t head r has =
     ap (λ (z : ProcessView). z.pool.heads) (turns_at_rest (Give head) v.mind.view (at_rest sizes v t r))
     ∙ ap (λ list. take (length list - 1) list) has
 
--- a transfer that goes on keeps its process's spares
-pub going_spares : (sizes : Sizes) (wish : Wish) (x : SeatView) (u : TransferView) → GoesOn sizes (Alone wish) x u
+-- the same of a transfer by its fields, before and after
+pub take_goes : (old new : Running) (v : SeatView) → RestsAlone old.sizes v old.part → length (spares_in v) ≤ 1 → old.part.age < most_age
+    → new ≡ wishing Take old → GoesAlone old.sizes v new.part
+take_goes old new v r few young e =
+    subst (λ (n : Running). GoesAlone old.sizes v n.part) (sym e) (take_begins old.sizes v old.part r few young)
+
+pub give_goes : (old new : Running) (v : SeatView) (head : ℕ) → RestsAlone old.sizes v old.part → spares_in v ≡ head ∷ []
+    → old.part.age < most_age → new ≡ wishing (Give head) old → GoesAlone old.sizes v new.part
+give_goes old new v head r has young e =
+    subst (λ (n : Running). GoesAlone old.sizes v n.part) (sym e) (give_begins old.sizes v old.part head r has young)
+
+-- a step advances the transfer
+going_spares : (sizes : Sizes) (wish : Wish) (x : SeatView) (u : TransferView) → GoesOn sizes (Alone wish) x u
     → x.mind.view.transfer ≡ u → spares_about (Alone u.wish) x ≡ spares_in x
 going_spares sizes wish x u goes mirrors =
     let busy : is_rest x.mind.view.transfer.next ≡ false = ap (λ (z : TransferView). is_rest z.next) mirrors ∙ goes.busy in
     ap (λ (z : ProcessView). z.pool.heads) (turns_busy u.wish x.mind.view busy)
 
-pub alone_goes_on : (sizes : Sizes) (x : SeatView) (t u : TransferView) → GoesOn sizes (Alone t.wish) x u → GoesAlone sizes x u
-alone_goes_on sizes x t u goes = let (can, agrees) = goes.goes u.wish in record { can = can; agrees = agrees }
+pub step_advances : (sizes : Sizes) (v x : SeatView) (t u : TransferView) (answer : Progress)
+    → MadeStep sizes (Alone t.wish) v t x u answer → (answer ≡ Going → GoesOn sizes (Alone t.wish) x u)
+    → spares_in x ≡ spares_after answer (spares_about (Alone t.wish) v) → (answer ≢ Going → EndsAtRest sizes (Alone t.wish) x u)
+    → Advanced sizes v t x u answer
+step_advances sizes v x t u answer (word, made) goes spares rests = record {
+  goes = λ e. let (can, agrees) = (goes e).goes u.wish in record { can = can; agrees = agrees };
+  kept = λ e. going_spares sizes t.wish x u (goes e) made.mirrors
+      ∙ (spares ∙ ap (λ k. spares_after k (spares_about (Alone t.wish) v)) e);
+  rests = rests;
+  spares = λ ends. spares;
+}
+
+-- no step does, and more steps do
+pub stays_advanced : (sizes : Sizes) (v : SeatView) (t : TransferView) → GoesAlone sizes v t → Advanced sizes v t v t Going
+stays_advanced sizes v t goes =
+    record { goes = λ e. goes; kept = λ e. refl; rests = λ ends. absurd (ends refl); spares = λ ends. absurd (ends refl) }
+
+pub advances_on : (sizes now : Sizes) (v x y : SeatView) (t u w : TransferView) (answer : Progress) → now ≡ sizes
+    → Advanced sizes v t x u Going → Advanced now x u y w answer → Advanced sizes v t y w answer
+advances_on sizes now v x y t u w answer same first next =
+    let second = subst (λ z. Advanced z x u y w answer) same next in
+    record {
+      goes = second.goes;
+      kept = λ e. second.kept e ∙ first.kept refl;
+      rests = second.rests;
+      spares = λ ends. second.spares ends ∙ ap (spares_after answer) (first.kept refl);
+    }
+
+pub going_advanced : (sizes : Sizes) (v x : SeatView) (t u : TransferView) (answer : Progress) → answer ≡ Going
+    → Advanced sizes v t x u answer → Advanced sizes v t x u Going
+going_advanced sizes v x t u answer e a = subst (Advanced sizes v t x u) e a
+
+pub advanced_goes : (sizes now : Sizes) (v x : SeatView) (t u : TransferView) → now ≡ sizes → Advanced sizes v t x u Going
+    → GoesAlone now x u
+advanced_goes sizes now v x t u same a = subst (λ z. GoesAlone z x u) (sym same) (a.goes refl)
+
+-- how a process with no spare of its own rests after that
+pub gave_rests : (sizes now : Sizes) (v x : SeatView) (t u : TransferView) (answer : Progress) → answer ≡ Gave → now ≡ sizes
+    → Advanced now v t x u answer → spares_about (Alone t.wish) v ≡ [] → RestsAlone sizes x u × (spares_in x ≡ [])
+gave_rests sizes now v x t u answer e same a none =
+    let ends : answer ≢ Going = λ goes. absurd (grind arith) in (
+      subst (λ z. RestsAlone z x u) same (a.rests ends),
+      a.spares ends ∙ (ap (λ k. spares_after k (spares_about (Alone t.wish) v)) e ∙ none),
+    )
+
+pub took_rests : (sizes now : Sizes) (v x : SeatView) (t u : TransferView) (answer : Progress) (head : ℕ) → answer ≡ Took head → now ≡ sizes
+    → Advanced now v t x u answer → spares_about (Alone t.wish) v ≡ [] → RestsAlone sizes x u × (spares_in x ≡ head ∷ [])
+took_rests sizes now v x t u answer head e same a none =
+    let ends : answer ≢ Going = λ goes. absurd (grind arith) in (
+      subst (λ z. RestsAlone z x u) same (a.rests ends),
+      a.spares ends ∙ (ap (λ k. spares_after k (spares_about (Alone t.wish) v)) e ∙ ap (λ list. list ++ head ∷ []) none),
+    )
 
 pub alone_can : (sizes : Sizes) (v : SeatView) (t : TransferView) → GoesAlone sizes v t → CanStep sizes (Alone t.wish) v
 alone_can sizes v t goes = goes.can

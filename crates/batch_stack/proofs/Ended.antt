@@ -1,11 +1,9 @@
 -- what the end of a transfer tells: the batch of a take is whole, and a take that found nothing met an empty stack
-use Rattle.std.proofs.Common.{◌≡◌, ◌≢◌, ℕ, ◌+◌, ◌<◌, ◌≤◌, Bool, true, false, List, [], ◌∷◌, ◌++◌, length, refl, sym, ap, ◌∙◌, subst, arith}
+use Rattle.std.proofs.Common.{◌≡◌, ◌≢◌, ℕ, ◌<◌, ◌≤◌, Bool, true, false, List, [], ◌∷◌, ◌++◌, length, refl, sym, ap, ◌∙◌, subst, arith}
 use Rattle.std.specs.Prelude.{slice_index}
 use Rattle.std.proofs.Math.Seq.{get_or-append_seam}
 use Rattle.std.proofs.lemmas.Bool.{false≢true}
 use Rattle.std.proofs.lemmas.List.{length-append}
-use mathlib.Core.Option.{some}
-use lib.ListN.{get_elem?}
 use Rattle.word_layout.specs.Sizes.{Sizes}
 use Rattle.word_layout.specs.Names.{word_at}
 use Rattle.word_layout.specs.Packing.{value_of, reply_of}
@@ -16,7 +14,7 @@ use Rattle.transfer_machine.specs.States.{StackState}
 use Rattle.transfer_machine.specs.declared.stage.NextStep.{NextStep}
 use Rattle.transfer_machine.specs.declared.stage.NextStep.TheVariants.{Rest, Announce, Try, LoadFinalState, LoadReply}
 use Rattle.transfer_machine.specs.declared.transfer.TransferView.{TransferView}
-use Rattle.transfer_invariant.specs.Memory.{Words, States, state_tag}
+use Rattle.transfer_invariant.specs.Memory.{Words, state_tag}
 use Rattle.transfer_invariant.specs.Progress.{has_announced}
 use Rattle.helping_invariant.specs.Parts.{has_tried}
 use Rattle.transfer_schedule.specs.Numbers.{is_taking}
@@ -29,7 +27,7 @@ use Rattle.pool_machine.specs.declared.call.CallStage.TheVariants.{Between, Movi
 use Rattle.pool_machine.specs.declared.view.PoolView.{PoolView}
 use Rattle.pool_machine.specs.declared.view.ProcessView.{ProcessView}
 use Rattle.batch_invariant.specs.Batches.{ProcessViews}
-use Rattle.chain_invariant.specs.Chains.{BlockLists, Chains, IsChainOf, times_pooled}
+use Rattle.chain_invariant.specs.Chains.{BlockLists, Chains, times_pooled}
 use Rattle.stack_invariant.specs.Emptied.{MetNothing}
 use Rattle.chain_invariant.proofs.Gives.{heads_are_apart}
 use Rattle.chain_invariant.proofs.Pool.{spare_pooled}
@@ -45,13 +43,13 @@ use Rattle.interleaving_core.proofs.Standing.{number_holds}
 use Rattle.interleaving_core.proofs.StateLaws.{empty_takes, empty_takes_had_few, tries_applied}
 use Rattle.pool_table.specs.declared.about.About.{About}
 use Rattle.pool_table.specs.Minds.{Mind, number_of}
-use Rattle.pool_table.specs.Rule.{Holds, views_of}
+use Rattle.pool_table.specs.Rule.{views_of}
 use Rattle.pool_table.specs.Turns.{turning}
 use Rattle.pool_table.specs.Views.{SeatView}
 use Rattle.pool_table.specs.Steps.{CanStep, CanMeetNext, Stepped, answered}
-use Rattle.pool_table.specs.Transfers.{Agrees, transfer_about}
+use Rattle.pool_table.specs.Transfers.{Agrees}
 use Rattle.pool_table.proofs.Steps.{next_step_allowed}
-use Rattle.pool_table.proofs.Transfers.{DueOn, due_on, transfer_steps}
+use Rattle.pool_table.proofs.Transfers.{due_on}
 use Rattle.pool_table.proofs.Turns.{seat_of}
 use Rattle.batch_stack.specs.declared.progress.Progress.{Progress}
 use Rattle.batch_stack.specs.declared.progress.Progress.TheVariants.{Going, Took, Empty, Gave}

@@ -1,5 +1,5 @@
 -- a step of a transfer keeps the spares of its process but for a batch that it took, and after the last one the process is at rest
-use Rattle.std.proofs.Common.{◌≡◌, ◌≢◌, ℕ, Bool, true, false, List, refl, sym, ap, ◌∙◌, subst, arith}
+use Rattle.std.proofs.Common.{◌≡◌, ◌≢◌, ℕ, Bool, true, false, refl, sym, ap, ◌∙◌, arith}
 use Rattle.std.specs.Prelude.{if◌then◌else◌, ◌&&◌}
 use Rattle.std.proofs.lemmas.Bool.{false≢true}
 use Rattle.word_layout.specs.Sizes.{Sizes}
@@ -29,8 +29,8 @@ use Rattle.pool_table.specs.Steps.{CanStep, Stepped}
 use Rattle.pool_table.specs.Transfers.{Agrees}
 use Rattle.pool_table.proofs.Transfers.{transfer_steps}
 use Rattle.batch_stack.specs.declared.progress.Progress.{Progress}
-use Rattle.batch_stack.specs.declared.progress.Progress.TheVariants.{Going, Took, Empty, Gave}
-use Rattle.batch_stack.specs.Alone.{EndsAtRest, RestsAlone, spares_in, spares_about, spares_after}
+use Rattle.batch_stack.specs.declared.progress.Progress.TheVariants.{Going}
+use Rattle.batch_stack.specs.Alone.{EndsAtRest, spares_in, spares_about, spares_after}
 use Rattle.batch_stack.specs.Running.{ended_as, progress_at}
 use Rattle.batch_stack.proofs.Ended.{pool_becomes, ends_at}
 

@@ -1,5 +1,5 @@
 -- a process that makes transfers outside any call: in one of them, and between two
-use Rattle.std.specs.Prelude.{◌≡◌, ℕ, true, List, [], ◌∷◌, ◌++◌}
+use Rattle.std.specs.Prelude.{◌≡◌, ◌≢◌, ℕ, true, List, [], ◌∷◌, ◌++◌}
 use Rattle.word_layout.specs.Sizes.{Sizes}
 use Rattle.transfer_machine.specs.declared.stage.NextStep.TheVariants.{Rest}
 use Rattle.transfer_machine.specs.declared.transfer.TransferView.{TransferView}
@@ -46,3 +46,10 @@ spares_after Gave spares = spares
 abbrev pub EndsAtRest : Sizes → About → SeatView → TransferView → Type 0
 EndsAtRest sizes (Alone wish) x u = RestsAlone sizes x u
 EndsAtRest sizes (InCall call) x u = u.next ≡ Rest
+
+-- a process made steps of this transfer alone: it goes on with the spares that it had, or it is at rest, with a batch that it took besides
+pub record Advanced (sizes : Sizes) (v : SeatView) (t : TransferView) (x : SeatView) (u : TransferView) (answer : Progress) : Type 0 where
+  pub goes : answer ≡ Going → GoesAlone sizes x u
+  pub kept : answer ≡ Going → spares_about (Alone u.wish) x ≡ spares_about (Alone t.wish) v
+  pub rests : answer ≢ Going → RestsAlone sizes x u
+  pub spares : answer ≢ Going → spares_in x ≡ spares_after answer (spares_about (Alone t.wish) v)
