@@ -59,10 +59,10 @@ spares_counted sizes v t r =
 at_rest : (sizes : Sizes) (v : SeatView) (t : TransferView) → RestsAlone sizes v t → is_rest v.mind.view.transfer.next ≡ true
 at_rest sizes v t r = ap (λ (u : TransferView). is_rest u.next) r.same ∙ ap is_rest r.rest
 
-turns_at_rest : (wish : Wish) (v : ProcessView) → is_rest v.transfer.next ≡ true → moving_view wish v ≡ alone_begun wish v
+pub turns_at_rest : (wish : Wish) (v : ProcessView) → is_rest v.transfer.next ≡ true → moving_view wish v ≡ alone_begun wish v
 turns_at_rest wish v rest = rw rest refl
 
-turns_busy : (wish : Wish) (v : ProcessView) → is_rest v.transfer.next ≡ false → moving_view wish v ≡ v
+pub turns_busy : (wish : Wish) (v : ProcessView) → is_rest v.transfer.next ≡ false → moving_view wish v ≡ v
 turns_busy wish v busy = rw busy refl
 
 -- what begins at rest

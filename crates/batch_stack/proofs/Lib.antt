@@ -5,3 +5,4 @@ pub mod Ended
 pub mod Parts
 pub mod Resting
 pub mod Alone
+pub mod InTry

@@ -1,6 +1,7 @@
 -- a process that makes transfers outside any call: in one of them, and between two
 use Rattle.std.specs.Prelude.{◌≡◌, ◌≢◌, ℕ, true, List, [], ◌∷◌, ◌++◌}
 use Rattle.word_layout.specs.Sizes.{Sizes}
+use Rattle.word_layout.specs.declared.announced.Wish.TheVariants.{Take}
 use Rattle.transfer_machine.specs.declared.stage.NextStep.TheVariants.{Rest}
 use Rattle.transfer_machine.specs.declared.transfer.TransferView.{TransferView}
 use Rattle.pool_machine.specs.Conditions.{may_use_transfers}
@@ -10,6 +11,7 @@ use Rattle.pool_table.specs.Turns.{turning}
 use Rattle.pool_table.specs.Views.{SeatView}
 use Rattle.pool_table.specs.Steps.{Among, CanStep}
 use Rattle.pool_table.specs.Transfers.{Agrees}
+use Rattle.versioned_records.specs.Reading.{Reading, CanReadOn}
 use Rattle.batch_stack.specs.declared.progress.Progress.{Progress}
 use Rattle.batch_stack.specs.declared.progress.Progress.TheVariants.{Going, Took, Empty, Gave}
 
@@ -26,6 +28,10 @@ pub record RestsAlone (sizes : Sizes) (v : SeatView) (t : TransferView) : Type 0
   pub same : v.mind.view.transfer ≡ t
   pub rest : t.next ≡ Rest
   pub among : Among v
+
+-- a process outside any call loads this reader's next word next
+pub record ReadsAlone (v : SeatView) (r : Reading) : Type 0 where
+  pub on : CanReadOn r.sizes (Alone Take) v r
 
 -- the heads of its spares, the newest last
 abbrev pub spares_in : SeatView → List ℕ

@@ -20,6 +20,8 @@ use step_counter::{Kept, Steps};
 use transfer_machine::Action;
 use word_layout::Shape;
 
+mod making;
+mod records;
 mod stale;
 mod takes;
 mod threads;
@@ -113,7 +115,7 @@ fn begin_give(rt: &impl Abort, transfer: &mut Transfer, seat: &PoolSeat, head: u
 }
 
 /// A take of a process at the opening.
-fn take(
+fn begun_take(
     rt: &impl Abort,
     alloc: Global,
     shape: &Shape,

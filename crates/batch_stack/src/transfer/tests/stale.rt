@@ -1,69 +1,11 @@
 // A stale helper: it loaded a state that two later ones have replaced.
-ghost use Rattle.std.specs.Prelude.{◌≡◌, [], ◌∷◌};
-ghost use Rattle.word_layout.specs.Names.{table_words};
-ghost use Rattle.word_table.specs.Seats.{SameSeat};
-ghost use Rattle.batch_stack.specs.Alone.{RestsAlone, spares_in};
-
-use super::{
-    begin_give, begin_take, first_spare, has_given, make, make_part, open, open_two, take,
-};
+use super::making::{give, take};
+use super::{begun_take, first_spare, make, make_part, open, open_two};
 use crate::progress::Progress;
-use crate::transfer::Transfer;
-use pool_table::{PoolSeat, PoolTable};
 use std::alloc::Global;
 use std::process::Abort;
 use std::test::Fail;
 use word_layout::Shape;
-
-/// A whole give of the one spare, on these words.
-fn give_on(
-    rt: &impl Abort,
-    transfer: &mut Transfer,
-    table: &PoolTable,
-    seat: &mut PoolSeat,
-    head: u32,
-    words: &[u64],
-)
-    requires seat { seat.old.table ≡ table.now }
-    requires words { table.now.words ≡ table_words transfer.old.sizes }
-    requires rests { RestsAlone transfer.old.sizes seat.old.view transfer.old.part }
-    requires spare { spares_in seat.old.view ≡ head ∷ [] }
-    ensures sizes { transfer.new.sizes ≡ transfer.old.sizes }
-    ensures seat { SameSeat seat.old seat.new }
-    ensures rests { RestsAlone transfer.old.sizes seat.new.view transfer.new.part }
-    ensures spares { spares_in seat.new.view ≡ [] }
-{
-    begin_give(rt, transfer, seat, head);
-    let progress = make(rt, transfer, table, seat, words);
-    if !has_given(progress) {
-        panic!(rt; "the give ends otherwise");
-    }
-}
-
-/// A whole take of a process with no spare, on these words: the batch that it got.
-fn take_on(
-    rt: &impl Abort,
-    transfer: &mut Transfer,
-    table: &PoolTable,
-    seat: &mut PoolSeat,
-    words: &[u64],
-) -> u32
-    requires seat { seat.old.table ≡ table.now }
-    requires words { table.now.words ≡ table_words transfer.old.sizes }
-    requires rests { RestsAlone transfer.old.sizes seat.old.view transfer.old.part }
-    requires spares { spares_in seat.old.view ≡ [] }
-    ensures sizes { transfer.new.sizes ≡ transfer.old.sizes }
-    ensures seat { SameSeat seat.old seat.new }
-    ensures rests { RestsAlone transfer.old.sizes seat.new.view transfer.new.part }
-    ensures spare { spares_in seat.new.view ≡ result ∷ [] }
-{
-    begin_take(rt, transfer, seat);
-    let progress = make(rt, transfer, table, seat, words);
-    match progress {
-        Progress::Took(head) => head,
-        Progress::Going | Progress::Empty | Progress::Gave => panic!(rt; "a take gets nothing"),
-    }
-}
 
 /// Process 1 stops in a take before it writes slot 0, process 0 takes and gives the one batch meanwhile, and process 1 goes on.
 fn stop_and_go_on(
@@ -76,18 +18,18 @@ fn stop_and_go_on(
     let shape = Shape::new(2, 4, 0)?;
     let (table, mut first, mut second) = open_two(alloc, &shape)?;
     let mut giving = open(alloc, &shape, 0, &first, 2)?;
-    let mut stale = take(rt, alloc, &shape, 1, &second, 0)?;
-    give_on(
+    let mut stale = begun_take(rt, alloc, &shape, 1, &second, 0)?;
+    give(
         rt,
         &mut giving,
         &table,
         &mut first,
         first_spare(&shape),
-        gives[0],
+        Some(gives[0]),
     );
     make_part(rt, &mut stale, &table, &mut second, stopped[0]);
-    let head = take_on(rt, &mut giving, &table, &mut first, takes);
-    give_on(rt, &mut giving, &table, &mut first, head, gives[1]);
+    let head = take(rt, &mut giving, &table, &mut first, Some(takes));
+    give(rt, &mut giving, &table, &mut first, head, Some(gives[1]));
     let end = make(rt, &mut stale, &table, &mut second, stopped[1]);
     Ok((head, end))
 }

@@ -1,5 +1,5 @@
 // Takes at the opening, each step with its word: a process alone, and one beside another that stopped.
-use super::{make, make_part, open_two, run, take};
+use super::{begun_take, make, make_part, open_two, run};
 use crate::progress::Progress;
 use pool_table::open_table;
 use std::alloc::Global;
@@ -16,7 +16,7 @@ fn take_alone(
 ) -> Result<Progress, Fail> {
     let shape = Shape::new(1, batches, 0)?;
     let (table, mut seat) = open_table(alloc, &shape)?;
-    let mut transfer = take(rt, alloc, &shape, 0, &seat, 1)?;
+    let mut transfer = begun_take(rt, alloc, &shape, 0, &seat, 1)?;
     Ok(make(rt, &mut transfer, &table, &mut seat, words))
 }
 
@@ -46,8 +46,8 @@ fn a_lone_take_that_finds_nothing(rt: HostRuntime) -> Result<(), Fail> {
 fn take_beside(rt: &impl Abort, alloc: Global, made: u32) -> Result<(u32, Progress), Fail> {
     let shape = Shape::new(2, 6, 0)?;
     let (table, mut first, mut second) = open_two(alloc, &shape)?;
-    let mut stopped = take(rt, alloc, &shape, 0, &first, 2)?;
-    let mut taking = take(rt, alloc, &shape, 1, &second, 0)?;
+    let mut stopped = begun_take(rt, alloc, &shape, 0, &first, 2)?;
+    let mut taking = begun_take(rt, alloc, &shape, 1, &second, 0)?;
     let (count, _) = run(&mut stopped, &table, &mut first, made);
     let (_, end) = run(&mut taking, &table, &mut second, 47);
     Ok((count, end))
@@ -72,8 +72,8 @@ fn help(
 ) -> Result<(Progress, Progress), Fail> {
     let shape = Shape::new(2, 6, 0)?;
     let (table, mut first, mut second) = open_two(alloc, &shape)?;
-    let mut announced = take(rt, alloc, &shape, 0, &first, 2)?;
-    let mut helping = take(rt, alloc, &shape, 1, &second, 0)?;
+    let mut announced = begun_take(rt, alloc, &shape, 0, &first, 2)?;
+    let mut helping = begun_take(rt, alloc, &shape, 1, &second, 0)?;
     make_part(rt, &mut announced, &table, &mut first, &[16777216]);
     let helper = make(rt, &mut helping, &table, &mut second, helpers);
     let end = make(rt, &mut announced, &table, &mut first, helped);

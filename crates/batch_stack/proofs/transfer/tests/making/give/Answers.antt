@@ -1,6 +1,6 @@
 use Rattle.std.proofs.Common.{refl}
 use Rattle.batch_stack.proofs.Alone.{gave_rests}
-use Rattle.batch_stack.proofs.transfer.tests.threads.give.Goals as goal
+use Rattle.batch_stack.proofs.transfer.tests.making.give.Goals as goal
 
 pub returns-clause-rests : goal.returns-clause-rests
 returns-clause-rests g c =

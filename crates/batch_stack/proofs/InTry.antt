@@ -1,0 +1,97 @@
+-- a process in the middle of a try outside any call goes on whatever wish is named, and so does a reader of the record that it loads
+use Rattle.std.proofs.Common.{◌≡◌, ℕ, Bool, true, false, refl, sym, ap, ◌∙◌, subst, arith}
+use Rattle.word_layout.specs.Sizes.{Sizes}
+use Rattle.word_layout.specs.declared.announced.Wish.{Wish}
+use Rattle.word_layout.specs.declared.announced.Wish.TheVariants.{Take}
+use Rattle.transfer_machine.specs.Loads.{loaded_tag, loaded_record}
+use Rattle.transfer_machine.specs.Stages.{is_rest}
+use Rattle.transfer_machine.specs.declared.stage.NextStep.TheVariants.{Announce, Try}
+use Rattle.transfer_machine.specs.declared.stage.TryStep.{TryStep}
+use Rattle.transfer_machine.specs.declared.stage.TryStep.TheVariants.{LoadRecordWord}
+use Rattle.transfer_machine.specs.declared.transfer.TransferView.{TransferView}
+use Rattle.pool_machine.specs.declared.view.ProcessView.{ProcessView}
+use Rattle.interleaving_core.specs.Moves.{may_go_alone}
+use Rattle.interleaving_core.specs.TransferLaws.{moves_transfer}
+use Rattle.pool_table.specs.declared.about.About.TheVariants.{Alone}
+use Rattle.pool_table.specs.Views.{SeatView}
+use Rattle.pool_table.specs.Steps.{CanStep}
+use Rattle.pool_table.specs.Transfers.{Agrees}
+use Rattle.versioned_records.specs.declared.load.ReadStep.{ReadStep}
+use Rattle.versioned_records.specs.Reading.{Reading, CanReadOn, HasReadOn, opened, begun}
+use Rattle.batch_stack.specs.Alone.{GoesAlone, ReadsAlone}
+use Rattle.batch_stack.specs.Running.{Running, IsInTry}
+use Rattle.batch_stack.proofs.Alone.{turns_at_rest, turns_busy}
+use Rattle.batch_stack.proofs.Parts.{part_loads}
+
+-- a process whose transfer is in a try isn't at rest
+busy_by : (v : SeatView) (t : TransferView) (s : TryStep) (rest : Bool) → is_rest v.mind.view.transfer.next ≡ rest
+    → Agrees (Alone t.wish) v t → IsInTry t s → rest ≡ false
+busy_by v t s false e agrees (second, tries) = refl
+busy_by v t s true e agrees (second, tries) =
+    let turns = turns_at_rest t.wish v.mind.view e in
+    let begins : t.next ≡ Announce = ap (λ (u : TransferView). u.next) (sym agrees.same) ∙ ap (λ (z : ProcessView). z.transfer.next) turns in
+    absurd (grind (arith, begins, tries))
+
+is_busy : (sizes : Sizes) (v : SeatView) (t : TransferView) (s : TryStep) → GoesAlone sizes v t → IsInTry t s
+    → is_rest v.mind.view.transfer.next ≡ false
+is_busy sizes v t s goes tries = busy_by v t s (is_rest v.mind.view.transfer.next) refl goes.agrees tries
+
+-- so it may make its next step whatever wish is named
+may_go_busy : (wish next : Wish) (v : ProcessView) → is_rest v.transfer.next ≡ false → may_go_alone wish v ≡ true
+    → may_go_alone next v ≡ true
+may_go_busy wish next v busy may = let goes = rw busy at may in rw busy goes
+
+pub any_wish_can : (sizes : Sizes) (v : SeatView) (t : TransferView) (s : TryStep) (next : Wish) → GoesAlone sizes v t → IsInTry t s
+    → CanStep sizes (Alone next) v
+any_wish_can sizes v t s next goes tries =
+    let can = goes.can in
+    record {
+      of_process = can.of_process;
+      shape = can.shape;
+      may = may_go_busy t.wish next v.mind.view (is_busy sizes v t s goes tries) can.may;
+      among = can.among;
+    }
+
+pub any_wish_agrees : (sizes : Sizes) (v : SeatView) (t : TransferView) (s : TryStep) (next : Wish) → GoesAlone sizes v t → IsInTry t s
+    → Agrees (Alone next) v t
+any_wish_agrees sizes v t s next goes tries =
+    let busy = is_busy sizes v t s goes tries in
+    let same = turns_busy next v.mind.view busy ∙ sym (turns_busy t.wish v.mind.view busy) in
+    record {
+      same = ap (λ (z : ProcessView). z.transfer) same ∙ goes.agrees.same;
+      moves = subst (λ z. moves_transfer z ≡ true) (sym same) goes.agrees.moves;
+    }
+
+-- a reader that is begun with the state that the try loaded reads its record, word by word
+pub begun_reads : (sizes : Sizes) (v : SeatView) (t : TransferView) (r s : Reading) (tag row : ℕ) → GoesAlone sizes v t
+    → IsInTry t (LoadRecordWord 0) → tag ≡ loaded_tag t.loaded → row ≡ loaded_record t.loaded → r ≡ opened sizes → s ≡ begun tag row r
+    → ReadsAlone v s
+begun_reads sizes v t r s tag row goes tries tagged placed e begins = subst (ReadsAlone v) (sym begins) (record {
+  on = rw e (λ next. (
+    any_wish_can sizes v t (LoadRecordWord 0) next goes tries,
+    record {
+      going = refl;
+      loads = part_loads (Alone next) v t tag row 0 (any_wish_agrees sizes v t (LoadRecordWord 0) next goes tries) tries tagged placed;
+      same = λ k lt. absurd (omega (arith, lt));
+    },
+  ));
+})
+
+-- the same of a transfer by its fields
+pub begun_reads_seen : (q old : Running) (v : SeatView) (r s : Reading) (tag row : ℕ) → q ≡ old → GoesAlone old.sizes v old.part
+    → IsInTry old.part (LoadRecordWord 0) → tag ≡ loaded_tag q.part.loaded → row ≡ loaded_record q.part.loaded → r ≡ opened q.sizes
+    → s ≡ begun tag row r → ReadsAlone v s
+begun_reads_seen q old v r s tag row e goes tries =
+    begun_reads q.sizes v q.part r s tag row (subst (λ (o : Running). GoesAlone o.sizes v o.part) (sym e) goes)
+    (subst (λ (o : Running). IsInTry o.part (LoadRecordWord 0)) (sym e) tries)
+
+pub reads_on : (v x : SeatView) (r s : Reading) (answer : ReadStep) → HasReadOn (Alone Take) v r x s answer
+    → CanReadOn r.sizes (Alone Take) x s → ReadsAlone x s
+reads_on v x r s answer (word, read) on =
+    record { on = subst (λ z. CanReadOn z (Alone Take) x s) (sym (ap (λ (z : Reading). z.sizes) read.read)) on }
+
+pub read_keeps_sizes : (v x : SeatView) (r s : Reading) (answer : ReadStep) → HasReadOn (Alone Take) v r x s answer → s.sizes ≡ r.sizes
+read_keeps_sizes v x r s answer (word, read) = ap (λ (z : Reading). z.sizes) read.read
+
+pub read_reached : (v x : SeatView) (r s : Reading) (answer : ReadStep) → HasReadOn (Alone Take) v r x s answer → s.reached ≡ answer
+read_reached v x r s answer (word, read) = ap (λ (z : Reading). z.reached) read.read
