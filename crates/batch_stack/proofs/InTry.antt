@@ -1,27 +1,35 @@
 -- a process in the middle of a try outside any call goes on whatever wish is named, and so does a reader of the record that it loads
-use Rattle.std.proofs.Common.{◌≡◌, ℕ, Bool, true, false, refl, sym, ap, ◌∙◌, subst, arith}
+use Rattle.std.proofs.Common.{◌≡◌, ℕ, ◌+◌, ◌<◌, ◌^◌, Bool, true, false, refl, sym, ap, ◌∙◌, subst, arith}
+use Rattle.atomic_table.specs.Seated.{TableId}
+use Rattle.word_table.specs.Seats.{Seated}
 use Rattle.word_layout.specs.Sizes.{Sizes}
+use Rattle.word_layout.specs.Names.{table_words}
 use Rattle.word_layout.specs.declared.announced.Wish.{Wish}
 use Rattle.word_layout.specs.declared.announced.Wish.TheVariants.{Take}
 use Rattle.transfer_machine.specs.Loads.{loaded_tag, loaded_record}
+use Rattle.transfer_machine.specs.Machine.{met_of, CanAct, CanMeet}
 use Rattle.transfer_machine.specs.Stages.{is_rest}
 use Rattle.transfer_machine.specs.declared.stage.NextStep.TheVariants.{Announce, Try}
 use Rattle.transfer_machine.specs.declared.stage.TryStep.{TryStep}
-use Rattle.transfer_machine.specs.declared.stage.TryStep.TheVariants.{LoadRecordWord}
+use Rattle.transfer_machine.specs.declared.stage.TryStep.TheVariants.{LoadRecordWord, LoadAnnouncement}
 use Rattle.transfer_machine.specs.declared.transfer.TransferView.{TransferView}
 use Rattle.pool_machine.specs.declared.view.ProcessView.{ProcessView}
 use Rattle.interleaving_core.specs.Moves.{may_go_alone}
 use Rattle.interleaving_core.specs.TransferLaws.{moves_transfer}
 use Rattle.pool_table.specs.declared.about.About.TheVariants.{Alone}
 use Rattle.pool_table.specs.Views.{SeatView}
-use Rattle.pool_table.specs.Steps.{CanStep}
+use Rattle.pool_table.specs.Steps.{CanStep, MayStep, Stepped}
 use Rattle.pool_table.specs.Transfers.{Agrees}
+use Rattle.pool_table.proofs.Transfers.{transfer_can_act, transfer_can_meet}
+use Rattle.announce.specs.Heard.{LoadsAnnouncement}
 use Rattle.versioned_records.specs.declared.load.ReadStep.{ReadStep}
 use Rattle.versioned_records.specs.Reading.{Reading, CanReadOn, HasReadOn, opened, begun}
+use Rattle.batch_stack.specs.declared.progress.Progress.TheVariants.{Going}
 use Rattle.batch_stack.specs.Alone.{GoesAlone, ReadsAlone}
-use Rattle.batch_stack.specs.Running.{Running, IsInTry}
+use Rattle.batch_stack.specs.Running.{Running, IsInTry, progress_at}
 use Rattle.batch_stack.proofs.Alone.{turns_at_rest, turns_busy}
-use Rattle.batch_stack.proofs.Parts.{part_loads}
+use Rattle.batch_stack.proofs.Bounds.{goes_on}
+use Rattle.batch_stack.proofs.Parts.{part_loads, part_hears}
 
 -- a process whose transfer is in a try isn't at rest
 busy_by : (v : SeatView) (t : TransferView) (s : TryStep) (rest : Bool) → is_rest v.mind.view.transfer.next ≡ rest
@@ -95,3 +103,42 @@ read_keeps_sizes v x r s answer (word, read) = ap (λ (z : Reading). z.sizes) re
 
 pub read_reached : (v x : SeatView) (r s : Reading) (answer : ReadStep) → HasReadOn (Alone Take) v r x s answer → s.reached ≡ answer
 read_reached v x r s answer (word, read) = ap (λ (z : Reading). z.reached) read.read
+
+-- what a step asks that another makes for the transfer
+pub may_step : (q : Running) (table : TableId) (seat : Seated SeatView) (s : TryStep) (steps : ℕ) → seat.table ≡ table
+    → table.words ≡ table_words q.sizes → GoesAlone q.sizes seat.view q.part → IsInTry q.part s → steps + 1 < 2 ^ 64
+    → MayStep q.sizes (Alone Take) table seat steps
+may_step q table seat s steps same whole goes tries room =
+    record { of_table = same; whole = whole; room = room; can = any_wish_can q.sizes seat.view q.part s Take goes tries }
+
+pub hears_there : (q : Running) (v : SeatView) (process : ℕ) → GoesAlone q.sizes v q.part → IsInTry q.part (LoadAnnouncement process)
+    → LoadsAnnouncement (Alone Take) v process
+hears_there q v process goes tries =
+    part_hears (Alone Take) v q.part process (any_wish_agrees q.sizes v q.part (LoadAnnouncement process) Take goes tries) tries
+
+-- a transfer goes on that meets the word of such a step
+module _ (q old : Running) (v x : SeatView) (s : TryStep) (word : ℕ) (e : q ≡ old) (goes_old : GoesAlone old.sizes v old.part)
+    (tries_old : IsInTry old.part s) (stepped : Stepped (Alone Take) v word x) where
+  goes : GoesAlone q.sizes v q.part
+  goes = subst (λ (o : Running). GoesAlone o.sizes v o.part) (sym e) goes_old
+
+  tries : IsInTry q.part s
+  tries = subst (λ (o : Running). IsInTry o.part s) (sym e) tries_old
+
+  can : CanStep q.sizes (Alone Take) v
+  can = any_wish_can q.sizes v q.part s Take goes tries
+
+  agrees : Agrees (Alone Take) v q.part
+  agrees = any_wish_agrees q.sizes v q.part s Take goes tries
+
+  pub may_act : CanAct q.sizes q.part
+  may_act = transfer_can_act q.sizes (Alone Take) v q.part can agrees
+
+  pub may_meet : CanMeet q.sizes q.part word
+  may_meet = transfer_can_meet q.sizes (Alone Take) v x q.part word can agrees stepped
+
+  pub follows : (u : TransferView) → u ≡ met_of q.sizes q.part word → GoesAlone old.sizes x u
+  follows u part =
+      let answered : Going ≡ progress_at q.part.next u.answer = sym (ap (λ n. progress_at n u.answer) tries.1) in
+      let on = (goes_on q.sizes (Alone Take) v x q.part u word Going can agrees stepped part answered refl).goes u.wish in
+      subst (λ (o : Running). GoesAlone o.sizes x u) e (record { can = on.0; agrees = on.1 })

@@ -20,6 +20,7 @@ use step_counter::{Kept, Steps};
 use transfer_machine::Action;
 use word_layout::Shape;
 
+mod announcements;
 mod making;
 mod records;
 mod stale;

@@ -1,0 +1,109 @@
+// The announcements of all processes, heard in the place of a transfer's own steps.
+ghost use Rattle.std.specs.Prelude.{◌≡◌, ◌+◌, IsTrue};
+ghost use Rattle.word_layout.specs.Names.{table_words};
+ghost use Rattle.word_layout.specs.Packing.{FitsAnnounced};
+ghost use Rattle.word_table.specs.Seats.{SameSeat};
+ghost use Rattle.transfer_machine.specs.declared.stage.TryStep.TheVariants.{LoadAnnouncement};
+ghost use Rattle.batch_stack.specs.Alone.{GoesAlone};
+ghost use Rattle.batch_stack.specs.Running.{IsInTry};
+
+use super::{begun_take, make, make_part, open_two};
+use crate::progress::Progress;
+use crate::transfer::Transfer;
+use announce::AnnounceReader;
+use pool_table::{PoolSeat, PoolTable};
+use std::alloc::Global;
+use std::process::Abort;
+use std::test::Fail;
+use step_counter::{Kept, Steps};
+use transfer_machine::{NextStep, TryStep};
+use word_layout::{Announced, Shape, Wish};
+
+/// Whether a transfer loads the announcement of this process next.
+fn hears_next(transfer: &Transfer, process: u32) -> bool
+    ensures { IsTrue result → IsInTry transfer.now.part (LoadAnnouncement process) }
+{
+    match transfer.view.next {
+        NextStep::Try {
+            step: TryStep::LoadAnnouncement { process: next },
+            ..
+        } => next == process,
+        _ => false,
+    }
+}
+
+/// Whether a process announces a take.
+fn is_take(announced: Announced) -> bool
+    ensures { IsTrue result → FitsAnnounced announced }
+{
+    match announced.wish {
+        Wish::Take => announced.number <= 1 << 32,
+        Wish::Give(_) => false,
+    }
+}
+
+/// Hears that this process, whose announcement the transfer loads next, announces a take: the number of that.
+fn hear(
+    rt: &impl Abort,
+    transfer: &mut Transfer,
+    reader: &mut AnnounceReader,
+    process: u32,
+    table: &PoolTable,
+    seat: &mut PoolSeat,
+) -> u64
+    requires seat { seat.old.table ≡ table.now }
+    requires words { table.now.words ≡ table_words transfer.old.sizes }
+    requires reader { reader.old ≡ record { sizes = transfer.old.sizes; process = process } }
+    requires goes { GoesAlone transfer.old.sizes seat.old.view transfer.old.part }
+    ensures sizes { transfer.new.sizes ≡ transfer.old.sizes }
+    ensures seat { SameSeat seat.old seat.new }
+    ensures reader { reader.new ≡ record { sizes = transfer.old.sizes; process = process + 1 } }
+    ensures goes { GoesAlone transfer.old.sizes seat.new.view transfer.new.part }
+{
+    if !hears_next(transfer, process) {
+        panic!(rt; "another word is loaded next");
+    }
+    let announced = reader.step(table, seat, None, &mut Steps::new(Kept::new()));
+    if !is_take(announced) {
+        panic!(rt; "no take is announced");
+    }
+    transfer.view.meet(&transfer.shape, announced.pack());
+    announced.number
+}
+
+/// Process 0 announces a take, and a reader of the announcements stands in for process 1's own loads in its take: the numbers that it hears,
+/// and how the take ends.
+fn hear_both(
+    rt: &impl Abort,
+    alloc: Global,
+    before: &[u64],
+    between: &[u64],
+    after: &[u64],
+) -> Result<([u64; 2], Progress), Fail> {
+    let shape = Shape::new(2, 6, 0)?;
+    let (table, mut first, mut second) = open_two(alloc, &shape)?;
+    let mut announced = begun_take(rt, alloc, &shape, 0, &first, 2)?;
+    let mut helping = begun_take(rt, alloc, &shape, 1, &second, 0)?;
+    make_part(rt, &mut announced, &table, &mut first, &[16777216]);
+    make_part(rt, &mut helping, &table, &mut second, before);
+    let mut reader = AnnounceReader::open(&shape);
+    let one = hear(rt, &mut helping, &mut reader, 0, &table, &mut second);
+    make_part(rt, &mut helping, &table, &mut second, between);
+    let other = hear(rt, &mut helping, &mut reader, 1, &table, &mut second);
+    let end = make(rt, &mut helping, &table, &mut second, after);
+    Ok(([one, other], end))
+}
+
+#[test]
+fn the_announcements_are_heard_in_order(rt: HostRuntime) -> Result<(), Fail> {
+    let before = [
+        16777216, 16777220, 16777218, 16777216, 16777216, 16777216, 16777216, 16777216,
+    ];
+    let after = [
+        24, 33554432, 33554432, 33554432, 33554432, 41943071, 41943065, 16777220, 33554434,
+        41943065,
+    ];
+    let heard = hear_both(&rt, rt.alloc(), &before, &[30], &after)?;
+    assert_eq!(rt; heard, ([1, 1], Progress::Took(24)));
+    Ok(())
+}
