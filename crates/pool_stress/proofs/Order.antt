@@ -1,12 +1,11 @@
 -- passes that stay in their order
-use Rattle.std.proofs.Common.{◌≡◌, ℕ, zero, suc, ◌<◌, List, [], ◌∷◌, length, get_or, refl, sym, ap, ◌∙◌, subst, arith}
+use Rattle.std.proofs.Common.{ℕ, zero, suc, ◌<◌, List, ◌∷◌, length, ap, ◌∙◌, arith}
 use Rattle.std.specs.Prelude.{slice_index_or}
 use Rattle.std.specs.List.{All}
 use Rattle.block_pool.specs.Passing.{Pooled, Passed, IsOf}
 use Rattle.block_pool.specs.Calls.{SamePass}
-use Rattle.block_pool.specs.Opening.{AreOpenedPasses, opened_pass}
+use Rattle.block_pool.specs.Opening.{AreOpenedPasses}
 use Rattle.block_pool.specs.Closing.{AreAllPasses}
-use Rattle.block_pool.specs.Tested.{IsFresh}
 use Rattle.block_pool.proofs.TestedSlots.{opened_fresh, played_all}
 use Rattle.pool_stress.specs.Order.{StayInOrder}
 
