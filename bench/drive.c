@@ -2,11 +2,14 @@
  *
  *   drive ALLOCATOR THREADS CALLS [QUANTUM]
  *
- * ALLOCATOR: plain (the algorithm of plain_pool.h), mutex (a list of blocks under one lock), treiber (a lock-free stack
- * of blocks), malloc (the C library's, or another one that is preloaded). Each thread makes CALLS calls, at random an
- * allocate or a free, with at most 256 blocks of 64 bytes live. Printed are the nanoseconds a call of the whole run,
- * and the slowest call of all threads, each timed by itself in a second run of a tenth of the calls. */
+ * ALLOCATOR: proved (the static library of bindings/c), plain (its algorithm in plain_pool.h), none (the driver alone: a thread
+ * gets the same block each time), mutex (a list of blocks under one lock), treiber (a lock-free stack of blocks), malloc (the C
+ * library's, or another one that is preloaded). Each thread makes CALLS calls, at random an allocate or a free, with at most
+ * 256 blocks of 64 bytes live. Printed are the nanoseconds of processor time a call of the whole run, which what else the
+ * machine does and sleeping at a lock don't count in, and the slowest call of all threads, each timed by the clock in a second
+ * run of a tenth of the calls; then how many calls were refused. */
 #define _GNU_SOURCE
+#include "../bindings/c/loskebri.h"
 #include "plain_pool.h"
 #include <pthread.h>
 #include <stdio.h>
@@ -31,9 +34,9 @@ struct worker {
     bool timed;
 };
 
-static uint64_t now(void) {
+static uint64_t time_by(clockid_t clock) {
     struct timespec at;
-    clock_gettime(CLOCK_MONOTONIC, &at);
+    clock_gettime(clock, &at);
     return (uint64_t)at.tv_sec * 1000000000u + (uint64_t)at.tv_nsec;
 }
 
@@ -50,11 +53,34 @@ static bool blocks_open(uint32_t count) {
 /* The number that follows block i, plus 1, in a list of all blocks in their order; 0 after the last. */
 static uint32_t following(uint32_t i) { return i + 2 > block_count ? 0 : i + 2; }
 
+/* Enough batches for what the threads hold and what the passes keep. */
+static uint32_t batches_for(uint32_t threads, uint32_t quantum) {
+    uint32_t length = (16 * threads + 15 + quantum - 1) / quantum;
+    return 5 * threads + threads * LIVE / length + 2;
+}
+
+/* A handle is written by each call, so each has cache lines of its own. */
+static struct { _Alignas(128) loskebri_pass pass; } handles[MOST_THREADS];
+static bool proved_opens(uint32_t threads, uint32_t quantum) {
+    loskebri_pass opened[MOST_THREADS] = { 0 };
+    if (loskebri_open(batches_for(threads, quantum), 0, quantum, opened, threads) != LOSKEBRI_DONE) return false;
+    for (uint32_t i = 0; i < threads; i++) handles[i].pass = opened[i];
+    return blocks_open(loskebri_shape(&handles[0].pass).blocks);
+}
+static void *proved_allocates(worker *it) {
+    loskebri_block got = loskebri_allocate(&handles[it->number].pass);
+    return got.status == LOSKEBRI_DONE ? block_at(got.block) : NULL;
+}
+static void proved_releases(worker *it, void *block) { loskebri_free(&handles[it->number].pass, number_of(block)); }
+static void proved_closes(void) {
+    for (uint32_t i = 0; i < MOST_THREADS; i++) loskebri_close(&handles[i].pass);
+    free(blocks);
+}
+
 static plain_pool pool;
 static plain_pass *passes;
 static bool plain_opens(uint32_t threads, uint32_t quantum) {
-    uint32_t length = (16 * threads + 15 + quantum - 1) / quantum;
-    passes = plain_open(&pool, threads, 5 * threads + threads * LIVE / length + 2, 0, quantum);
+    passes = plain_open(&pool, threads, batches_for(threads, quantum), 0, quantum);
     return blocks_open(pool.batches * pool.length) && passes;
 }
 static void *plain_allocates(worker *it) {
@@ -120,12 +146,19 @@ static void treiber_releases(worker *it, void *block) {
     while (!atomic_compare_exchange_weak(&top, &seen, ((seen >> 32) + 1) << 32 | (number + 1)));
 }
 
+static bool nothing_opens(uint32_t threads, uint32_t quantum) { (void)quantum; return blocks_open(threads); }
+static void *nothing_allocates(worker *it) { return block_at(it->number); }
+static void nothing_releases(worker *it, void *block) { (void)it; (void)block; }
+static void nothing_closes(void) { free(blocks); }
+
 static bool malloc_opens(uint32_t threads, uint32_t quantum) { (void)threads; (void)quantum; return true; }
 static void *malloc_allocates(worker *it) { (void)it; return malloc(BLOCK_BYTES); }
 static void malloc_releases(worker *it, void *block) { (void)it; free(block); }
 static void malloc_closes(void) {}
 
 static const allocator allocators[] = {
+    { "proved", proved_opens, proved_allocates, proved_releases, proved_closes },
+    { "none", nothing_opens, nothing_allocates, nothing_releases, nothing_closes },
     { "plain", plain_opens, plain_allocates, plain_releases, plain_closes },
     { "mutex", list_opens, mutex_allocates, mutex_releases, list_closes },
     { "treiber", treiber_opens, treiber_allocates, treiber_releases, treiber_closes },
@@ -138,26 +171,26 @@ static void *work(void *given) {
     for (uint64_t i = 0; i < it->calls; i++) {
         it->seed ^= it->seed << 13; it->seed ^= it->seed >> 7; it->seed ^= it->seed << 17;
         void **slot = &held[it->seed % LIVE];
-        uint64_t began = it->timed ? now() : 0;
+        uint64_t began = it->timed ? time_by(CLOCK_MONOTONIC) : 0;
         if (*slot) { it->with->release(it, *slot); *slot = NULL; }
         else if (!(*slot = it->with->allocate(it))) it->refused++;
-        if (it->timed) { uint64_t took = now() - began; if (took > it->slowest) it->slowest = took; }
+        if (it->timed) { uint64_t took = time_by(CLOCK_MONOTONIC) - began; if (took > it->slowest) it->slowest = took; }
     }
     for (uint32_t i = 0; i < LIVE; i++) if (held[i]) it->with->release(it, held[i]);
     return NULL;
 }
 
-/* Nanoseconds of one run; the slowest call and the refusals go to the workers. */
+/* Nanoseconds of processor time of one run, all threads together; the slowest call and the refusals go to the workers. */
 static uint64_t run(const allocator *with, uint32_t threads, uint64_t calls, uint32_t quantum, bool timed, worker *workers) {
     pthread_t started[MOST_THREADS];
     if (!with->open(threads, quantum)) { fprintf(stderr, "no memory\n"); exit(1); }
-    uint64_t began = now();
+    uint64_t began = time_by(CLOCK_PROCESS_CPUTIME_ID);
     for (uint32_t i = 0; i < threads; i++) {
         workers[i] = (worker){ .with = with, .number = i, .calls = calls, .seed = 88172645463325252u + i, .timed = timed };
         if (pthread_create(&started[i], NULL, work, &workers[i])) { fprintf(stderr, "no thread\n"); exit(1); }
     }
     for (uint32_t i = 0; i < threads; i++) pthread_join(started[i], NULL);
-    uint64_t took = now() - began;
+    uint64_t took = time_by(CLOCK_PROCESS_CPUTIME_ID) - began;
     with->close();
     return took;
 }
@@ -174,7 +207,7 @@ int main(int count, char **words) {
         for (uint32_t i = 0; i < threads; i++) refused += workers[i].refused;
         run(&allocators[k], threads, calls / 10, quantum, true, workers);
         for (uint32_t i = 0; i < threads; i++) if (workers[i].slowest > slowest) slowest = workers[i].slowest;
-        printf("%s %u %.1f %llu %llu\n", words[1], threads, (double)took / (double)calls,
+        printf("%s %u %.1f %llu %llu\n", words[1], threads, (double)took / (double)(calls * threads),
                (unsigned long long)slowest, (unsigned long long)refused);
         return 0;
     }

@@ -4,7 +4,8 @@
  * number; the memory that a number stands for is the program's own (example.c), or up to 8 data words that the pool keeps.
  *
  * Handles. Zeroed memory is a closed handle: loskebri_pass passes[8] = {0}. A handle may be moved, and is never copied: after
- * a copy only one of the two may be used. Nothing but these calls writes it.
+ * a copy only one of the two may be used. Nothing but these calls writes it. A call writes its handle, so handles of different
+ * threads are best moved to cache lines of their own once they are open.
  *
  * Threads. A handle is used by one call at a time. Handles of one pool may be used by different threads at once, one each. A
  * handle may go to another thread by a start or join of it, by a lock, or by a seq_cst atomic. No call is made from a signal

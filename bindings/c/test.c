@@ -79,6 +79,8 @@ static int alone(void) {
     CHECK(loskebri_write(&p[0], a.block, 1, 99) == LOSKEBRI_DONE);
     CHECK(loskebri_read(&p[0], a.block, 1).number == 99);
     CHECK(loskebri_read(&p[0], a.block, 2).status == LOSKEBRI_NO_WORD);
+    CHECK(loskebri_write(&p[0], a.block, 2, 1) == LOSKEBRI_NO_WORD);
+    CHECK(loskebri_read(&p[0], b.block, 0).status == LOSKEBRI_NOT_HELD);
     CHECK(loskebri_write(&p[0], b.block, 0, 1) == LOSKEBRI_NOT_HELD);
     CHECK(loskebri_free(&p[0], b.block) == LOSKEBRI_NOT_HELD);
     CHECK(loskebri_free(&p[0], 4000000000u) == LOSKEBRI_NOT_HELD);
@@ -89,6 +91,25 @@ static int alone(void) {
     loskebri_close(&p[0]);
     loskebri_close(&p[1]);
     CHECK(loskebri_free(&p[1], b.block) == LOSKEBRI_CLOSED);
+    return 0;
+}
+
+/* One of two processes gets its own twelve of 24 blocks, and then is refused while the other's are unheld. */
+static int dry(void) {
+    loskebri_pass p[2] = {0};
+    uint32_t last = 0;
+    CHECK(loskebri_open(4, 0, 8, p, 2) == LOSKEBRI_DONE);
+    for (int i = 0; i < 12; i++) {
+        loskebri_block a = loskebri_allocate(&p[0]);
+        CHECK(a.status == LOSKEBRI_DONE);
+        last = a.block;
+    }
+    CHECK(loskebri_allocate(&p[0]).status == LOSKEBRI_DRY);
+    CHECK(loskebri_holding(&p[0]).number == 12);
+    CHECK(loskebri_free(&p[0], last) == LOSKEBRI_DONE);
+    CHECK(loskebri_allocate(&p[0]).block == last);
+    loskebri_close(&p[0]);
+    loskebri_close(&p[1]);
     return 0;
 }
 
@@ -109,7 +130,7 @@ static int threads(void) {
 }
 
 int main(void) {
-    if (refused() || closed() || alone() || threads()) return 1;
+    if (refused() || closed() || alone() || dry() || threads()) return 1;
     puts("test: ok");
     return 0;
 }

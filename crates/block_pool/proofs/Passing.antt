@@ -21,7 +21,7 @@ use Rattle.block_pool.specs.declared.pool.Answer.TheVariants as answer
 use Rattle.block_pool.specs.declared.process.Process.{Process}
 use Rattle.block_pool.specs.Moves.{PlanRuns}
 use Rattle.block_pool.specs.Passing.{Passed, BetweenCalls, pass_of}
-use Rattle.block_pool.specs.Calls.{SamePass, Counted, Entered, HasNoBlock, PlanMoved, Allocated, CallMade, PoolCalled}
+use Rattle.block_pool.specs.Calls.{SamePass, Counted, Entered, HasNoBlock, PlanMoved, Allocated, CallMade, PoolCalled, WordCalled}
 use Rattle.block_pool.proofs.Standing.{stands}
 
 -- which pass it is
@@ -119,30 +119,28 @@ same_passed a b table sizes number seen mine held known plan age moves = λ i. r
 }
 
 -- a read or a write
-short_call : (sizes : Sizes) (call : Call) (x y : Process) (known : List KnownWord) → SameSeat x.seat y.seat
-    → BetweenCalls sizes x → BetweenCalls sizes y → CallMade call [] 0 x.seat.view y.seat.view → y.transfer ≡ x.transfer → y.pool ≡ x.pool
-    → words_by_call (Some call) x.seat.view.mind.known ≡ known
+word_called : (sizes : Sizes) (call : Call) (before after : ℕ) (x y : Process) (known : List KnownWord) → BetweenCalls sizes x
+    → WordCalled sizes call before after x y → words_by_call (Some call) x.seat.view.mind.known ≡ known
     → pass_of y.seat ≡ record (pass_of x.seat) { known = known; moves = x.seat.view.mind.moves + 1 }
-short_call sizes call x y known same f g made transfer pool knows =
+word_called sizes call before after x y known f called knows =
+    let made = called.made in
     let mine : entries_in y.seat.view.mind ≡ entries_in x.seat.view.mind = made.entries_after ∙ append-nil (entries_in x.seat.view.mind) in
     let moves = made.moves in
     same_passed (pass_of y.seat) (record (pass_of x.seat) { known = known; moves = x.seat.view.mind.moves + 1 })
-    same.0 (ap (λ (v : SeatView). v.sizes) made.stays) made.number made.seen mine (ap grip mine) (made.known ∙ knows)
-    (ap (λ (p : PoolView). p.plan) (g.pool ∙ (pool ∙ sym f.pool)))
-    (ap (λ (t : TransferView). t.age) (g.transfer ∙ (transfer ∙ sym f.transfer))) (omega (arith, moves))
+    called.seat.0 (ap (λ (v : SeatView). v.sizes) made.stays) made.number made.seen mine (ap grip mine) (made.known ∙ knows)
+    (ap (λ (p : PoolView). p.plan) (called.between.pool ∙ (called.pool ∙ sym f.pool)))
+    (ap (λ (t : TransferView). t.age) (called.between.transfer ∙ (called.transfer ∙ sym f.transfer))) (omega (arith, moves))
 
-pub read_so : (sizes : Sizes) (block index : ℕ) (x y : Process) → SameSeat x.seat y.seat → BetweenCalls sizes x → BetweenCalls sizes y
-    → CallMade (Read block index) [] 0 x.seat.view y.seat.view → y.transfer ≡ x.transfer → y.pool ≡ x.pool
-    → pass_of y.seat ≡ record (pass_of x.seat) { moves = x.seat.view.mind.moves + 1 }
-read_so sizes block index x y same f g made transfer pool =
-    short_call sizes (Read block index) x y x.seat.view.mind.known same f g made transfer pool refl
+pub read_so : (sizes : Sizes) (block index before after : ℕ) (x y : Process) → BetweenCalls sizes x
+    → WordCalled sizes (Read block index) before after x y → pass_of y.seat ≡ record (pass_of x.seat) { moves = x.seat.view.mind.moves + 1 }
+read_so sizes block index before after x y f called =
+    word_called sizes (Read block index) before after x y x.seat.view.mind.known f called refl
 
-pub write_so : (sizes : Sizes) (block index value : ℕ) (x y : Process) → SameSeat x.seat y.seat → BetweenCalls sizes x
-    → BetweenCalls sizes y → CallMade (Write block index value) [] 0 x.seat.view y.seat.view → y.transfer ≡ x.transfer → y.pool ≡ x.pool
-    → pass_of y.seat ≡ record (pass_of x.seat) {
+pub write_so : (sizes : Sizes) (block index value before after : ℕ) (x y : Process) → BetweenCalls sizes x
+    → WordCalled sizes (Write block index value) before after x y → pass_of y.seat ≡ record (pass_of x.seat) {
       moves = x.seat.view.mind.moves + 1;
       known = record { block = block; index = index; value = value } ∷ x.seat.view.mind.known;
     }
-write_so sizes block index value x y same f g made transfer pool =
-    short_call sizes (Write block index value) x y (record { block = block; index = index; value = value } ∷ x.seat.view.mind.known)
-    same f g made transfer pool refl
+write_so sizes block index value before after x y f called =
+    word_called sizes (Write block index value) before after x y
+    (record { block = block; index = index; value = value } ∷ x.seat.view.mind.known) f called refl

@@ -71,8 +71,10 @@ pub held_once : (settled : Settlement) → IsLegal (limits_of settled.sizes) set
 held_once settled legal = record {
   of_pool = λ place block there. (shared_at settled legal place).grips.below block there;
   once = λ place block. (shared_at settled legal place).grips.once block;
-  holder = λ place block.
-      (λ there. has_holder settled place block (shared_at settled legal place) there, λ has. is_held settled place block (shared_at settled legal place) has);
+  holder = λ place block. (
+    λ there. has_holder settled place block (shared_at settled legal place) there,
+    λ has. is_held settled place block (shared_at settled legal place) has,
+  );
   one_holder = λ place block i j first second. one_holder settled place block i j (shared_at settled legal place) first second;
 }
 

@@ -1,12 +1,15 @@
 -- what the calls of a pool do to a pass
 use Rattle.std.specs.Prelude.{◌≡◌, ℕ, ◌+◌, ◌<◌, ◌≤◌, ◌↔◌, Option, None, Some, List, [], ◌∷◌, ◌++◌, Contains}
+use Rattle.atomic_table.specs.Seated.{TableId}
 use Rattle.word_layout.specs.Sizes.{Sizes, blocks}
+use Rattle.word_layout.specs.Names.{table_words}
+use Rattle.word_table.specs.Seats.{SameSeat}
 use Rattle.pool_model.specs.declared.entry.Entry.{Entry}
 use Rattle.pool_model.specs.declared.entry.Entry.TheVariants as entry
 use Rattle.pool_model.specs.History.{held, grip_after}
 use Rattle.transfer_schedule.specs.Numbers.{Numbers, after_choice, after_took_one}
 use Rattle.pool_machine.specs.declared.call.Call.{Call}
-use Rattle.pool_table.specs.Minds.{number_of, entries_in}
+use Rattle.pool_table.specs.Minds.{number_of, entries_in, held_in}
 use Rattle.pool_table.specs.Turns.{words_by_call}
 use Rattle.pool_table.specs.Views.{SeatView}
 use Rattle.pool_table.specs.Steps.{SeesMore, SeenAfter}
@@ -14,7 +17,7 @@ use Rattle.block_pool.specs.declared.pool.Answer.{Answer}
 use Rattle.block_pool.specs.declared.pool.Answer.TheVariants.{Got, Dry}
 use Rattle.block_pool.specs.declared.process.Process.{Process}
 use Rattle.block_pool.specs.Moves.{PlanRuns}
-use Rattle.block_pool.specs.Passing.{Passed}
+use Rattle.block_pool.specs.Passing.{Passed, BetweenCalls}
 
 -- a call leaves which pass it is
 pub record SamePass (old new : Passed) : Type 0 where
@@ -35,7 +38,8 @@ pub record Entered (entry : Entry) (old new : Passed) : Type 0 where
   pub seen : SeesMore old.seen new.seen (entry ∷ [])
   pub held : new.held ≡ grip_after old.held entry
 
--- the block that the pass got was free: one of the pool, not held by the pass, and held by nobody in what it has seen from before that entry
+-- the block that the pass got was free: one of the pool, not held by the pass, and in what it has seen from before that entry held by
+-- nobody
 pub record WasFree (block : ℕ) (old new : Passed) : Type 0 where
   pub within : block < blocks old.sizes
   pub not_own : ¬ Contains old.held block
@@ -68,6 +72,18 @@ abbrev pub entry_for : ℕ → Option ℕ → Entry
 entry_for by None = entry.Dry by
 entry_for by (Some block) = entry.Got by block
 
+-- a process may begin a call on this table: its seat is of it, and it is between two calls
+pub record IsReady (sizes : Sizes) (table : TableId) (process : Process) : Type 0 where
+  pub of_table : process.seat.table ≡ table
+  pub whole : table.words ≡ table_words sizes
+  pub between : BetweenCalls sizes process
+
+-- so it may begin a read or a write of a data word: it holds the block, and the index is one of a block's
+pub record MayTouch (sizes : Sizes) (table : TableId) (process : Process) (block index : ℕ) : Type 0 where
+  pub ready : IsReady sizes table process
+  pub held : Contains (held_in process.seat.view.mind) block
+  pub low : index < sizes.words
+
 -- a seat before and after a whole call that makes these entries, with so many steps of the transfer
 pub record CallMade (call : Call) (entries : List Entry) (n : ℕ) (before after : SeatView) : Type 0 where
   pub stays : after ≡ record before { mind = after.mind }
@@ -88,3 +104,12 @@ pub record PoolCalled (sizes : Sizes) (call : Call) (entries : List Entry) (owne
   pub runs : PlanRuns sizes.quantum (after_choice old.pool.plan) moved ran
   pub own : new.pool.plan ≡ owned ran
   pub age : new.transfer.age ≤ old.transfer.age + 1
+
+-- a whole read or write of a process: one step, which leaves its transfer and its pool
+pub record WordCalled (sizes : Sizes) (call : Call) (before after : ℕ) (old new : Process) : Type 0 where
+  pub seat : SameSeat old.seat new.seat
+  pub steps : after ≡ before + 1
+  pub made : CallMade call [] 0 old.seat.view new.seat.view
+  pub transfer : new.transfer ≡ old.transfer
+  pub pool : new.pool ≡ old.pool
+  pub between : BetweenCalls sizes new

@@ -1,6 +1,6 @@
 -- Why a run ends as it does.
-use Rattle.std.proofs.Common.{◌≡◌, ℕ, ◌+◌, ◌-◌, ◌^◌, ◌<◌, ◌≤◌, ◌⊎◌, min, suc, List, [], ◌∷◌, length, refl, sym, ap, ◌∙◌, subst, inl, inr, arith, Some, None, Result, Ok, Err}
-use Rattle.std.specs.Prelude.{Bool, IfOk, Option, fold, slice_get}
+use Rattle.std.proofs.Common.{◌≡◌, ℕ, ◌+◌, ◌-◌, ◌^◌, ◌<◌, ◌≤◌, ◌⊎◌, min, suc, List, [], ◌∷◌, length, refl, sym, ap, ◌∙◌, subst, inl, inr, arith, Some, None}
+use Rattle.std.specs.Prelude.{Bool, Option, fold, slice_get}
 use Rattle.std.proofs.lemmas.Bool.{cases_lt}
 use Rattle.std.proofs.lemmas.Option.{get_or_from_slice_get, slice_get_within}
 use Rattle.std.proofs.lemmas.List.FromFn.{get_or-map-range_with_len, length-map-range_with_len}
@@ -41,7 +41,8 @@ use Rattle.pool_cli.specs.Scripts.{HasScripts, ReadsAll, StopsReading, StopsWith
 use Rattle.pool_cli.specs.Shapes.{IsShapeOf}
 
 -- a fault with no more processes than are counted is the fault for all files
-pub fault_for_all : (n batches words quantum : ℕ) (fault : ShapeFault) → IsFirstFault (min n (2 ^ 32 - 1)) batches words quantum fault → IsFirstFault n batches words quantum fault
+pub fault_for_all : (n batches words quantum : ℕ) (fault : ShapeFault) → IsFirstFault (min n (2 ^ 32 - 1)) batches words quantum fault
+    → IsFirstFault n batches words quantum fault
 fault_for_all n batches words quantum fault first = elim (cases_lt n (2 ^ 32)) [
   | inl lt ↦ subst (λ (m : ℕ). IsFirstFault m batches words quantum fault) (let same : min n (2 ^ 32 - 1) ≡ n = omega arith in same) first
   | inr ge ↦ many n batches words quantum fault ge first
@@ -55,9 +56,11 @@ fault_for_all n batches words quantum fault first = elim (cases_lt n (2 ^ 32)) [
     none n batches words quantum ManyBlocks ge lower has = omega (arith, lower)
     none n batches words quantum WideBlock ge lower has = omega (arith, lower)
 
-    many : (n batches words quantum : ℕ) (fault : ShapeFault) → 2 ^ 32 ≤ n → IsFirstFault (min n (2 ^ 32 - 1)) batches words quantum fault → IsFirstFault n batches words quantum fault
+    many : (n batches words quantum : ℕ) (fault : ShapeFault) → 2 ^ 32 ≤ n
+        → IsFirstFault (min n (2 ^ 32 - 1)) batches words quantum fault → IsFirstFault n batches words quantum fault
     many n batches words quantum NoProcess ge first = absurd (let has : min n (2 ^ 32 - 1) ≡ 0 = first.has in omega arith)
-    many n batches words quantum ManyProcesses ge first = record { has = omega arith; first = λ other lower has. none n batches words quantum other ge lower has }
+    many n batches words quantum ManyProcesses ge first =
+        record { has = omega arith; first = λ other lower has. none n batches words quantum other ge lower has }
     many n batches words quantum FewBatches ge first = absurd (first.first ManyProcesses (omega arith) (omega arith))
     many n batches words quantum BadQuantum ge first = absurd (first.first ManyProcesses (omega arith) (omega arith))
     many n batches words quantum ManyBlocks ge first = absurd (first.first ManyProcesses (omega arith) (omega arith))
@@ -67,18 +70,21 @@ fault_for_all n batches words quantum fault first = elim (cases_lt n (2 ^ 32)) [
 one_script : (size : ℕ) (bytes : List ℕ) (one other : Script) → IsScriptOf size bytes one → IsScriptOf size bytes other → one ≡ other
 one_script size bytes one other p q = by_bytes one p ∙ sym (by_bytes other q)
   where
-    by_bytes : (script : Script) → IsScriptOf size bytes script → script ≡ (fold (after size) (begun (is_cut bytes)) (operations_of bytes)).script
+    by_bytes : (script : Script) → IsScriptOf size bytes script
+        → script ≡ (fold (after size) (begun (is_cut bytes)) (operations_of bytes)).script
     by_bytes script is =
         is.2 ∙ ap (λ (cut : Bool). (fold (after size) (begun cut) is.0.operations).script) is.1.cut
         ∙ ap (λ (operations : List Operation). (fold (after size) (begun (is_cut bytes)) operations).script) is.1.operations
 
 -- a process has one script
-one_script_for : (command : Command) (content : ℕ → List ℕ) (j : ℕ) (one other : Script) → IsScriptFor command content j one → IsScriptFor command content j other → one ≡ other
+one_script_for : (command : Command) (content : ℕ → List ℕ) (j : ℕ) (one other : Script) → IsScriptFor command content j one
+    → IsScriptFor command content j other → one ≡ other
 one_script_for (Play play) content j one other p q = one_script play.size (content j) one other p q
 one_script_for (Drill drill) content j one other p q = p ∙ sym q
 
 -- lists whose items have one fact each, which holds of one item alone, are the same
-one_list : (Is : ℕ → Script → Type 0) → ((j : ℕ) (one other : Script) → Is j one → Is j other → one ≡ other) → (first : ℕ) (ones others : List Script) → length ones ≡ length others
+one_list : (Is : ℕ → Script → Type 0) → ((j : ℕ) (one other : Script) → Is j one → Is j other → one ≡ other)
+    → (first : ℕ) (ones others : List Script) → length ones ≡ length others
     → ((j : ℕ) (script : Script) → slice_get ones j ≡ Some script → Is (first + j) script)
     → ((j : ℕ) (script : Script) → slice_get others j ≡ Some script → Is (first + j) script) → ones ≡ others
 one_list Is one first [] [] long p q = refl
@@ -93,7 +99,8 @@ one_list Is one first (script ∷ ones) (other ∷ others) long p q =
     cc
 
 -- a command has one list of scripts
-one_list_for : (command : Command) (content : ℕ → List ℕ) (ones others : List Script) → AreScriptsFor command content ones → AreScriptsFor command content others → ones ≡ others
+one_list_for : (command : Command) (content : ℕ → List ℕ) (ones others : List Script) → AreScriptsFor command content ones
+    → AreScriptsFor command content others → ones ≡ others
 one_list_for command content ones others p q =
     let none_first : (j : ℕ) → j ≡ 0 + j = λ j. omega arith in
     one_list (IsScriptFor command content) (one_script_for command content) 0 ones others (p.one_each ∙ sym q.one_each)
@@ -101,7 +108,8 @@ one_list_for command content ones others p q =
     (λ j script at. subst (λ (n : ℕ). IsScriptFor command content n script) (none_first j) (q.each j script at))
 
 -- all files were read and all scripts played
-played_all : (told : List ℕ → Option (List ℕ)) (command : Command) (sizes : Sizes) (scripts : List Script) (settled : Settlement) (tallies : List Tally)
+played_all : (told : List ℕ → Option (List ℕ)) (command : Command) (sizes : Sizes) (scripts : List Script) (settled : Settlement)
+    (tallies : List Tally)
     → HasScripts told command scripts → IsSettledBy sizes scripts tallies settled → IsPlayed told command sizes settled tallies
 played_all told command sizes scripts settled tallies has played = record {
   one_each = played.tallied.one_each ∙ has.one_each;
@@ -120,12 +128,15 @@ played_all told command sizes scripts settled tallies has played = record {
 }
 
 -- the run ends with a report of the tallies that were answered
-pub ends_played : (meaning : Option Command) (before now : Outside) (closed : Option Settlement) (Report : List ℕ → Type 0) (command : Command) (sizes : Sizes) (scripts : List Script) (settled : Settlement) (tallies : List Tally)
-    → meaning ≡ Some command → IsShapeOf command sizes → HasScripts before.told command scripts → HasOpened before now (length (files_of command))
-    → closed ≡ Some settled → IsSettledBy sizes scripts tallies settled → Report (report tallies) → EndsPlayed meaning before now closed Report
-ends_played meaning before now closed Report command sizes scripts settled tallies meant asked has opened is_closed played reported = record {
+pub ends_played : (meaning : Option Command) (before now : Outside) (closed : Option Settlement) (Report : List ℕ → Type 0)
+    (command : Command) (sizes : Sizes) (scripts : List Script) (settled : Settlement) (tallies : List Tally)
+    → meaning ≡ Some command → IsShapeOf command sizes → HasScripts before.told command scripts
+    → HasOpened before now (length (files_of command))
+    → closed ≡ Some settled → IsSettledBy sizes scripts tallies settled → Report (report tallies)
+    → EndsPlayed meaning before now closed Report
+ends_played meaning before now closed Report command sizes scripts settled tallies meant asked has opened is played told = record {
   settled = settled;
-  is_closed = is_closed;
+  is_closed = is;
   tallies = tallies;
   gives = record {
     command = command;
@@ -134,11 +145,12 @@ ends_played meaning before now closed Report command sizes scripts settled talli
     played = played_all before.told command sizes scripts settled tallies has played;
   };
   opened = opened;
-  reported = reported;
+  reported = told;
 }
 
 -- the scripts of files that were read are those of a play
-pub read_scripts : (told : List ℕ → Option (List ℕ)) (play : PlayWords) (scripts : List Script) → ReadsAll play.size told play.files scripts → HasScripts told (Play play) scripts
+pub read_scripts : (told : List ℕ → Option (List ℕ)) (play : PlayWords) (scripts : List Script)
+    → ReadsAll play.size told play.files scripts → HasScripts told (Play play) scripts
 read_scripts told play scripts reads = record {
   one_each = reads.1.one_each;
   fine = reads.1.fine;
@@ -146,9 +158,11 @@ read_scripts told play scripts reads = record {
 }
 
 -- and those that were made are those of a drill
-pub made_scripts : (told : List ℕ → Option (List ℕ)) (drill : DrillWords) (scripts : List Script) → scripts ≡ drill_scripts drill.seed drill.calls drill.processes → HasScripts told (Drill drill) scripts
+pub made_scripts : (told : List ℕ → Option (List ℕ)) (drill : DrillWords) (scripts : List Script)
+    → scripts ≡ drill_scripts drill.seed drill.calls drill.processes → HasScripts told (Drill drill) scripts
 made_scripts told drill scripts is =
-    let count : length scripts ≡ drill.processes = ap length is ∙ length-map-range_with_len (drill_script drill.seed drill.calls) 0 drill.processes in
+    let count : length scripts ≡ drill.processes = ap length is
+    ∙ length-map-range_with_len (drill_script drill.seed drill.calls) 0 drill.processes in
     record {
       one_each = count;
       fine = λ content hold j low. absurd (omega (arith, low));
@@ -157,27 +171,38 @@ made_scripts told drill scripts is =
   where
     made_at : (j : ℕ) (script : Script) → slice_get scripts j ≡ Some script → script ≡ drill_script drill.seed drill.calls j
     made_at j script at =
-        let found : slice_get (drill_scripts drill.seed drill.calls drill.processes) j ≡ Some script = subst (λ (some : List Script). slice_get some j ≡ Some script) is at in
+        let found : slice_get (drill_scripts drill.seed drill.calls drill.processes) j ≡ Some script =
+        subst (λ (some : List Script). slice_get some j ≡ Some script) is at in
         let low = slice_get_within (drill_scripts drill.seed drill.calls drill.processes) j script found in
         sym (get_or_from_slice_get (drill_scripts drill.seed drill.calls drill.processes) j script script found)
         ∙ get_or-map-range_with_len (drill_script drill.seed drill.calls) 0 drill.processes j j script
         (omega (arith, low, length-map-range_with_len (drill_script drill.seed drill.calls) 0 drill.processes)) (omega arith)
 
 -- the run ends at a file
-pub ends_at_file : {F S K : Type 0} (of_files : files_trait.Ghosts F S) (files files_now : F) (of_sink : sink_trait.Ghosts K) (out : K) (meaning : Option Command) (command : Command) (sizes : Sizes) (ending : Ending)
-    → IsAccepted meaning command sizes → StopsReading of_files files files_now (files_of command) ending → CauseOf meaning (outside of_files files of_sink out) (outside of_files files_now of_sink out) None ending
+pub ends_at_file : {F S K : Type 0} (of_files : files_trait.Ghosts F S) (files files_now : F) (of_sink : sink_trait.Ghosts K) (out : K)
+    (meaning : Option Command) (command : Command) (sizes : Sizes) (ending : Ending)
+    → IsAccepted meaning command sizes → StopsReading of_files files files_now (files_of command) ending
+    → CauseOf meaning (outside of_files files of_sink out) (outside of_files files_now of_sink out) None ending
 ends_at_file of_files files files_now of_sink out meaning command sizes ending accepted stopped =
-    subst (CauseOf meaning (outside of_files files of_sink out) (outside of_files files_now of_sink out) None) (sym stopped.is) (by_fault stopped.file stopped.fault stopped.opened stopped.stops)
+    subst (CauseOf meaning (outside of_files files of_sink out) (outside of_files files_now of_sink out) None) (sym stopped.is)
+    (by_fault stopped.file stopped.fault stopped.opened stopped.stops)
   where
-    by_fault : (file : ℕ) (fault : TextFault) → of_files.opens files_now ≡ of_files.opens files + file → StopsWith of_files files files_now (files_of command) file fault
+    by_fault : (file : ℕ) (fault : TextFault) → of_files.opens files_now ≡ of_files.opens files + file
+        → StopsWith of_files files files_now (files_of command) file fault
         → CauseOf meaning (outside of_files files of_sink out) (outside of_files files_now of_sink out) None (ending_for file fault)
-    by_fault file ReadFault opened stops = ((record { command = command; sizes = sizes; accepted = accepted; stops = stops.0; opened = opened; unwritten = refl }, stops.1), refl)
-    by_fault file TooLong opened stops = (record { command = command; sizes = sizes; accepted = accepted; stops = stops; opened = opened; unwritten = refl }, refl)
-    by_fault file (BadLine line) opened stops = (record { command = command; sizes = sizes; accepted = accepted; stops = stops; opened = opened; unwritten = refl }, refl)
+    by_fault file ReadFault opened stops = (
+      (record { command = command; sizes = sizes; accepted = accepted; stops = stops.0; opened = opened; unwritten = refl }, stops.1),
+      refl,
+    )
+    by_fault file TooLong opened stops =
+        (record { command = command; sizes = sizes; accepted = accepted; stops = stops; opened = opened; unwritten = refl }, refl)
+    by_fault file (BadLine line) opened stops =
+        (record { command = command; sizes = sizes; accepted = accepted; stops = stops; opened = opened; unwritten = refl }, refl)
     by_fault file NoMemory opened stops = (refl, refl)
 
 -- contents of all files are contents of the first of them
-hold_first : (told : List ℕ → Option (List ℕ)) (names : List (List ℕ)) (content : ℕ → List ℕ) (i n : ℕ) → i ≤ n → Hold told names content n → Hold told names content i
+hold_first : (told : List ℕ → Option (List ℕ)) (names : List (List ℕ)) (content : ℕ → List ℕ) (i n : ℕ) → i ≤ n
+    → Hold told names content n → Hold told names content i
 hold_first told names content i n le hold j name lt at = hold j name (omega arith) at
 
 -- two commands that the same words mean are the same
@@ -185,20 +210,26 @@ same_command : (meaning : Option Command) (one other : Command) → meaning ≡ 
 same_command meaning one other p q = let e : Some one ≡ Some other = sym p ∙ q in cc
 
 -- of a file at which a run ended, what is so where all files are told and fine
-at_told_file : (meaning : Option Command) (before after : Outside) (file : ℕ) (Fact : ℕ → List ℕ → Type 0) → EndsAtFile meaning before after file Fact → IsPlayable meaning before.told
+at_told_file : (meaning : Option Command) (before after : Outside) (file : ℕ) (Fact : ℕ → List ℕ → Type 0)
+    → EndsAtFile meaning before after file Fact → IsPlayable meaning before.told
     → (others : ℕ) × (bytes : List ℕ) × Fact others bytes × IsWithin others bytes × (bad_line bytes ≡ None)
 at_told_file meaning before after file Fact ends free =
     let same : ends.command ≡ free.command = same_command meaning ends.command free.command ends.accepted.meant free.accepted.meant in
-    let names : length (files_of ends.command) ≡ length (files_of free.command) = ap (λ (command : Command). length (files_of command)) same in
+    let names : length (files_of ends.command) ≡ length (files_of free.command) =
+    ap (λ (command : Command). length (files_of command)) same in
     let hold : Hold before.told (files_of ends.command) free.content (ends.stops.index + 1) =
-    hold_first before.told (files_of ends.command) free.content (ends.stops.index + 1) (length (files_of free.command)) (omega (arith, ends.stops.within, names))
-    (subst (λ (command : Command). Hold before.told (files_of command) free.content (length (files_of free.command))) (sym same) free.hold) in
-    let fine : IsWithin (taken free.content ends.stops.index) (free.content ends.stops.index) × (bad_line (free.content ends.stops.index) ≡ None) =
+    hold_first before.told (files_of ends.command) free.content (ends.stops.index + 1) (length (files_of free.command))
+    (omega (arith, ends.stops.within, names))
+    (subst (λ (command : Command). Hold before.told (files_of command) free.content (length (files_of free.command))) (sym same)
+    free.hold) in
+    let fine : IsWithin (taken free.content ends.stops.index) (free.content ends.stops.index)
+    × (bad_line (free.content ends.stops.index) ≡ None) =
     free.fine ends.stops.index (omega (arith, ends.stops.within, names)) in
     (taken free.content ends.stops.index, free.content ends.stops.index, ends.stops.here free.content hold, fine.0, fine.1)
 
 -- the numbers of a shape have no fault
-at_good_shape : (meaning : Option Command) (told : List ℕ → Option (List ℕ)) (fault : ShapeFault) → EndsAtShape meaning fault → IsPlayable meaning told → ⊥
+at_good_shape : (meaning : Option Command) (told : List ℕ → Option (List ℕ)) (fault : ShapeFault) → EndsAtShape meaning fault
+    → IsPlayable meaning told → ⊥
 at_good_shape meaning told fault ends free =
     let same : ends.command ≡ free.command = same_command meaning ends.command free.command ends.meant free.accepted.meant in
     let first : IsFirstFault (processes_of free.command) (batches_of free.command) 0 (quantum_of free.command) fault =
@@ -208,11 +239,15 @@ at_good_shape meaning told fault ends free =
     (rw (asked.processes, asked.batches, asked.words, asked.quantum) first.has)
 
 -- where all files are told and fine, a run ends well or for want of memory, or the outside failed it
-ends_well_unless : (meaning : Option Command) (before after : Outside) (closed : Option Settlement) (ending : Ending) (status : ℕ) → status ≡ status_of ending → CauseOf meaning before after closed ending
-    → IsPlayable meaning before.told → ((file : ℕ) → CauseOf meaning before after closed (Read file) → ⊥) → (CauseOf meaning before after closed Write → ⊥) → (status ≡ 0) ⊎ (status ≡ 8)
+ends_well_unless : (meaning : Option Command) (before after : Outside) (closed : Option Settlement) (ending : Ending) (status : ℕ)
+    → status ≡ status_of ending → CauseOf meaning before after closed ending
+    → IsPlayable meaning before.told → ((file : ℕ) → CauseOf meaning before after closed (Read file) → ⊥)
+    → (CauseOf meaning before after closed Write → ⊥) → (status ≡ 0) ⊎ (status ≡ 8)
 ends_well_unless meaning before after closed Done status is cause free reads writes = inl is
-ends_well_unless meaning before after closed Words status is cause free reads writes = absurd (let e : None ≡ Some free.command = sym cause.0.0 ∙ free.accepted.meant in cc)
-ends_well_unless meaning before after closed (Shape fault) status is cause free reads writes = absurd (at_good_shape meaning before.told fault cause.0.0 free)
+ends_well_unless meaning before after closed Words status is cause free reads writes =
+    absurd (let e : None ≡ Some free.command = sym cause.0.0 ∙ free.accepted.meant in cc)
+ends_well_unless meaning before after closed (Shape fault) status is cause free reads writes =
+    absurd (at_good_shape meaning before.told fault cause.0.0 free)
 ends_well_unless meaning before after closed (Read file) status is cause free reads writes = absurd (reads file cause)
 ends_well_unless meaning before after closed (Long file) status is cause free reads writes =
     let fine = at_told_file meaning before after file (λ others bytes. ¬ IsWithin others bytes) cause.0 free in absurd (fine.2 fine.3)
@@ -230,26 +265,33 @@ same_sizes command one other p q =
     let batches : one.batches ≡ other.batches = p.batches ∙ sym q.batches in
     let words : one.words ≡ other.words = p.words ∙ sym q.words in
     let length_of_other : IsLength one.processes one.quantum other.length =
-    subst (λ (n : ℕ). IsLength n one.quantum other.length) processes (subst (λ (n : ℕ). IsLength other.processes n other.length) quantum q.shape.least_length) in
-    let long : one.length ≡ other.length = one_length one.processes one.quantum one.length other.length p.shape.least_length length_of_other in
-    let each : sizes one.processes one.batches one.words one.quantum one.length ≡ sizes other.processes other.batches other.words other.quantum other.length = cc in
+    subst (λ (n : ℕ). IsLength n one.quantum other.length) processes
+    (subst (λ (n : ℕ). IsLength other.processes n other.length) quantum q.shape.least_length) in
+    let long : one.length ≡ other.length =
+    one_length one.processes one.quantum one.length other.length p.shape.least_length length_of_other in
+    let each : sizes one.processes one.batches one.words one.quantum one.length
+    ≡ sizes other.processes other.batches other.words other.quantum other.length = cc in
     each
 
 -- tallies of scripts for which there are enough blocks
-ample_tallies : (meaning : Option Command) (told : List ℕ → Option (List ℕ)) (settled : Settlement) (tallies : List Tally) (scripts : List Script)
+ample_tallies : (meaning : Option Command) (told : List ℕ → Option (List ℕ)) (settled : Settlement) (tallies : List Tally)
+    (scripts : List Script)
     → GivesTallies meaning told settled tallies → IsAmple meaning told scripts → tallies ≡ tallies_without_refusals scripts
 ample_tallies meaning told settled tallies scripts gives ample =
     let same : ample.command ≡ gives.command = same_command meaning ample.command gives.command ample.accepted.meant gives.accepted.meant in
-    let asked : IsShapeOf gives.command ample.sizes = subst (λ (command : Command). IsShapeOf command ample.sizes) same ample.accepted.asked in
+    let asked : IsShapeOf gives.command ample.sizes =
+    subst (λ (command : Command). IsShapeOf command ample.sizes) same ample.accepted.asked in
     let hold : Hold told (files_of gives.command) ample.content (length (files_of gives.command))
     = subst (λ (command : Command). Hold told (files_of command) ample.content (length (files_of command))) same ample.hold in
     let enough : HasEnoughBlocks gives.command ample.sizes ample.content scripts
     = subst (λ (command : Command). HasEnoughBlocks command ample.sizes ample.content scripts) same ample.enough in
     gives.played.unrefused ample.content hold scripts
-    (subst (λ (sizes : Sizes). HasEnoughBlocks gives.command sizes ample.content scripts) (same_sizes gives.command ample.sizes gives.sizes asked gives.accepted.asked) enough)
+    (subst (λ (sizes : Sizes). HasEnoughBlocks gives.command sizes ample.content scripts)
+    (same_sizes gives.command ample.sizes gives.sizes asked gives.accepted.asked) enough)
 
 -- the report of a run that ended well
-report_when_done : (meaning : Option Command) (before after : Outside) (closed : Option Settlement) (ending : Ending) (status : ℕ) → status ≡ status_of ending → CauseOf meaning before after closed ending
+report_when_done : (meaning : Option Command) (before after : Outside) (closed : Option Settlement) (ending : Ending) (status : ℕ)
+    → status ≡ status_of ending → CauseOf meaning before after closed ending
     → status ≡ 0 → EndsPlayed meaning before after closed (GrowsBy before.out after.out)
 report_when_done meaning before after closed Done status is cause well = cause
 report_when_done meaning before after closed Words status is cause well = absurd (omega (arith, is, well))
@@ -260,11 +302,13 @@ report_when_done meaning before after closed (Line file line) status is cause we
 report_when_done meaning before after closed Write status is cause well = absurd (omega (arith, is, well))
 report_when_done meaning before after closed Memory status is cause well = absurd (omega (arith, is, well))
 
-module _ (meaning : Option Command) (before after : Outside) (closed : Option Settlement) (Told : Ending → Type 0) (status : ℕ) (ends : Ends meaning before after closed Told status) where
+module _ (meaning : Option Command) (before after : Outside) (closed : Option Settlement) (Told : Ending → Type 0) (status : ℕ)
+    (ends : Ends meaning before after closed Told status) where
   -- where nothing hinders a run, it ends well or for want of memory
   pub unhindered : IsUnhindered meaning before after → (status ≡ 0) ⊎ (status ≡ 8)
   unhindered free =
-      ends_well_unless meaning before after closed ends.ending status ends.answered ends.cause free.playable (λ file read. free.read read.0.1) (λ write. free.written write.1)
+      ends_well_unless meaning before after closed ends.ending status ends.answered ends.cause free.playable
+      (λ file read. free.read read.0.1) (λ write. free.written write.1)
 
   -- where nothing can hinder a run, it ends well or for want of memory
   pub sure : IsSure meaning before → (status ≡ 0) ⊎ (status ≡ 8)
@@ -274,12 +318,9 @@ module _ (meaning : Option Command) (before after : Outside) (closed : Option Se
       (λ write. write.0.reported.1 (free.roomy write.0.settled write.0.tallies write.0.gives))
 
   -- with enough blocks the report follows from the files alone
-  pub enough : (scripts : List Script) → IsAmple meaning before.told scripts → status ≡ 0 → GrowsBy before.out after.out (report (tallies_without_refusals scripts))
+  pub enough : (scripts : List Script) → IsAmple meaning before.told scripts → status ≡ 0
+      → GrowsBy before.out after.out (report (tallies_without_refusals scripts))
   enough scripts ample well =
       let done = report_when_done meaning before after closed ends.ending status ends.answered ends.cause well in
-      subst (λ tallies. GrowsBy before.out after.out (report tallies)) (ample_tallies meaning before.told done.settled done.tallies scripts done.gives ample) done.reported
-
--- what follows of a fact of an answer
-pub if_ok_more : {A E : Type 0} (P Q : A → Type 0) (answer : Result A E) → ((a : A) → P a → Q a) → IfOk answer P → IfOk answer Q
-if_ok_more P Q (Ok a) more p = more a p
-if_ok_more P Q (Err e) more p = tt
+      subst (λ tallies. GrowsBy before.out after.out (report tallies))
+      (ample_tallies meaning before.told done.settled done.tallies scripts done.gives ample) done.reported

@@ -17,22 +17,27 @@ use Rattle.pool_cli.specs.Causes.{AreFine, Hold, IsWithin, StopsAt, taken}
 use Rattle.pool_cli.specs.Scripts.{FileAnswers, ReadsFirst, StopsWith}
 
 -- the name of the file that is read next
-pub name_at : (names : List (String Global)) (i : ℕ) (name : String Global) → i < length names → name ≡ get_or names i name → slice_get (map string_bytes names) i ≡ Some (string_bytes name)
-name_at names i name lt is = slice_get-map string_bytes names i ∙ ap (option_map string_bytes) (slice_get_read names (length names) i name refl lt is)
+pub name_at : (names : List (String Global)) (i : ℕ) (name : String Global) → i < length names → name ≡ get_or names i name
+    → slice_get (map string_bytes names) i ≡ Some (string_bytes name)
+name_at names i name lt is = slice_get-map string_bytes names i
+    ∙ ap (option_map string_bytes) (slice_get_read names (length names) i name refl lt is)
 
 -- what is held by more names is held by the first of them
-hold_fewer : (told : List ℕ → Option (List ℕ)) (names : List (List ℕ)) (content : ℕ → List ℕ) (i : ℕ) → Hold told names content (i + 1) → Hold told names content i
+hold_fewer : (told : List ℕ → Option (List ℕ)) (names : List (List ℕ)) (content : ℕ → List ℕ) (i : ℕ) → Hold told names content (i + 1)
+    → Hold told names content i
 hold_fewer told names content i hold j name lt at = hold j name (omega arith) at
 
 -- one file more is fine
-fine_more : (content : ℕ → List ℕ) (i : ℕ) → AreFine content i → IsWithin (taken content i) (content i) → bad_line (content i) ≡ None → AreFine content (i + 1)
+fine_more : (content : ℕ → List ℕ) (i : ℕ) → AreFine content i → IsWithin (taken content i) (content i) → bad_line (content i) ≡ None
+    → AreFine content (i + 1)
 fine_more content i fine within good j lt = elim (cases_lt j i) [
   | inl k ↦ fine j k
   | inr ge ↦ let same : i ≡ j = omega arith in
       subst (λ (k : ℕ). IsWithin (taken content k) (content k) × (bad_line (content k) ≡ None)) same (within, good)
 ]
 
-pub reads_next : (Reliable : Type 0) (size : ℕ) (told : List ℕ → Option (List ℕ)) (names : List (List ℕ)) (i total : ℕ) (scripts : List Script) (name : List ℕ) (file : FileScript)
+pub reads_next : (Reliable : Type 0) (size : ℕ) (told : List ℕ → Option (List ℕ)) (names : List (List ℕ)) (i total : ℕ)
+    (scripts : List Script) (name : List ℕ) (file : FileScript)
     → slice_get names i ≡ Some name → ReadsFirst size told names i total scripts
     → ((bytes : List ℕ) → told name ≡ Some bytes → FileAnswers Reliable (2 ^ 26 - total) size bytes (Ok file)) → file.bytes ≤ 2 ^ 26 - total
     → ReadsFirst size told names (i + 1) (total + file.bytes) (scripts ++ file.script ∷ [])
@@ -48,7 +53,8 @@ reads_next Reliable size told names i total scripts name file at reads answer sm
   fine = λ content hold.
       let here : FileAnswers Reliable (2 ^ 26 - total) size (content i) (Ok file) = answer (content i) (hold i name (omega arith) at) in
       let before : total ≡ taken content i = reads.all_bytes content (hold_fewer told names content i hold) in
-      fine_more content i (reads.fine content (hold_fewer told names content i hold)) (omega (arith, here.0), omega (arith, here.0, before, reads.few)) here.1;
+      fine_more content i (reads.fine content (hold_fewer told names content i hold))
+      (omega (arith, here.0), omega (arith, here.0, before, reads.few)) here.1;
   read = λ content hold j script got. elim (slice_get-push_cases scripts file.script script j got) [
     | inl k ↦ reads.read content (hold_fewer told names content i hold) j script k.1
     | inr e ↦
@@ -58,29 +64,38 @@ reads_next Reliable size told names i total scripts name file at reads answer sm
   ];
 }
 
-stops_at : (size : ℕ) (told : List ℕ → Option (List ℕ)) (names : List (List ℕ)) (i total : ℕ) (scripts : List Script) (name : List ℕ) (Fact : ℕ → List ℕ → Type 0)
-    → slice_get names i ≡ Some name → ReadsFirst size told names i total scripts → ((bytes : List ℕ) → told name ≡ Some bytes → Fact total bytes) → StopsAt told names (i + 1) Fact
+stops_at : (size : ℕ) (told : List ℕ → Option (List ℕ)) (names : List (List ℕ)) (i total : ℕ) (scripts : List Script) (name : List ℕ)
+    (Fact : ℕ → List ℕ → Type 0)
+    → slice_get names i ≡ Some name → ReadsFirst size told names i total scripts
+    → ((bytes : List ℕ) → told name ≡ Some bytes → Fact total bytes) → StopsAt told names (i + 1) Fact
 stops_at size told names i total scripts name Fact at reads fact = record {
   index = i;
   number = refl;
   within = slice_get_within names i name at;
   earlier = λ content hold. reads.fine content hold;
-  here = λ content hold. subst (λ (n : ℕ). Fact n (content i)) (reads.all_bytes content (hold_fewer told names content i hold)) (fact (content i) (hold i name (omega arith) at));
+  here = λ content hold. subst (λ (n : ℕ). Fact n (content i)) (reads.all_bytes content (hold_fewer told names content i hold))
+      (fact (content i) (hold i name (omega arith) at));
 }
 
 -- a fault at the next file, where the files were as reliable before the reading as at this file
-pub stops_next : {F S : Type 0} (of : Ghosts F S) (before between after : F) (size : ℕ) (names : List (List ℕ)) (i total : ℕ) (scripts : List Script) (name : List ℕ) (fault : TextFault)
+pub stops_next : {F S : Type 0} (of : Ghosts F S) (before between after : F) (size : ℕ) (names : List (List ℕ)) (i total : ℕ)
+    (scripts : List Script) (name : List ℕ) (fault : TextFault)
     → slice_get names i ≡ Some name → ReadsFirst size (of.told before) names i total scripts
     → ((bytes : List ℕ) → of.told before name ≡ Some bytes → FileAnswers (of.reliable between) (2 ^ 26 - total) size bytes (Err fault))
-    → (of.reliable before → of.reliable between) → of.faults before ≤ of.faults between → (fault ≡ ReadFault → HasRisen (of.faults between) (of.faults after))
+    → (of.reliable before → of.reliable between) → of.faults before ≤ of.faults between
+    → (fault ≡ ReadFault → HasRisen (of.faults between) (of.faults after))
     → StopsWith of before after names (i + 1) fault
 stops_next of before between after size names i total scripts name ReadFault at reads answer reliable fell risen = (
-  stops_at size (of.told before) names i total scripts name (λ _ _. ¬ of.reliable before) at reads (λ bytes has sure. answer bytes has (reliable sure)),
+  stops_at size (of.told before) names i total scripts name (λ _ _. ¬ of.reliable before) at reads
+      (λ bytes has sure. answer bytes has (reliable sure)),
   (let up : HasRisen (of.faults between) (of.faults after) = risen refl in omega (arith, up, fell)),
 )
 stops_next of before between after size names i total scripts name TooLong at reads answer reliable fell risen =
-    stops_at size (of.told before) names i total scripts name (λ others bytes. ¬ IsWithin others bytes) at reads (λ bytes has within. omega (arith, answer bytes has, within.0, within.1, reads.few))
+    stops_at size (of.told before) names i total scripts name (λ others bytes. ¬ IsWithin others bytes) at reads
+    (λ bytes has within. omega (arith, answer bytes has, within.0, within.1, reads.few))
 stops_next of before between after size names i total scripts name (BadLine line) at reads answer reliable fell risen =
-    stops_at size (of.told before) names i total scripts name (λ others bytes. IsWithin others bytes × (bad_line bytes ≡ Some line)) at reads
-    (λ bytes has. let here : FileAnswers (of.reliable between) (2 ^ 26 - total) size bytes (Err (BadLine line)) = answer bytes has in ((omega (arith, here.0), omega (arith, here.0, reads.few)), here.1))
+    stops_at size (of.told before) names i total scripts name (λ others bytes. IsWithin others bytes × (bad_line bytes ≡ Some line)) at
+    reads
+    (λ bytes has. let here : FileAnswers (of.reliable between) (2 ^ 26 - total) size bytes (Err (BadLine line)) = answer bytes has in
+    ((omega (arith, here.0), omega (arith, here.0, reads.few)), here.1))
 stops_next of before between after size names i total scripts name NoMemory at reads answer reliable fell risen = tt

@@ -573,6 +573,7 @@ fn one_failing_write(rt: HostRuntime) -> Result<(), Fail> {
             (7, *out, "pooltrace: write\n"),
             "{room} {most} {failing}"
         );
+        assert!(rt; outcome.settled, "{room} {most} {failing}");
     }
     Ok(())
 }

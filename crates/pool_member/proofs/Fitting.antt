@@ -66,7 +66,8 @@ module _ (pool : Pooled) (old new : Passed) (marks after : Marked) (block : ℕ)
         ))
         (λ other. (
           λ has. contains_tail b block old.held ((fits.exact b).0 ((others b other).0 has)),
-          λ holds. (others b other).1 ((fits.exact b).1 (⊎_elim (λ it. absurd (other (sym it))) (λ there. there) (contains_cons_cases b block old.held holds))),
+          λ holds. (others b other).1 ((fits.exact b).1 (⊎_elim (λ it. absurd (other (sym it))) (λ there. there)
+              (contains_cons_cases b block old.held holds))),
         ))
         (cases_eq b block));
   }

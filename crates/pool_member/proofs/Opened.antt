@@ -8,7 +8,8 @@ use Rattle.block_pool.specs.Passing.{Pooled, Passed, IsOf}
 -- what comes after others in a list stands at their number
 at_seam : {A : Type 0} (done next : List A) (a : A) → slice_get (done ++ a ∷ next) (length done) ≡ Some a
 at_seam done next a =
-    slice_get-get_or (done ++ a ∷ next) (length done) a (omega (arith, length-append done (a ∷ next))) ∙ ap Some (get_or-append_seam done a next a)
+    slice_get-get_or (done ++ a ∷ next) (length done) a (omega (arith, length-append done (a ∷ next))) ∙ ap Some
+    (get_or-append_seam done a next a)
 
 same_inside : {A : Type 0} (a b : A) → Some a ≡ Some b → a ≡ b
 same_inside a b e = cc
@@ -33,6 +34,7 @@ one_opened pool done rest next pass member opened is same =
     ∙ sym (append_assoc done (member ∷ []) next)) opened
 
 -- until all are
-pub all_opened : (pool : Pooled) (done rest : List Passed) → AreOpenedPasses pool (done ++ rest) → length rest ≡ 0 → AreOpenedPasses pool done
+pub all_opened : (pool : Pooled) (done rest : List Passed) → AreOpenedPasses pool (done ++ rest) → length rest ≡ 0 → AreOpenedPasses
+    pool done
 all_opened pool done [] opened none = subst (AreOpenedPasses pool) (append-nil done) opened
 all_opened pool done (pass ∷ rest) opened none = absurd (omega (arith, none))

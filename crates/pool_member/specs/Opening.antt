@@ -26,4 +26,6 @@ pub record HasShape (processes batches words quantum : ℕ) (members : List Pass
 -- the fault of these numbers, or want of memory where they are a shape's
 abbrev pub IsOpenFault : ℕ → ℕ → ℕ → ℕ → OpenFault → Type 0
 IsOpenFault processes batches words quantum (fault.Shape told) = IsFirstFault processes batches words quantum told
-IsOpenFault processes batches words quantum fault.NoMemory = (sizes : Sizes) × IsShape sizes × (sizes.processes ≡ processes) × (sizes.batches ≡ batches) × (sizes.words ≡ words) × (sizes.quantum ≡ quantum)
+IsOpenFault processes batches words quantum fault.NoMemory =
+    (sizes : Sizes) × IsShape sizes × (sizes.processes ≡ processes) × (sizes.batches ≡ batches) × (sizes.words ≡ words)
+    × (sizes.quantum ≡ quantum)

@@ -3,7 +3,8 @@ ghost use Rattle.std.specs.Prelude.{◌≡◌, ◌<◌, ◌↔◌, Contains, IfE
 ghost use Rattle.std.specs.Arc.{arc_value};
 ghost use Rattle.word_layout.specs.Packing.{most_age};
 ghost use Rattle.block_pool.specs.Passing.{IsOf};
-ghost use Rattle.pool_member.specs.Calling.{AnswersAllocate, AnswersFree, AnswersYoung, HasWord, IsFaulty, LacksWord, ReadsWord, WritesWord};
+ghost use Rattle.pool_member.specs.Calling.{AnswersAllocate, AnswersFree, AnswersYoung};
+ghost use Rattle.pool_member.specs.Calling.{HasWord, IsFaulty, LacksWord, ReadsWord, WritesWord};
 
 use block_marks::Marks;
 use block_pool::{Answer, Pass, Pool};

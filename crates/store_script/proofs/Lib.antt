@@ -1,3 +1,4 @@
+pub mod Determined
 pub mod Following
 pub mod Lines
 pub mod Meanings

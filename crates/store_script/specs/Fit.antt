@@ -38,8 +38,9 @@ pub record Fits (i : ℕ) (script : StoreScript) (refused : List Bool) (entries 
   pub blocks : List ℕ
   pub call_by_call : entries ≡ calls_from i refused blocks begun script.commands
 
--- the entries of process i fit its script with some refusals, and these are the answers with those
+-- the entries of process i fit its script with refusals that they determine, and the answers are those with these refusals
 pub record IsAnswered (i : ℕ) (script : StoreScript) (entries : List Entry) (answers : List Answered) : Type 0 where
   pub refused : List Bool
   pub fits : Fits i script refused entries
+  pub only : (other : List Bool) → Fits i script other entries → other ≡ refused
   pub answered : answers ≡ answers_to refused script.commands

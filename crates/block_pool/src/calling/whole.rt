@@ -1,6 +1,5 @@
 // The whole calls of a process.
 ghost use Rattle.std.specs.Prelude.{◌≡◌, ℕ, ◌+◌, ◌<◌, ◌^◌, ◌↔◌, None, Some, [], ◌∷◌, Contains};
-ghost use Rattle.word_layout.specs.Names.{table_words};
 ghost use Rattle.word_layout.specs.Packing.{most_age};
 ghost use Rattle.word_table.specs.Seats.{SameSeat};
 ghost use Rattle.pool_model.specs.declared.entry.Entry.TheVariants.{Back};
@@ -8,7 +7,7 @@ ghost use Rattle.transfer_schedule.specs.Numbers.{after_took_one, after_gave_one
 ghost use Rattle.pool_machine.specs.declared.call.Call.TheVariants.{Allocate, Free, Read, Write};
 ghost use Rattle.pool_table.specs.Minds.{number_of, known_in, held_in};
 ghost use Rattle.block_pool.specs.Passing.{BetweenCalls};
-ghost use Rattle.block_pool.specs.Calls.{HasNoBlock, entry_for, CallMade, PoolCalled};
+ghost use Rattle.block_pool.specs.Calls.{HasNoBlock, entry_for, IsReady, MayTouch, PoolCalled, WordCalled};
 
 use crate::process::Process;
 use pool_machine::Call;
@@ -26,10 +25,8 @@ impl Process {
         table: &PoolTable,
         steps: &mut Steps<L>,
     ) -> Option<u32>
-        requires seat { self.old.seat.table ≡ table.now }
-        requires words { table.now.words ≡ table_words shape.now }
+        requires ready { IsReady shape.now table.now self.old }
         requires steps { steps.old + shape.now.quantum + 1 < 2 ^ 64 }
-        requires between { BetweenCalls shape.now self.old }
         requires young { self.old.transfer.age < most_age }
         ensures seat { SameSeat self.old.seat self.new.seat }
         ensures called { (called : PoolCalled shape.now Allocate (entry_for (number_of self.old.seat.view.mind) result ∷ []) after_took_one
@@ -50,10 +47,8 @@ impl Process {
         table: &PoolTable,
         steps: &mut Steps<L>,
     )
-        requires seat { self.old.seat.table ≡ table.now }
-        requires words { table.now.words ≡ table_words shape.now }
+        requires ready { IsReady shape.now table.now self.old }
         requires steps { steps.old + shape.now.quantum + 1 < 2 ^ 64 }
-        requires between { BetweenCalls shape.now self.old }
         requires young { self.old.transfer.age < most_age }
         requires held { Contains (held_in self.old.seat.view.mind) block }
         ensures seat { SameSeat self.old.seat self.new.seat }
@@ -76,18 +71,9 @@ impl Process {
         table: &PoolTable,
         steps: &mut Steps<L>,
     ) -> u64
-        requires seat { self.old.seat.table ≡ table.now }
-        requires words { table.now.words ≡ table_words shape.now }
+        requires may { MayTouch shape.now table.now self.old block index }
         requires steps { steps.old + 1 < 2 ^ 64 }
-        requires between { BetweenCalls shape.now self.old }
-        requires held { Contains (held_in self.old.seat.view.mind) block }
-        requires index { index < shape.now.words }
-        ensures seat { SameSeat self.old.seat self.new.seat }
-        ensures steps { steps.new ≡ steps.old + 1 }
-        ensures called { CallMade (Read block index) [] 0 self.old.seat.view self.new.seat.view }
-        ensures transfer { self.new.transfer ≡ self.old.transfer }
-        ensures pool { self.new.pool ≡ self.old.pool }
-        ensures between { BetweenCalls shape.now self.new }
+        ensures called { WordCalled shape.now (Read block index) steps.old steps.new self.old self.new }
         ensures value { (value : ℕ) → known_in self.old.seat.view.mind.known block index ≡ Some value → result ≡ value }
     {
         self.own_read(block, index, shape, table, steps)
@@ -104,18 +90,9 @@ impl Process {
         table: &PoolTable,
         steps: &mut Steps<L>,
     )
-        requires seat { self.old.seat.table ≡ table.now }
-        requires words { table.now.words ≡ table_words shape.now }
+        requires may { MayTouch shape.now table.now self.old block index }
         requires steps { steps.old + 1 < 2 ^ 64 }
-        requires between { BetweenCalls shape.now self.old }
-        requires held { Contains (held_in self.old.seat.view.mind) block }
-        requires index { index < shape.now.words }
-        ensures seat { SameSeat self.old.seat self.new.seat }
-        ensures steps { steps.new ≡ steps.old + 1 }
-        ensures called { CallMade (Write block index value) [] 0 self.old.seat.view self.new.seat.view }
-        ensures transfer { self.new.transfer ≡ self.old.transfer }
-        ensures pool { self.new.pool ≡ self.old.pool }
-        ensures between { BetweenCalls shape.now self.new }
+        ensures called { WordCalled shape.now (Write block index value) steps.old steps.new self.old self.new }
     {
         self.own_write(block, index, value, shape, table, steps);
     }

@@ -8,5 +8,6 @@ returns-in-Err-clause-refused c = record {
   fault = c.in-Err.fault;
   ends = refl;
   first = fault_for_all (length c.args.play.now.files) c.args.play.now.batches 0 c.args.play.now.quantum c.in-Err.fault
-      (subst (λ (n : ℕ). IsFirstFault n c.args.play.now.batches 0 c.args.play.now.quantum c.in-Err.fault) (let counted : _ ≡ min (length c.args.play.now.files) (2 ^ 32 - 1) = grind arith in counted) c.in-Err.ensures.fault);
+      (subst (λ (n : ℕ). IsFirstFault n c.args.play.now.batches 0 c.args.play.now.quantum c.in-Err.fault)
+      (let counted : _ ≡ min (length c.args.play.now.files) (2 ^ 32 - 1) = grind arith in counted) c.in-Err.ensures.fault);
 }

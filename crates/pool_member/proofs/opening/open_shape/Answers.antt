@@ -9,7 +9,8 @@ use Rattle.pool_member.proofs.opening.open_shape.Goals as goal
 
 pub loop-pass-preserved : goal.loop-pass-preserved
 loop-pass-preserved c =
-    subst (λ (ms : List Passed). AreOpenedPasses (arc_value c.in_ok-pool-2.pool) (ms ++ into_iter_items c.next.new.self)) (sym c.in_ok-push.ensures.items)
+    subst (λ (ms : List Passed). AreOpenedPasses (arc_value c.in_ok-pool-2.pool) (ms ++ into_iter_items c.next.new.self))
+    (sym c.in_ok-push.ensures.items)
     (one_opened _ _ _ _ _ c.in_ok-member.member c.loop-pass.invariant c.in-Some.ensures.steps.0 c.in_ok-member.ensures)
 
 pub returns : goal.returns
@@ -20,5 +21,6 @@ returns c =
     ap (λ (p : Pooled). p.sizes) c.in_ok-pool-2.ensures.ok ∙ c.in_ok-pool.ensures.shape in
     record {
       table = (arc_value c.in_ok-pool-2.pool).table;
-      opened = subst (λ (s : Sizes). AreOpenedPasses (record { table = (arc_value c.in_ok-pool-2.pool).table; sizes = s }) c.loop-pass.members.items) sizes opened;
+      opened = subst (λ (s : Sizes). AreOpenedPasses (record { table = (arc_value c.in_ok-pool-2.pool).table; sizes = s })
+          c.loop-pass.members.items) sizes opened;
     }

@@ -8,7 +8,8 @@ use Rattle.pool_member.proofs.member.Member.allocate_young.Goals as goal
 pub invariant_of-self : goal.invariant_of-self
 invariant_of-self c =
     let held : c.allocate-answer.new.pass.held ≡ c.number.result ∷ c.self.inside.pass.held =
-    c.allocate-answer.ensures.entry.held ∙ ap (λ (a : Answer). grip_after c.self.inside.pass.held (entry_of c.self.inside.pass.number a)) c.in-Got.is
+    c.allocate-answer.ensures.entry.held ∙ ap (λ (a : Answer). grip_after c.self.inside.pass.held
+    (entry_of c.self.inside.pass.number a)) c.in-Got.is
     ∙ ap (λ (b : ℕ). b ∷ c.self.inside.pass.held) (sym c.number.ensures) in
     fits_got _ c.self.inside.pass c.allocate-answer.new.pass c.self.inside.marks c.set.new.self c.number.result c.self.invariant
     c.allocate-answer.ensures.pass c.set.ensures.bound c.set.ensures.others c.set.ensures.marked held
@@ -16,5 +17,6 @@ invariant_of-self c =
 pub invariant_of-self-in-Dry : goal.invariant_of-self-in-Dry
 invariant_of-self-in-Dry c =
     let held : c.allocate-answer.new.pass.held ≡ c.self.inside.pass.held =
-    c.allocate-answer.ensures.entry.held ∙ ap (λ (a : Answer). grip_after c.self.inside.pass.held (entry_of c.self.inside.pass.number a)) c.in-Dry.is in
+    c.allocate-answer.ensures.entry.held ∙ ap (λ (a : Answer). grip_after c.self.inside.pass.held
+    (entry_of c.self.inside.pass.number a)) c.in-Dry.is in
     fits_same _ c.self.inside.pass c.allocate-answer.new.pass c.self.inside.marks c.self.invariant c.allocate-answer.ensures.pass held

@@ -12,4 +12,5 @@ clear-requires c =
 pub invariant_of-self : goal.invariant_of-self
 invariant_of-self c =
     fits_back _ c.self.inside.pass c.free.new.pass c.self.inside.marks c.clear.new.self c.args.block c.self.invariant c.free.ensures.pass
-    c.clear.ensures.bound c.clear.ensures.others c.self.inside.pass.number c.clear.ensures.marked (rw c.block-token.ensures at c.free.ensures.entry.held)
+    c.clear.ensures.bound c.clear.ensures.others c.self.inside.pass.number c.clear.ensures.marked
+    (rw c.block-token.ensures at c.free.ensures.entry.held)

@@ -1,0 +1,5 @@
+pub mod Found
+pub mod Going
+pub mod Playing
+pub mod Whole
+pub mod Written

@@ -1,0 +1,139 @@
+-- How far the process of a pass has played a store script, one command on.
+use Rattle.std.proofs.Common.{◌≡◌, ℕ, ◌+◌, ◌*◌, ◌≤◌, Bool, cond, Option, Some, None, option_map, List, [], ◌∷◌, ◌++◌, length, refl, sym, ap, ◌∙◌, subst, arith, append_assoc, append-nil, length-append}
+use Rattle.std.proofs.Math.Seq.{take-length}
+use Rattle.std.specs.List.{count_by, fold, slice_index}
+use Rattle.std.proofs.lemmas.List.Sums.{fold-append, sum_by-append}
+use Rattle.pool_model.specs.declared.entry.Entry.{Entry}
+use Rattle.store_script.specs.declared.quad.Quad.{Quad}
+use Rattle.store_script.specs.declared.command.Command.{Command}
+use Rattle.store_script.specs.declared.answered.Answered.{Answered}
+use Rattle.store_script.specs.Fit.{calls_from, calls_of}
+use Rattle.store_script.specs.Replies.{Kept, Walk, after, begun, kept, walked}
+use Rattle.store_script.specs.Script.{place_of}
+use Rattle.block_pool.specs.Passing.{Passed}
+use Rattle.pool_player.proofs.Growing.{begins_so}
+use Rattle.object_store.specs.Objects.{ObjectView}
+use Rattle.store_player.specs.Playing.{AreApart, AreHeld, BlockIs, Does, GrowsBy, HasPresent, PlaysSoFar, object_in, uses_words}
+
+-- ---- one command more
+
+calls_from-push : (i : ℕ) (refused : List Bool) (blocks : List ℕ) (walk : Walk) (done : List Command) (command : Command)
+    → calls_from i refused blocks walk (done ++ command ∷ [])
+    ≡ calls_from i refused blocks walk done ++ calls_of i refused blocks (fold (after refused) walk done) command
+calls_from-push i refused blocks walk [] command = append-nil (calls_of i refused blocks walk command)
+calls_from-push i refused blocks walk (first ∷ done) command =
+    let next = after refused walk first in
+    ap (λ es. calls_of i refused blocks walk first ++ es) (calls_from-push i refused blocks next done command)
+    ∙ sym (append_assoc (calls_of i refused blocks walk first) (calls_from i refused blocks next done)
+    (calls_of i refused blocks (fold (after refused) next done) command))
+
+walked-push : (refused : List Bool) (done : List Command) (command : Command)
+    → walked refused (done ++ command ∷ []) ≡ after refused (walked refused done) command
+walked-push refused done command = fold-append (after refused) begun done (command ∷ [])
+
+used_more : (answers : List Answered) (answer : Answered) (start old new : ℕ) → start + 4 * count_by uses_words answers ≤ old
+    → old + 4 * cond (uses_words answer) 1 0 ≤ new → start + 4 * count_by uses_words (answers ++ answer ∷ []) ≤ new
+used_more answers answer start old new before more =
+    omega (arith, sum_by-append (λ a. cond (uses_words a) 1 0) answers (answer ∷ []))
+
+-- what a block is known as, it is behind more blocks
+pub block_behind : (blocks more : List ℕ) (k : Option Kept) (o : Option (ObjectView Quad)) → BlockIs blocks k o → BlockIs (blocks ++ more) k o
+block_behind blocks more None o is = tt
+block_behind blocks more (Some before) None is = tt
+block_behind blocks more (Some before) (Some object) is = λ others. ap (λ bs. slice_index bs before.put) (append_assoc blocks more others) ∙ is (more ++ others)
+
+-- a command was played: it appended these refusals, blocks and entries
+module _ (keys : List ℕ) (done : List Command) (command : Command) (start old new : Passed) (slots later : List (Option (ObjectView Quad)))
+    (answers : List Answered) (answer : Answered) (made number : ℕ) (rs : List Bool) (bs : List ℕ) (es : List Entry) (walk : Walk) where
+  pub so_far_step : (p : PlaysSoFar keys done start old slots answers made)
+      → ((more : List Bool) → after (p.refused ++ (rs ++ more)) p.walk command ≡ walk)
+      → ((more : List Bool) (others : List ℕ) → calls_of start.number (p.refused ++ (rs ++ more)) (p.blocks ++ (bs ++ others)) p.walk command ≡ es)
+      → walk.puts ≡ p.walk.puts + length rs → length bs ≡ length rs → length es ≤ 1 → number ≡ made + length es
+      → walk.answers ≡ p.walk.answers ++ answer ∷ []
+      → HasPresent keys walk later → AreHeld later new → AreApart later
+      → ((key slot : ℕ) → place_of key keys ≡ Some slot → BlockIs (p.blocks ++ bs) (kept walk key) (object_in later slot))
+      → GrowsBy (p.entries ++ es) start new → old.moves + 4 * cond (uses_words answer) 1 0 ≤ new.moves
+      → PlaysSoFar keys (done ++ command ∷ []) start new later (answers ++ answer ∷ []) number
+  so_far_step p walk_is calls_are puts same one count said present held apart block_of grown moved = record {
+    refused = p.refused ++ rs;
+    blocks = p.blocks ++ bs;
+    entries = p.entries ++ es;
+    walk = walk;
+    refused_each = length-append p.refused rs ∙ ap (λ n. n + length rs) p.refused_each ∙ sym puts;
+    blocks_each = length-append p.blocks bs ∙ ap (λ n. n + length bs) p.blocks_each ∙ ap (λ n. p.walk.puts + n) same ∙ sym puts;
+    walks = λ more. ap (λ r. walked r (done ++ command ∷ [])) (append_assoc p.refused rs more)
+        ∙ walked-push (p.refused ++ (rs ++ more)) done command
+        ∙ ap (λ w. after (p.refused ++ (rs ++ more)) w command) (p.walks (rs ++ more))
+        ∙ walk_is more;
+    calls = λ more others.
+        let r = p.refused ++ (rs ++ more) in
+        let b = p.blocks ++ (bs ++ others) in
+        ap (λ r. calls_from start.number r ((p.blocks ++ bs) ++ others) begun (done ++ command ∷ [])) (append_assoc p.refused rs more)
+        ∙ ap (λ b. calls_from start.number r b begun (done ++ command ∷ [])) (append_assoc p.blocks bs others)
+        ∙ calls_from-push start.number r b begun done command
+        ∙ ap (λ es. es ++ calls_of start.number r b (fold (after r) begun done) command) (p.calls (rs ++ more) (bs ++ others))
+        ∙ ap (λ w. p.entries ++ calls_of start.number r b w command) (p.walks (rs ++ more))
+        ∙ ap (λ es. p.entries ++ es) (calls_are more others);
+    answered = ap (λ all. all ++ answer ∷ []) p.answered ∙ sym said;
+    present = present;
+    held = held;
+    apart = apart;
+    block_of = block_of;
+    grown = grown;
+    moved = used_more answers answer start.moves old.moves new.moves p.moved moved;
+    count = count ∙ ap (λ n. n + length es) p.count ∙ sym (length-append p.entries es);
+    few = omega (arith, one, p.few, length-append p.entries es, length-append done (command ∷ []));
+  }
+
+-- ---- how the pass grows
+
+pub grows_none : (pass : Passed) → GrowsBy [] pass pass
+grows_none pass = record {
+  same = record { table = refl; sizes = refl; number = refl };
+  own = sym (append-nil pass.own);
+  seen = take-length pass.seen;
+  age = omega arith;
+}
+
+-- no call was made, and of what it makes of the pass only moves and known words differ
+pub grows_still : (entries : List Entry) (start old new : Passed) → new ≡ record old { moves = new.moves; known = new.known } → GrowsBy entries start old
+    → GrowsBy (entries ++ []) start new
+grows_still entries start old new is grown =
+    let none : entries ++ [] ≡ entries = append-nil entries in
+    subst (λ (es : List Entry). GrowsBy es start new) (sym none)
+    (subst (λ (p : Passed). GrowsBy entries start p) (sym is)
+    (record {
+      same = record { table = grown.same.table; sizes = grown.same.sizes; number = grown.same.number };
+      own = grown.own;
+      seen = grown.seen;
+      age = grown.age;
+    }))
+
+-- one call more
+pub grows_more : (entries : List Entry) (made : Entry) (least : ℕ) (start old new : Passed) → GrowsBy entries start old → Does made least old new
+    → GrowsBy (entries ++ made ∷ []) start new
+grows_more entries made least start old new grown call = record {
+  same = record {
+    table = call.same.table ∙ grown.same.table;
+    sizes = call.same.sizes ∙ grown.same.sizes;
+    number = call.same.number ∙ grown.same.number;
+  };
+  own = call.entered.own ∙ ap (λ es. es ++ made ∷ []) grown.own ∙ append_assoc start.own entries (made ∷ []);
+  seen = begins_so start.seen old.seen new.seen call.entered.seen.past (made ∷ []) grown.seen call.entered.seen.begins call.entered.seen.ends;
+  age = omega (arith, length-append entries (made ∷ []), grown.age, call.age);
+}
+
+-- ---- what a key keeps, by what its slot has
+
+pub kept_filled : (o : Option (ObjectView Quad)) (k : Option Kept) (object : ObjectView Quad)
+    → option_map (λ object. object.value) o ≡ option_map (λ before. before.value) k → o ≡ Some object
+    → (before : Kept) × (k ≡ Some before) × (object.value ≡ before.value)
+kept_filled None k object same is = absurd (cc)
+kept_filled (Some has) None object same is = absurd (cc)
+kept_filled (Some has) (Some before) object same is = (before, refl, cc)
+
+pub kept_empty : (o : Option (ObjectView Quad)) (k : Option Kept)
+    → option_map (λ object. object.value) o ≡ option_map (λ before. before.value) k → o ≡ None → k ≡ None
+kept_empty None None same is = refl
+kept_empty None (Some before) same is = absurd (cc)
+kept_empty (Some has) k same is = absurd (cc)

@@ -1,0 +1,120 @@
+-- A store script that the process of a pass plays.
+use Rattle.std.specs.Prelude.{◌≡◌, ℕ, ◌+◌, ◌*◌, ◌^◌, ◌<◌, ◌≤◌, Bool, true, false, Option, Some, None, List, [], ◌∷◌, ◌++◌, option_map, length, take, count_by, slice_index, slice_index_or}
+use Rattle.pool_model.specs.declared.entry.Entry.{Entry}
+use Rattle.store_script.specs.declared.quad.Quad.{Quad}
+use Rattle.store_script.specs.declared.command.Command.{Command}
+use Rattle.store_script.specs.declared.command.StoreScript.{StoreScript}
+use Rattle.store_script.specs.declared.answered.Answered.{Answered}
+use Rattle.store_script.specs.declared.answered.Answered.TheVariants.{Done, Full, Absent, There, Value}
+use Rattle.store_script.specs.Fit.{IsAnswered, calls_from}
+use Rattle.store_script.specs.Replies.{Kept, Walk, begun, kept, walked}
+use Rattle.store_script.specs.Script.{HasIndex, key_of, keys_of, place_of, slot_of}
+use Rattle.block_pool.specs.Calls.{Entered, SamePass}
+use Rattle.block_pool.specs.Passing.{IsOf, Passed, Pooled}
+use Rattle.object_store.specs.Objects.{HoldsWords, ObjectView}
+
+-- the words of four numbers
+abbrev pub quad_words : Quad → List ℕ
+quad_words quad = quad.a ∷ quad.b ∷ quad.c ∷ quad.d ∷ 0 ∷ 0 ∷ 0 ∷ 0 ∷ []
+
+-- what a slot has
+abbrev pub object_in : List (Option (ObjectView Quad)) → ℕ → Option (ObjectView Quad)
+object_in slots slot = slice_index_or slots slot None
+
+-- an answer for which the words of a block were read or written
+abbrev pub uses_words : Answered → Bool
+uses_words Done = true
+uses_words Full = false
+uses_words Absent = false
+uses_words There = false
+uses_words (Value key value) = true
+
+-- one call made this entry alone, began a transfer at most, and made so many steps at least
+pub record Does (entry : Entry) (least : ℕ) (old new : Passed) : Type 0 where
+  pub same : SamePass old new
+  pub entered : Entered entry old new
+  pub age : new.age ≤ old.age + 1
+  pub moved : old.moves + least ≤ new.moves
+
+-- the pass's own list grew by these entries, one a call; what it has seen begins with what it had; each call began a transfer at most
+pub record GrowsBy (entries : List Entry) (old new : Passed) : Type 0 where
+  pub same : SamePass old new
+  pub own : new.own ≡ old.own ++ entries
+  pub seen : take (length old.seen) new.seen ≡ old.seen
+  pub age : new.age ≤ old.age + length entries
+
+-- each key has its slot: that has an object with the numbers that are kept for the key, or else nothing
+abbrev pub HasPresent : List ℕ → Walk → List (Option (ObjectView Quad)) → Type 0
+HasPresent keys walk slots = (key slot : ℕ) → place_of key keys ≡ Some slot
+    → option_map (λ object. object.value) (object_in slots slot) ≡ option_map (λ before. before.value) (kept walk key)
+
+-- the pass holds the block of each object, and knows its words as those of the numbers
+abbrev pub AreHeld : List (Option (ObjectView Quad)) → Passed → Type 0
+AreHeld slots pass = (slot : ℕ) (object : ObjectView Quad) → object_in slots slot ≡ Some object
+    → HoldsWords 4 (quad_words object.value) object.block pass
+
+-- no two slots have one block
+abbrev pub AreApart : List (Option (ObjectView Quad)) → Type 0
+AreApart slots = (a b : ℕ) (one other : ObjectView Quad) → object_in slots a ≡ Some one → object_in slots b ≡ Some other
+    → one.block ≡ other.block → a ≡ b
+
+-- the pass played the script: its own list grew by entries that fit the script, with refusals that they determine; the answers are those
+-- to the script with these; the slots have the objects of the present keys; and each command that used words made four steps at least
+pub record IsStorePlayed (script : StoreScript) (old new : Passed) (slots : List (Option (ObjectView Quad))) (answers : List Answered)
+    : Type 0 where
+  pub entries : List Entry
+  pub grown : GrowsBy entries old new
+  pub answered : IsAnswered old.number script entries answers
+  pub present : HasPresent (keys_of script.commands) (walked answered.refused script.commands) slots
+  pub held : AreHeld slots new
+  pub apart : AreApart slots
+  pub moved : old.moves + 4 * count_by uses_words answers ≤ new.moves
+
+-- the block of a put is the one that its object has
+abbrev pub BlockIs : List ℕ → Option Kept → Option (ObjectView Quad) → Type 0
+BlockIs blocks None found = Unit {0}
+BlockIs blocks (Some before) None = Unit {0}
+BlockIs blocks (Some before) (Some object) = (others : List ℕ) → slice_index (blocks ++ others) before.put ≡ object.block
+
+-- these commands were played since the pass was so, with so many calls; whatever refusals and blocks come later
+pub record PlaysSoFar (keys : List ℕ) (done : List Command) (start pass : Passed) (slots : List (Option (ObjectView Quad)))
+    (answers : List Answered) (made : ℕ) : Type 0 where
+  pub refused : List Bool
+  pub blocks : List ℕ
+  pub entries : List Entry
+  pub walk : Walk
+  pub refused_each : length refused ≡ walk.puts
+  pub blocks_each : length blocks ≡ walk.puts
+  pub walks : (more : List Bool) → walked (refused ++ more) done ≡ walk
+  pub calls : (more : List Bool) (others : List ℕ) → calls_from start.number (refused ++ more) (blocks ++ others) begun done ≡ entries
+  pub answered : answers ≡ walk.answers
+  pub present : HasPresent keys walk slots
+  pub held : AreHeld slots pass
+  pub block_of : (key slot : ℕ) → place_of key keys ≡ Some slot → BlockIs blocks (kept walk key) (object_in slots slot)
+  pub apart : AreApart slots
+  pub grown : GrowsBy entries start pass
+  pub moved : start.moves + 4 * count_by uses_words answers ≤ pass.moves
+  pub count : made ≡ length entries
+  pub few : length entries ≤ length done
+
+-- some commands were played, and this one may come next
+pub record IsNext (command : Command) (pool : Pooled) (pass : Passed) (slots : List (Option (ObjectView Quad))) (made : ℕ) : Type 0 where
+  pub keys : List ℕ
+  pub done : List Command
+  pub start : Passed
+  pub answers : List Answered
+  pub of_pool : IsOf pool pass
+  pub words : 4 ≤ pool.sizes.words
+  pub young : start.age + length done < 2 ^ 32
+  pub short : length done < 2 ^ 63
+  pub placed : place_of (key_of command) keys ≡ Some (slot_of command)
+  pub within : slot_of command < length slots
+  pub index : HasIndex command
+  pub played : PlaysSoFar keys done start pass slots answers made
+
+-- however the playing came here, it goes on with this command, which is answered so
+abbrev pub GoesOn : Command → Answered → Passed → Passed → List (Option (ObjectView Quad)) → List (Option (ObjectView Quad)) → ℕ → ℕ → Type 0
+GoesOn command answer old new slots later made after =
+    (keys : List ℕ) (done : List Command) (start : Passed) (answers : List Answered) → place_of (key_of command) keys ≡ Some (slot_of command)
+    → PlaysSoFar keys done start old slots answers made
+    → PlaysSoFar keys (done ++ command ∷ []) start new later (answers ++ answer ∷ []) after

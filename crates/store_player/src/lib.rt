@@ -1,0 +1,10 @@
+//! Players of store scripts: the process of a pass keeps the records of a script in blocks of the pool.
+//!
+//! [`play_store`] plays one script with one pass, while other passes of the pool may be used in other threads. A gate is told of
+//! each call that gets or frees a block, before it.
+#![tactic(auto)]
+
+mod calls;
+mod one;
+
+pub use one::play_store;
