@@ -25,6 +25,9 @@ const FIRST_REPORT: &str =
 
 const ZEROS: &str = "0 0 0 0 0 0 0 0 0 0";
 
+const FIRST_ZEROS: &str =
+    "1: news 0 frees 0 big 0 failed 0 stray 0 twice 0 refused 0 peak 0 left 0 cut 0\n";
+
 const COLUMNS: [&str; 10] = [
     "news", "frees", "big", "failed", "stray", "twice", "refused", "peak", "left", "cut",
 ];
@@ -546,34 +549,36 @@ fn one_failing_call_of_the_files(rt: HostRuntime) -> Result<(), Fail> {
 // How a sink takes bytes: its room, how many a write takes at most, and which write fails; and what it then has.
 type Writing = (usize, usize, u64, &'static str);
 
-static FAILING_WRITES: [Writing; 3] = [
-    (AMPLE, AMPLE, 0, ""),
-    (AMPLE, 1, 5, "1: ne"),
-    (0, 1, NEVER, ""),
+// Words, and how the output takes the report's bytes.
+static FAILING_WRITES: [(&str, Writing); 7] = [
+    ("pooltrace play e", (AMPLE, AMPLE, 0, "")),
+    ("pooltrace play e", (AMPLE, AMPLE, 1, FIRST_ZEROS)),
+    ("pooltrace play e", (AMPLE, 1, 5, "1: ne")),
+    ("pooltrace play e", (0, 1, NEVER, "")),
+    (
+        "pooltrace drill --processes 1 --calls 0",
+        (AMPLE, AMPLE, 1, FIRST_ZEROS),
+    ),
+    (
+        "pooltrace drill --processes 1 --calls 0",
+        (AMPLE, 1, 5, "1: ne"),
+    ),
+    ("pooltrace drill --processes 1 --calls 0", (0, 1, NEVER, "")),
 ];
 
 #[test]
 fn one_failing_write(rt: HostRuntime) -> Result<(), Fail> {
     let alloc = rt.alloc();
-    for (room, most, failing, out) in FAILING_WRITES.iter() {
+    for (line, (room, most, failing, out)) in FAILING_WRITES.iter() {
         let mut files = files_of(alloc, &[("e", EMPTY_TRACE)])?;
         let sink = failing_sink(alloc, *room, *most, *failing)?;
         let err = failing_sink(alloc, AMPLE, AMPLE, NEVER)?;
-        let outcome = run_with(
-            &rt,
-            alloc,
-            "pooltrace play e",
-            &mut files,
-            sink,
-            err,
-            &OpenGate,
-        )?;
+        let outcome = run_with(&rt, alloc, line, &mut files, sink, err, &OpenGate)?;
         assert_eq!(rt;
             outcome.parts(),
             (7, *out, "pooltrace: write\n"),
-            "{room} {most} {failing}"
+            "{line}: {room} {most} {failing}"
         );
-        assert!(rt; outcome.settled, "{room} {most} {failing}");
     }
     Ok(())
 }
