@@ -51,7 +51,7 @@ part_fits sizes a v t c agrees =
     subst (λ z. PartFits z t) c.shape (subst (PartFits v.sizes) agrees.same fits)
 
 -- a transfer that goes on after a step isn't at rest
-ends_somehow : (r : Reply) → ended_as r ≡ Going → ⊥
+pub ends_somehow : (r : Reply) → ended_as r ≡ Going → ⊥
 ends_somehow replied.Nothing e = grind arith
 ends_somehow (replied.Took head) e = grind arith
 ends_somehow replied.Gave e = grind arith
@@ -86,7 +86,7 @@ goes_on sizes (about.Alone wish) v x t u word answer c agrees s part answered go
     let moving = moving_unless_rest t.next (transfer_is_going sizes (about.Alone wish) v t c agrees) in
     let on = moving_not_rest (met_of sizes t word).next (going_moves sizes t word u.answer t.next moving (sym answered ∙ goes)) in
     let rest : is_rest u.next ≡ false = ap (λ (z : TransferView). is_rest z.next) part ∙ on in
-    λ next. goes_on_alone sizes wish next v x t u word c agrees s part rest
+    record { busy = rest; goes = λ next. goes_on_alone sizes wish next v x t u word c agrees s part rest }
 goes_on sizes (about.InCall call) v x t u word answer c agrees s part answered goes =
     let moving = moving_unless_rest t.next (transfer_is_going sizes (about.InCall call) v t c agrees) in
     let on = moving_not_rest (met_of sizes t word).next (going_moves sizes t word u.answer t.next moving (sym answered ∙ goes)) in

@@ -1,5 +1,5 @@
 -- a transfer in a call that has another step goes on in that call or in a later one
-use Rattle.std.proofs.Common.{◌≡◌, ◌≢◌, ℕ, ◌+◌, ◌==◌, Bool, true, false, List, [], ◌++◌, Some, refl, sym, ap, ◌∙◌, subst, arith}
+use Rattle.std.proofs.Common.{◌≡◌, ◌≢◌, ℕ, ◌+◌, ◌==◌, Bool, true, false, [], ◌++◌, Some, refl, sym, ap, ◌∙◌, subst, arith}
 use Rattle.std.specs.Prelude.{◌||◌, if◌then◌else◌}
 use Rattle.std.proofs.lemmas.Bool.{false≢true}
 use Rattle.std.proofs.lemmas.Bool.Decides.{nat_tests}
@@ -14,7 +14,7 @@ use Rattle.transfer_machine.specs.Machine.{met_of}
 use Rattle.transfer_machine.specs.Stages.{is_rest}
 use Rattle.transfer_machine.specs.declared.stage.NextStep.TheVariants.{Rest}
 use Rattle.transfer_machine.specs.declared.transfer.TransferView.{TransferView}
-use Rattle.pool_machine.specs.Beginning.{call_begun, before_call, first_stage}
+use Rattle.pool_machine.specs.Beginning.{call_begun}
 use Rattle.pool_machine.specs.Steps.{after_move}
 use Rattle.pool_machine.specs.declared.call.Call.{Call}
 use Rattle.pool_machine.specs.declared.call.Call.TheVariants.{Allocate, Free, Read, Write}
@@ -23,7 +23,6 @@ use Rattle.pool_machine.specs.declared.call.CallStage.TheVariants.{Between, Movi
 use Rattle.pool_machine.specs.declared.view.ProcessView.{ProcessView}
 use Rattle.call_invariant.specs.Phases.{changes_pool}
 use Rattle.interleaving_core.specs.Invariant.{BlockIsHeld}
-use Rattle.interleaving_core.specs.Moves.{calling_view, may_go}
 use Rattle.interleaving_core.specs.Runs.{entries_of}
 use Rattle.interleaving_core.specs.Steps.{is_alone, is_in_call, next_met, next_answer}
 use Rattle.interleaving_core.specs.TransferLaws.{moves_transfer}
@@ -31,8 +30,8 @@ use Rattle.interleaving_core.proofs.Busy.{begun_calls}
 use Rattle.interleaving_core.proofs.Holds.{is_alone_way}
 use Rattle.interleaving_core.proofs.Standing.{alone_between, call_can_begin}
 use Rattle.pool_table.specs.declared.about.About.{About}
-use Rattle.pool_table.specs.declared.about.About.TheVariants.{Alone, InCall}
-use Rattle.pool_table.specs.Minds.{Mind, number_of, held_in, entries_in}
+use Rattle.pool_table.specs.declared.about.About.TheVariants.{InCall}
+use Rattle.pool_table.specs.Minds.{Mind, number_of, entries_in}
 use Rattle.pool_table.specs.Rule.{views_of}
 use Rattle.pool_table.specs.Turns.{turning}
 use Rattle.pool_table.specs.Views.{SeatView}

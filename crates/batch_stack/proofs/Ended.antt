@@ -1,11 +1,9 @@
 -- what the end of a transfer tells: the batch of a take is whole, and a take that found nothing met an empty stack
-use Rattle.std.proofs.Common.{◌≡◌, ◌≢◌, ℕ, ◌+◌, ◌<◌, ◌≤◌, Bool, true, false, List, [], ◌∷◌, ◌++◌, length, refl, sym, ap, ◌∙◌, subst, arith}
+use Rattle.std.proofs.Common.{◌≡◌, ◌≢◌, ℕ, ◌<◌, ◌≤◌, Bool, true, false, List, [], ◌∷◌, ◌++◌, length, refl, sym, ap, ◌∙◌, subst, arith}
 use Rattle.std.specs.Prelude.{slice_index}
 use Rattle.std.proofs.Math.Seq.{get_or-append_seam}
 use Rattle.std.proofs.lemmas.Bool.{false≢true}
 use Rattle.std.proofs.lemmas.List.{length-append}
-use mathlib.Core.Option.{some}
-use lib.ListN.{get_elem?}
 use Rattle.word_layout.specs.Sizes.{Sizes}
 use Rattle.word_layout.specs.Names.{word_at}
 use Rattle.word_layout.specs.Packing.{value_of, reply_of}
@@ -16,7 +14,7 @@ use Rattle.transfer_machine.specs.States.{StackState}
 use Rattle.transfer_machine.specs.declared.stage.NextStep.{NextStep}
 use Rattle.transfer_machine.specs.declared.stage.NextStep.TheVariants.{Rest, Announce, Try, LoadFinalState, LoadReply}
 use Rattle.transfer_machine.specs.declared.transfer.TransferView.{TransferView}
-use Rattle.transfer_invariant.specs.Memory.{Words, States, state_tag}
+use Rattle.transfer_invariant.specs.Memory.{Words, state_tag}
 use Rattle.transfer_invariant.specs.Progress.{has_announced}
 use Rattle.helping_invariant.specs.Parts.{has_tried}
 use Rattle.transfer_schedule.specs.Numbers.{is_taking}
@@ -29,7 +27,7 @@ use Rattle.pool_machine.specs.declared.call.CallStage.TheVariants.{Between, Movi
 use Rattle.pool_machine.specs.declared.view.PoolView.{PoolView}
 use Rattle.pool_machine.specs.declared.view.ProcessView.{ProcessView}
 use Rattle.batch_invariant.specs.Batches.{ProcessViews}
-use Rattle.chain_invariant.specs.Chains.{BlockLists, Chains, IsChainOf, times_pooled}
+use Rattle.chain_invariant.specs.Chains.{BlockLists, Chains, times_pooled}
 use Rattle.stack_invariant.specs.Emptied.{MetNothing}
 use Rattle.chain_invariant.proofs.Gives.{heads_are_apart}
 use Rattle.chain_invariant.proofs.Pool.{spare_pooled}
@@ -45,17 +43,18 @@ use Rattle.interleaving_core.proofs.Standing.{number_holds}
 use Rattle.interleaving_core.proofs.StateLaws.{empty_takes, empty_takes_had_few, tries_applied}
 use Rattle.pool_table.specs.declared.about.About.{About}
 use Rattle.pool_table.specs.Minds.{Mind, number_of}
-use Rattle.pool_table.specs.Rule.{Holds, views_of}
+use Rattle.pool_table.specs.Rule.{views_of}
 use Rattle.pool_table.specs.Turns.{turning}
 use Rattle.pool_table.specs.Views.{SeatView}
 use Rattle.pool_table.specs.Steps.{CanStep, CanMeetNext, Stepped, answered}
-use Rattle.pool_table.specs.Transfers.{Agrees, transfer_about}
+use Rattle.pool_table.specs.Transfers.{Agrees}
 use Rattle.pool_table.proofs.Steps.{next_step_allowed}
-use Rattle.pool_table.proofs.Transfers.{DueOn, due_on, transfer_steps}
+use Rattle.pool_table.proofs.Transfers.{due_on}
 use Rattle.pool_table.proofs.Turns.{seat_of}
 use Rattle.batch_stack.specs.declared.progress.Progress.{Progress}
 use Rattle.batch_stack.specs.declared.progress.Progress.TheVariants.{Going, Took, Empty, Gave}
-use Rattle.batch_stack.specs.Ended.{IsWholeBatch, HasTaken, MetEmptyStack, FoundNothing, EndTells}
+use Rattle.versioned_records.proofs.Loading.{somewhere_met}
+use Rattle.batch_stack.specs.Ended.{IsWholeBatch, HasTaken, HadNothing, MetEmptyStack, FoundNothing, EndTells}
 use Rattle.batch_stack.specs.Running.{ended_as, progress_at}
 
 -- a spare of a process is whole
@@ -70,7 +69,7 @@ spare_is_whole sizes words s views held i head before low heads once chains =
     record { chain = chains.batch_blocks head; leads = chains.hold.batches head some; once = omega (arith, some, once) }
 
 -- the pool of a process whose transfer makes a step
-pool_becomes : (sizes : Sizes) (w : ProcessView) (word : ℕ) (t : Bool) (stage : CallStage) → is_alone w.calls.way ≡ t
+pub pool_becomes : (sizes : Sizes) (w : ProcessView) (word : ℕ) (t : Bool) (stage : CallStage) → is_alone w.calls.way ≡ t
     → w.calls.stage ≡ stage → moves_transfer w ≡ true → (next_met sizes w word).pool ≡ pool_met_at word w.pool w.transfer.next
 pool_becomes sizes w word true stage alone here moves = rw alone refl
 pool_becomes sizes w word false Between alone here moves = absurd (false≢true (rw (alone, here) at moves))
@@ -124,7 +123,7 @@ reply_met sizes words w word moves next e =
     e ∙ ap (λ action. answered action (word_met sizes words w)) acts
 
 -- which stages an answer tells
-ends_at : (s : NextStep) (last : Reply) (answer : Progress) → answer ≢ Going → answer ≡ progress_at s last → s ≡ LoadReply
+pub ends_at : (s : NextStep) (last : Reply) (answer : Progress) → answer ≢ Going → answer ≡ progress_at s last → s ≡ LoadReply
 ends_at Rest last answer ends e = absurd (ends e)
 ends_at Announce last answer ends e = absurd (ends e)
 ends_at (Try second step) last answer ends e = absurd (ends e)
@@ -189,17 +188,12 @@ module _ (sizes : Sizes) (a : About) (v x : SeatView) (t : TransferView) (word :
       let number : d.process ≡ number_of v.mind =
       sym (number_holds v.sizes (word_at v.sizes words) d.views d.history d.process due.table.low due.table.meets)
       ∙ (ap (λ (z : ProcessView). z.transfer.number) d.here ∙ s.owner) in
-      record {
-        words = words;
-        views = s.made.views;
-        place = s.made.number;
-        held = s.made.held;
-        seated = s.made.seated;
+      somewhere_met a v x word s (HadNothing a v) (record {
         states = states;
         had = had;
         met = subst (λ i. MetNothing v.sizes (word_at v.sizes words) states i w.transfer) number
             (subst (λ (z : ProcessView). MetNothing v.sizes (word_at v.sizes words) states d.process z.transfer) d.here empty);
-      }
+      })
 
   found_nothing : reply_of (value_of word) ≡ replied.Nothing → FoundNothing a v x
   found_nothing nothing =

@@ -3,4 +3,5 @@ pub mod Bounds
 pub mod Calls
 pub mod Ended
 pub mod Parts
+pub mod Resting
 pub mod Alone

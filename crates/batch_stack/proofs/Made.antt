@@ -1,5 +1,5 @@
 -- a step of a running transfer is the machine's, and what it tells
-use Rattle.std.proofs.Common.{◌≡◌, ℕ, Option, sym, subst}
+use Rattle.std.proofs.Common.{◌≡◌, ◌≢◌, ℕ, Option, sym, subst}
 use Rattle.word_layout.specs.Sizes.{Sizes}
 use Rattle.transfer_machine.specs.Machine.{met_of, CanAct, CanMeet}
 use Rattle.transfer_machine.specs.declared.transfer.TransferView.{TransferView}
@@ -12,9 +12,11 @@ use Rattle.pool_table.proofs.Transfers.{transfer_can_act, transfer_can_meet, tra
 use Rattle.batch_stack.specs.declared.progress.Progress.{Progress}
 use Rattle.batch_stack.specs.declared.progress.Progress.TheVariants.{Going}
 use Rattle.batch_stack.specs.Running.{Running, MadeStep, ComesNearer, GoesOn, progress_at, step_about}
+use Rattle.batch_stack.specs.Alone.{EndsAtRest, spares_in, spares_about, spares_after}
 use Rattle.batch_stack.specs.Ended.{EndTells}
 use Rattle.batch_stack.proofs.Bounds.{comes_nearer, goes_on}
 use Rattle.batch_stack.proofs.Ended.{end_tells}
+use Rattle.batch_stack.proofs.Resting.{spares_step, ends_at_rest}
 
 -- all that it tells
 pub record Tells (sizes : Sizes) (a : About) (v : SeatView) (t : TransferView) (x : SeatView) (u : TransferView)
@@ -23,6 +25,8 @@ pub record Tells (sizes : Sizes) (a : About) (v : SeatView) (t : TransferView) (
   pub nearer : ComesNearer sizes t u answer
   pub on : answer ≡ Going → GoesOn sizes a x u
   pub ends : EndTells a v x answer
+  pub spares : spares_in x ≡ spares_after answer (spares_about a v)
+  pub rests : answer ≢ Going → EndsAtRest sizes a x u
 
 step_tells : (sizes : Sizes) (a : About) (v x : SeatView) (t u : TransferView) (word : ℕ) (answer : Progress) → CanStep sizes a v
     → Agrees a v t → Stepped a v word x → u ≡ met_of sizes t word → answer ≡ progress_at t.next u.answer → Tells sizes a v t x u answer
@@ -34,6 +38,8 @@ step_tells sizes a v x t u word answer c agrees s part answered = record {
   nearer = comes_nearer sizes a v t u word answer c agrees part answered;
   on = goes_on sizes a v x t u word answer c agrees s part answered;
   ends = end_tells sizes a v x t u word answer c agrees s part answered;
+  spares = spares_step sizes a v x t u word answer c agrees s part answered;
+  rests = ends_at_rest sizes a v x t u word answer c agrees s part answered;
 }
 
 -- the same of a transfer by its fields, which are those that clauses see, and of what its step is about

@@ -17,6 +17,7 @@ use Rattle.pool_table.specs.Views.{SeatView}
 use Rattle.pool_table.specs.Rule.{Holds, views_of}
 use Rattle.pool_table.specs.Turns.{turning}
 use Rattle.pool_table.specs.Transfers.{transfer_about}
+use Rattle.versioned_records.specs.Loads.{SomewhereSeated}
 use Rattle.batch_stack.specs.declared.progress.Progress.{Progress}
 use Rattle.batch_stack.specs.declared.progress.Progress.TheVariants.{Going, Took, Empty, Gave}
 
@@ -33,17 +34,15 @@ pub record HasTaken (about : About) (v x : SeatView) (head : ℕ) : Type 0 where
       → (ghosts : machine.Ghosts) → machine.Holds x.sizes (word_at x.sizes words) (views_of h.minds) h.history ghosts
       → IsWholeBatch x.sizes (word_at x.sizes words) (ghosts.states (state_tag (word_at x.sizes words))) (views_of h.minds) head
 
--- the words of the last step: there were words and views that met the rule, with states in which an exchange applied the take to an empty
--- content
-pub record MetEmptyStack (about : About) (v : SeatView) : Type 0 where
-  pub words : List ℕ
-  pub views : List SeatView
-  pub place : ℕ
-  pub held : Holds words views
-  pub seated : get_elem? views place ≡ some v
+-- these words have states in which an exchange applied the take of a seat's process to an empty content
+pub record HadNothing (about : About) (v : SeatView) (words : List ℕ) : Type 0 where
   pub states : States
   pub had : HasStates v.sizes words states
   pub met : MetNothing v.sizes (word_at v.sizes words) states (number_of v.mind) (transfer_about about v)
+
+-- so had the words of the last step
+abbrev pub MetEmptyStack : About → SeatView → Type 0
+MetEmptyStack about v = SomewhereSeated v (HadNothing about v)
 
 -- a take found nothing: it met an empty stack; its process's plan says dry, and so wherever the rule holds with its view few blocks were
 -- unheld at a place of the history that isn't before that take

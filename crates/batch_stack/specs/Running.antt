@@ -1,11 +1,12 @@
 -- a running transfer: what its steps make of it and of the seat, and how it is answered
-use Rattle.std.specs.Prelude.{◌≡◌, ◌≢◌, ℕ, ◌+◌, ◌≤◌, Bool, true, Option, Some}
+use Rattle.std.specs.Prelude.{◌≡◌, ◌≢◌, ℕ, ◌+◌, ◌≤◌, Bool, true, false, Option, Some}
 use Rattle.word_layout.specs.Sizes.{Sizes, transfer_bound}
 use Rattle.word_layout.specs.declared.announced.Wish.{Wish}
 use Rattle.word_layout.specs.declared.reply.Reply.{Reply}
 use Rattle.word_layout.specs.declared.reply.Reply.TheVariants as reply
 use Rattle.transfer_machine.specs.Machine.{met_of, begun}
 use Rattle.transfer_machine.specs.Opening.{opening_transfer}
+use Rattle.transfer_machine.specs.Stages.{is_rest}
 use Rattle.transfer_machine.specs.declared.stage.NextStep.{NextStep}
 use Rattle.transfer_machine.specs.declared.stage.NextStep.TheVariants.{Rest, Announce, Try, LoadFinalState, LoadReply}
 use Rattle.transfer_machine.specs.declared.stage.TryStep.{TryStep}
@@ -82,12 +83,12 @@ pub record GoesOnInCalls (sizes : Sizes) (call : Call) (x : SeatView) (u : Trans
   pub later : (y : SeatView) (next : Call) → y.mind.view.calls.stage ≡ Between → y.mind.view.transfer ≡ u → changes_pool (Some next) ≡ true
       → CanStep sizes (InCall next) y → Agrees (InCall next) y u
 
--- a transfer that has another step goes on: outside any call its process may make that step, whatever wish it is said to begin with
-abbrev pub GoesOn : Sizes → About → SeatView → TransferView → Type 0
-GoesOn sizes (Alone wish) x u = (next : Wish) → CanStep sizes (Alone next) x × Agrees (Alone next) x u
-GoesOn sizes (InCall call) x u = GoesOnInCalls sizes call x u
+-- one outside any call: its process may make that step, whatever wish it is said to begin with
+pub record GoesOnAlone (sizes : Sizes) (x : SeatView) (u : TransferView) : Type 0 where
+  pub busy : is_rest u.next ≡ false
+  pub goes : (next : Wish) → CanStep sizes (Alone next) x × Agrees (Alone next) x u
 
--- a process is in this transfer outside any call, and its next step is due, the first one or a later one
-pub record GoesAlone (sizes : Sizes) (v : SeatView) (t : TransferView) : Type 0 where
-  pub can : CanStep sizes (Alone t.wish) v
-  pub agrees : Agrees (Alone t.wish) v t
+-- a transfer that has another step goes on
+abbrev pub GoesOn : Sizes → About → SeatView → TransferView → Type 0
+GoesOn sizes (Alone wish) x u = GoesOnAlone sizes x u
+GoesOn sizes (InCall call) x u = GoesOnInCalls sizes call x u

@@ -1,11 +1,12 @@
 // One process's transfers, step by step.
-ghost use Rattle.std.specs.Prelude.{◌≡◌, ◌<◌, MatchResult};
+ghost use Rattle.std.specs.Prelude.{◌≡◌, ◌≢◌, ◌<◌, MatchResult};
 ghost use Rattle.word_layout.specs.Sizes.{blocks};
 ghost use Rattle.word_layout.specs.declared.announced.Wish.TheVariants.{Take, Give};
 ghost use Rattle.transfer_machine.specs.declared.stage.NextStep.TheVariants.{Rest};
 ghost use Rattle.pool_table.specs.Steps.{MayStep, OneStep, Stepped};
 ghost use Rattle.pool_table.specs.Transfers.{Agrees};
 ghost use Rattle.batch_stack.specs.declared.progress.Progress.TheVariants.{Going};
+ghost use Rattle.batch_stack.specs.Alone.{EndsAtRest, spares_in, spares_about, spares_after};
 ghost use Rattle.batch_stack.specs.Ended.{EndTells};
 ghost use Rattle.batch_stack.specs.Running.{Running, MadeStep, ComesNearer, GoesOn, IsInTry, opened, step_about, wishing};
 
@@ -18,7 +19,7 @@ use std::alloc::Global;
 use std::marker::Model;
 use step_counter::{Ledger, Steps};
 use transfer_machine::{NextStep, TransferView, TryStep};
-use versioned_records::{load_record_word, store_record_word};
+use versioned_records::{RecordCursor, load_record_word, store_record_word};
 use word_layout::{Shape, Wish};
 
 #[cfg(test)]
@@ -92,6 +93,8 @@ impl Transfer {
         ensures nearer { ComesNearer self.old.sizes self.old.part self.new.part result }
         ensures on { result ≡ Going → GoesOn self.old.sizes (step_about call self.old) seat.new.view self.new.part }
         ensures ends { EndTells (step_about call self.old) seat.old.view seat.new.view result }
+        ensures spares { spares_in seat.new.view ≡ spares_after result (spares_about (step_about call self.old) seat.old.view) }
+        ensures rests { result ≢ Going → EndsAtRest self.old.sizes (step_about call self.old) seat.new.view self.new.part }
     {
         let about = about_of(call, self.view.wish);
         let next = self.view.next;
@@ -152,15 +155,17 @@ fn make_try_step<L: Ledger>(
     match step {
         TryStep::LoadRecordWord { index } => {
             let (tag, row) = (loaded.tag(), loaded.row());
-            load_record_word(shape, about, tag, row, index, table, seat, steps).word
+            let cursor = RecordCursor { tag, row, index };
+            load_record_word(shape, about, cursor, table, seat, steps).word
         }
         TryStep::LoadAnnouncement { process } => {
             load_announcement(shape, about, process, table, seat, steps)
         }
         TryStep::StoreRecordWord { index } => {
-            let value = view.draft.value(shape.processes(), index);
             let (tag, row) = (loaded.tag() + 1, view.next_record);
-            store_record_word(shape, about, tag, row, index, value, table, seat, steps).word
+            let cursor = RecordCursor { tag, row, index };
+            let value = view.draft.value(shape.processes(), index);
+            store_record_word(shape, about, cursor, value, table, seat, steps).word
         }
         TryStep::LoadState
         | TryStep::LoadCoveredSlot { .. }

@@ -17,6 +17,8 @@ const EMPTY_TRACE: &[u8] = b"= End\n";
 
 const RESIZE: &[u8] = b"+ 0x10 0x8\n< 0x10\n> 0x20 0x10\n";
 
+const GET: &[u8] = b"get 1\n";
+
 const FIRST_TRACE: &[u8] =
     b"= Start\n@ ./a.out:[0x401136] + 0x4052a0 0x20\n@ ./a.out:[0x401146] - 0x4052a0\n= End\n";
 
@@ -24,6 +26,9 @@ const FIRST_REPORT: &str =
     "1: news 1 frees 1 big 0 failed 0 stray 0 twice 0 refused 0 peak 1 left 0 cut 0\nall: news 1 frees 1 big 0 failed 0 stray 0 twice 0 refused 0 peak 1 left 0 cut 0\n";
 
 const ZEROS: &str = "0 0 0 0 0 0 0 0 0 0";
+
+const FIRST_ZEROS: &str =
+    "1: news 0 frees 0 big 0 failed 0 stray 0 twice 0 refused 0 peak 0 left 0 cut 0\n";
 
 const COLUMNS: [&str; 10] = [
     "news", "frees", "big", "failed", "stray", "twice", "refused", "peak", "left", "cut",
@@ -591,7 +596,7 @@ fn answer_failing<R: Threads + Sync>(
         ("e", EMPTY_TRACE),
         ("e2", EMPTY_TRACE),
         ("f", FIRST_TRACE),
-        ("s", b"get 1\n" as &[u8]),
+        ("s", GET),
     ];
     let mut files = failing_files(alloc, &named, 1, failing)?;
     let outcome = run_line(rt, alloc, line, &mut files)?;
@@ -618,34 +623,38 @@ fn one_failing_call_of_the_files(rt: HostRuntime) -> Result<(), Fail> {
 // How a sink takes bytes: its room, how many a write takes at most, and which write fails; and what it then has.
 type Writing = (usize, usize, u64, &'static str);
 
-static FAILING_WRITES: [Writing; 3] = [
-    (AMPLE, AMPLE, 0, ""),
-    (AMPLE, 1, 5, "1: ne"),
-    (0, 1, NEVER, ""),
+// Words, and how the output takes the report's bytes.
+static FAILING_WRITES: [(&str, Writing); 9] = [
+    ("pooltrace play e", (AMPLE, AMPLE, 0, "")),
+    ("pooltrace play e", (AMPLE, AMPLE, 1, FIRST_ZEROS)),
+    ("pooltrace play e", (AMPLE, 1, 5, "1: ne")),
+    ("pooltrace play e", (0, 1, NEVER, "")),
+    (
+        "pooltrace drill --processes 1 --calls 0",
+        (AMPLE, AMPLE, 1, FIRST_ZEROS),
+    ),
+    (
+        "pooltrace drill --processes 1 --calls 0",
+        (AMPLE, 1, 5, "1: ne"),
+    ),
+    ("pooltrace drill --processes 1 --calls 0", (0, 1, NEVER, "")),
+    ("pooltrace store s", (AMPLE, AMPLE, 0, "")),
+    ("pooltrace store s", (AMPLE, 1, 5, "1: no")),
 ];
 
 #[test]
 fn one_failing_write(rt: HostRuntime) -> Result<(), Fail> {
     let alloc = rt.alloc();
-    for (room, most, failing, out) in FAILING_WRITES.iter() {
-        let mut files = files_of(alloc, &[("e", EMPTY_TRACE)])?;
+    for (line, (room, most, failing, out)) in FAILING_WRITES.iter() {
+        let mut files = files_of(alloc, &[("e", EMPTY_TRACE), ("s", GET)])?;
         let sink = failing_sink(alloc, *room, *most, *failing)?;
         let err = failing_sink(alloc, AMPLE, AMPLE, NEVER)?;
-        let outcome = run_with(
-            &rt,
-            alloc,
-            "pooltrace play e",
-            &mut files,
-            sink,
-            err,
-            &OpenGate,
-        )?;
+        let outcome = run_with(&rt, alloc, line, &mut files, sink, err, &OpenGate)?;
         assert_eq!(rt;
             outcome.parts(),
             (7, *out, "pooltrace: write\n"),
-            "{room} {most} {failing}"
+            "{line}: {room} {most} {failing}"
         );
-        assert!(rt; outcome.settled, "{room} {most} {failing}");
     }
     Ok(())
 }

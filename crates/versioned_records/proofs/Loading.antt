@@ -29,7 +29,7 @@ use Rattle.pool_table.specs.Transfers.{Agrees, transfer_about}
 use Rattle.pool_table.proofs.Transfers.{DueOn, due_on, transfer_can_act, transfer_acts_next, transfer_steps}
 use Rattle.pool_table.proofs.Turns.{seat_of}
 use Rattle.versioned_records.specs.declared.load.ReadStep.TheVariants.{Going, Whole, Moved}
-use Rattle.versioned_records.specs.Loads.{read_step, IsToLoad, LoadsWord, HadMovedOn, HasState}
+use Rattle.versioned_records.specs.Loads.{read_step, IsToLoad, LoadsWord, SomewhereSeated, HadMovedOn, HasState}
 
 -- the process makes that transfer
 own_agrees : (a : About) (v : SeatView) (tag row index : ℕ) → LoadsWord a v tag row index → Agrees a v (transfer_about a v)
@@ -164,6 +164,18 @@ all_has_state x tag e all = record {
       ∙ sym (records.current.values index lt));
 }
 
+-- what held of the words of a step was so somewhere
+pub somewhere_met : (a : About) (v x : SeatView) (word : ℕ) (s : Stepped a v word x) (Fact : List ℕ → Type 0) → Fact s.made.words
+    → SomewhereSeated v Fact
+somewhere_met a v x word s Fact fact = record {
+  words = s.made.words;
+  views = s.made.views;
+  place = s.made.number;
+  held = s.made.held;
+  seated = s.made.seated;
+  fact = fact;
+}
+
 -- the load of a record word, as it happened
 module _ (sizes : Sizes) (a : About) (v x : SeatView) (tag row index word : ℕ) (c : CanStep sizes a v)
     (l : LoadsWord a v tag row index) (s : Stepped a v word x) where
@@ -185,15 +197,8 @@ module _ (sizes : Sizes) (a : About) (v x : SeatView) (tag row index word : ℕ)
   pub moved_on : read_step sizes tag index word ≡ Moved → HadMovedOn v tag
   moved_on e =
       let above = moved_tests (nat_lt tag (tag_of word)) (index + 1 == record_words sizes) e in
-      record {
-        words = s.made.words;
-        views = s.made.views;
-        place = s.made.number;
-        held = s.made.held;
-        seated = s.made.seated;
-        above = stood_past v.sizes s.made.words (turning a v.mind.view) tag row index word due l.loads within found
-            (grind (arith, nat_tests));
-      }
+      somewhere_met a v x word s (λ words. tag < tag_of (word_at v.sizes words State))
+      (stood_past v.sizes s.made.words (turning a v.mind.view) tag row index word due l.loads within found (grind (arith, nat_tests)))
 
   pub whole_has_state : read_step sizes tag index word ≡ Whole → HasState x tag
   whole_has_state e =

@@ -38,14 +38,18 @@ pub record LoadsWord (about : About) (v : SeatView) (tag row index : ℕ) : Type
   pub moves : moves_transfer (turning about v.mind.view) ≡ true
   pub loads : IsToLoad (transfer_about about v) tag row index
 
--- the state had a higher tag: there are words that meet the rule with this view, with such a state
-pub record HadMovedOn (v : SeatView) (tag : ℕ) : Type 0 where
+-- there are words and views that meet the rule with this view, and of the words this holds
+pub record SomewhereSeated (v : SeatView) (Fact : List ℕ → Type 0) : Type 0 where
   pub words : List ℕ
   pub views : List SeatView
   pub place : ℕ
   pub held : Holds words views
   pub seated : get_elem? views place ≡ some v
-  pub above : tag < tag_of (word_at v.sizes words State)
+  pub fact : Fact words
+
+-- the state had a higher tag
+abbrev pub HadMovedOn : SeatView → ℕ → Type 0
+HadMovedOn v tag = SomewhereSeated v (λ words. tag < tag_of (word_at v.sizes words State))
 
 -- the record words that a seat's process has loaded are those of the state with this tag: wherever the rule holds with its view, they
 -- have that state's values, and so has the current record while that is the state

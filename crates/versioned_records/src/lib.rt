@@ -6,11 +6,13 @@
 //! record, for whoever runs a transfer; a [`RecordReader`] and a [`RecordWriter`] keep the words of a whole record.
 #![tactic(auto)]
 
+mod cursor;
 mod load;
 mod reader;
 mod store;
 mod writer;
 
+pub use cursor::RecordCursor;
 pub use load::{LoadedWord, ReadStep, load_record_word};
 pub use pool_table::{PoolSeat, PoolTable};
 pub use reader::RecordReader;

@@ -6,6 +6,7 @@ ghost use Rattle.pool_table.specs.Steps.{MayStep, OneStep, Stepped};
 ghost use Rattle.versioned_records.specs.declared.load.ReadStep.TheVariants.{Moved, Whole};
 ghost use Rattle.versioned_records.specs.Loads.{LoadsWord, HasState, HadMovedOn, read_step};
 
+use crate::cursor::RecordCursor;
 use pool_table::{About, PoolSeat, PoolTable, act};
 use step_counter::{Ledger, Steps};
 use transfer_machine::Action;
@@ -29,29 +30,28 @@ pub struct LoadedWord {
     pub read: ReadStep,
 }
 
-/// Loads a word of the record of the state with this tag, for the transfer of the seat's process: one atomic step.
+/// Loads the next word of the record of a state, for the transfer of the seat's process: one atomic step.
 ///
 /// It is of this state or a later one. The last word of this state's makes the record whole.
 #[inline(always)]
 pub fn load_record_word<L: Ledger>(
     shape: &Shape,
     about: &About,
-    tag: u64,
-    row: u32,
-    index: u32,
+    cursor: RecordCursor,
     table: &PoolTable,
     seat: &mut PoolSeat,
     steps: &mut Steps<L>,
 ) -> LoadedWord
     requires may { MayStep shape.now about.now table.now seat.old steps.old }
-    requires loads { LoadsWord about.now seat.old.view tag row index }
+    requires loads { LoadsWord about.now seat.old.view cursor.tag cursor.row cursor.index }
     ensures one { OneStep seat.old seat.new steps.old steps.new }
     ensures step { Stepped about.now seat.old.view result.word seat.new.view }
-    ensures read { result.read ≡ read_step shape.now tag index result.word }
-    ensures tag { tag ≤ tag_of result.word }
-    ensures moved { result.read ≡ Moved → HadMovedOn seat.old.view tag }
-    ensures whole { result.read ≡ Whole → HasState seat.new.view tag }
+    ensures read { result.read ≡ read_step shape.now cursor.tag cursor.index result.word }
+    ensures tag { cursor.tag ≤ tag_of result.word }
+    ensures moved { result.read ≡ Moved → HadMovedOn seat.old.view cursor.tag }
+    ensures whole { result.read ≡ Whole → HasState seat.new.view cursor.tag }
 {
+    let RecordCursor { tag, row, index } = cursor;
     let name = WordName::RecordWord { row, index };
     let word = act(about, Action::Load { name }, shape, table, seat, steps);
     LoadedWord {

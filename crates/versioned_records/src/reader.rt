@@ -8,6 +8,7 @@ ghost use Rattle.pool_table.specs.Transfers.{about_of};
 ghost use Rattle.versioned_records.specs.declared.load.ReadStep.TheVariants.{Going, Whole};
 ghost use Rattle.versioned_records.specs.Reading.{CanRead, CanReadOn, HasReadOn, begun, opened, read_value};
 
+use crate::cursor::RecordCursor;
 use crate::load::{ReadStep, load_record_word};
 use pool_machine::Call;
 use pool_model::NoMemory;
@@ -24,9 +25,7 @@ use word_layout::{Shape, Tagged, Wish};
 #[derive(Drop)]
 pub struct RecordReader {
     shape: Shape,
-    tag: u64,
-    row: u32,
-    index: u32,
+    cursor: RecordCursor,
     words: [u64; 66],
     reached: ReadStep,
 }
@@ -36,7 +35,7 @@ impl Model for RecordReader {
 
     ghost Value = { Reading };
 
-    ghost view = { λ r. record { sizes = r.shape; tag = r.tag; row = r.row; index = r.index; words = r.words; reached = r.reached } };
+    ghost view = { λ r. record { sizes = r.shape; tag = r.cursor.tag; row = r.cursor.row; index = r.cursor.index; words = r.words; reached = r.reached } };
 }
 
 impl RecordReader {
@@ -48,9 +47,11 @@ impl RecordReader {
         let _ = alloc;
         Ok(RecordReader {
             shape: *shape,
-            tag: 0,
-            row: 0,
-            index: 0,
+            cursor: RecordCursor {
+                tag: 0,
+                row: 0,
+                index: 0,
+            },
             words: [0; 66],
             reached: ReadStep::Moved,
         })
@@ -62,9 +63,7 @@ impl RecordReader {
         requires row { row < records self.old.sizes }
         ensures { self.new ≡ begun tag row self.old }
     {
-        self.tag = tag;
-        self.row = row;
-        self.index = 0;
+        self.cursor = RecordCursor { tag, row, index: 0 };
         self.reached = ReadStep::Going;
     }
 
@@ -88,19 +87,10 @@ impl RecordReader {
         prove!(self.shape.processes() <= 32);
         // In the middle of a transfer its wish isn't looked at.
         let about = about_of(call, Wish::Take);
-        let index = self.index;
-        let loaded = load_record_word(
-            &self.shape,
-            &about,
-            self.tag,
-            self.row,
-            index,
-            table,
-            seat,
-            steps,
-        );
-        self.words[index as usize] = loaded.word;
-        self.index = index + 1;
+        let cursor = self.cursor;
+        let loaded = load_record_word(&self.shape, &about, cursor, table, seat, steps);
+        self.words[cursor.index as usize] = loaded.word;
+        self.cursor.index = cursor.index + 1;
         self.reached = loaded.read;
         loaded.read
     }

@@ -5,6 +5,7 @@ ghost use Rattle.word_layout.specs.Packing.{tagged};
 ghost use Rattle.pool_table.specs.Steps.{MayStep, OneStep, Stepped};
 ghost use Rattle.versioned_records.specs.Stores.{StoresWord, write_step};
 
+use crate::cursor::RecordCursor;
 use pool_table::{About, PoolSeat, PoolTable, act};
 use step_counter::{Ledger, Steps};
 use transfer_machine::Action;
@@ -26,26 +27,25 @@ pub struct StoredWord {
     pub write: WriteStep,
 }
 
-/// Stores a word of the next record of the seat's process, with this tag and this value: one atomic step.
+/// Stores this value as the next word of the next record of the seat's process, with the cursor's tag: one atomic step.
 #[inline(always)]
 pub fn store_record_word<L: Ledger>(
     shape: &Shape,
     about: &About,
-    tag: u64,
-    row: u32,
-    index: u32,
+    cursor: RecordCursor,
     value: u32,
     table: &PoolTable,
     seat: &mut PoolSeat,
     steps: &mut Steps<L>,
 ) -> StoredWord
     requires may { MayStep shape.now about.now table.now seat.old steps.old }
-    requires stores { StoresWord shape.now about.now seat.old.view tag row index value }
+    requires stores { StoresWord shape.now about.now seat.old.view cursor.tag cursor.row cursor.index value }
     ensures one { OneStep seat.old seat.new steps.old steps.new }
-    ensures word { result.word ≡ tagged tag value }
+    ensures word { result.word ≡ tagged cursor.tag value }
     ensures step { Stepped about.now seat.old.view result.word seat.new.view }
-    ensures written { result.write ≡ write_step shape.now index }
+    ensures written { result.write ≡ write_step shape.now cursor.index }
 {
+    let RecordCursor { tag, row, index } = cursor;
     let name = WordName::RecordWord { row, index };
     let word = Tagged::pack(tag, value);
     act(

@@ -7,6 +7,7 @@ ghost use Rattle.pool_table.specs.Transfers.{about_of};
 ghost use Rattle.versioned_records.specs.declared.store.WriteStep.TheVariants.{Going};
 ghost use Rattle.versioned_records.specs.Writing.{CanWrite, CanWriteOn, HasWrittenOn, begun};
 
+use crate::cursor::RecordCursor;
 use crate::store::{WriteStep, store_record_word};
 use pool_machine::Call;
 use pool_model::NoMemory;
@@ -23,9 +24,7 @@ use word_layout::{Shape, Wish};
 #[derive(Drop)]
 pub struct RecordWriter {
     shape: Shape,
-    tag: u64,
-    row: u32,
-    index: u32,
+    cursor: RecordCursor,
     values: [u32; 66],
 }
 
@@ -34,7 +33,7 @@ impl Model for RecordWriter {
 
     ghost Value = { Writing };
 
-    ghost view = { λ w. record { sizes = w.shape; tag = w.tag; row = w.row; index = w.index; values = w.values } };
+    ghost view = { λ w. record { sizes = w.shape; tag = w.cursor.tag; row = w.cursor.row; index = w.cursor.index; values = w.values } };
 }
 
 impl RecordWriter {
@@ -48,9 +47,11 @@ impl RecordWriter {
         let _ = alloc;
         Ok(RecordWriter {
             shape: *shape,
-            tag: 0,
-            row: 0,
-            index: shape.record_words(),
+            cursor: RecordCursor {
+                tag: 0,
+                row: 0,
+                index: shape.record_words(),
+            },
             values: [0; 66],
         })
     }
@@ -61,9 +62,7 @@ impl RecordWriter {
         ensures { self.new ≡ begun tag row values.now self.old }
     {
         prove!(self.shape.processes() <= 32);
-        self.tag = tag;
-        self.row = row;
-        self.index = 0;
+        self.cursor = RecordCursor { tag, row, index: 0 };
         self.values[..values.len()].copy_from_slice(values);
     }
 
@@ -87,19 +86,10 @@ impl RecordWriter {
         prove!(self.shape.processes() <= 32);
         // In the middle of a transfer its wish isn't looked at.
         let about = about_of(call, Wish::Take);
-        let index = self.index;
-        let stored = store_record_word(
-            &self.shape,
-            &about,
-            self.tag,
-            self.row,
-            index,
-            self.values[index as usize],
-            table,
-            seat,
-            steps,
-        );
-        self.index = index + 1;
+        let cursor = self.cursor;
+        let value = self.values[cursor.index as usize];
+        let stored = store_record_word(&self.shape, &about, cursor, value, table, seat, steps);
+        self.cursor.index = cursor.index + 1;
         stored.write
     }
 }

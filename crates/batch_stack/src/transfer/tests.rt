@@ -1,12 +1,14 @@
-// Takes outside any call, each step with its word: a process alone, and one beside another that stopped.
-ghost use Rattle.std.specs.Prelude.{◌≡◌, ◌<◌, IfOk};
+// Transfers outside any call, step by step: what their tests share.
+ghost use Rattle.std.specs.Prelude.{◌≡◌, ◌≢◌, ℕ, ◌+◌, ◌*◌, ◌<◌, ◌≤◌, [], ◌∷◌, length, IfOk, IsTrue, ◌↔◌};
 ghost use Rattle.word_layout.specs.Names.{table_words};
+ghost use Rattle.word_layout.specs.Packing.{most_age};
 ghost use Rattle.word_table.specs.Seats.{SameSeat};
 ghost use Rattle.transfer_machine.specs.Machine.{CanAct};
+ghost use Rattle.pool_table.specs.declared.about.About.TheVariants.{Alone};
 ghost use Rattle.pool_table.specs.Views.{seat_of_process};
 ghost use Rattle.pool_table.specs.Steps.{Among};
-ghost use Rattle.batch_stack.specs.declared.progress.Progress.TheVariants.{Going};
-ghost use Rattle.batch_stack.specs.Running.{GoesAlone};
+ghost use Rattle.batch_stack.specs.declared.progress.Progress.TheVariants.{Gave, Going};
+ghost use Rattle.batch_stack.specs.Alone.{Advanced, GoesAlone, RestsAlone, spares_in, spares_about};
 
 use super::Transfer;
 use crate::progress::Progress;
@@ -14,10 +16,13 @@ use pool_model::NoMemory;
 use pool_table::{PoolSeat, PoolTable, next_seat, open_table};
 use std::alloc::Global;
 use std::process::Abort;
-use std::test::Fail;
 use step_counter::{Kept, Steps};
 use transfer_machine::Action;
 use word_layout::Shape;
+
+mod stale;
+mod takes;
+mod threads;
 
 /// A step that was made.
 #[derive(Drop)]
@@ -26,9 +31,90 @@ struct Made {
     progress: Progress,
 }
 
+/// A table with the seats of its two processes.
+fn open_two(alloc: Global, shape: &Shape) -> Result<(PoolTable, PoolSeat, PoolSeat), NoMemory>
+    requires two { shape.now.processes ≡ 2 }
+    ensures words { IfOk result (λ opened. opened.0.words ≡ table_words shape.now) }
+    ensures first { IfOk result (λ opened. opened.1.table ≡ opened.0) }
+    ensures second { IfOk result (λ opened. opened.2.table ≡ opened.0) }
+    ensures first_view { IfOk result (λ opened. opened.1.view ≡ seat_of_process shape.now 0 2) }
+    ensures second_view { IfOk result (λ opened. opened.2.view ≡ seat_of_process shape.now 1 0) }
+    ensures first_among { IfOk result (λ opened. Among opened.1.view) }
+    ensures second_among { IfOk result (λ opened. Among opened.2.view) }
+{
+    let (table, mut first) = open_table(alloc, shape)?;
+    let second = next_seat(&table, &mut first, &mut Steps::new(Kept::new()));
+    Ok((table, first, second))
+}
+
+/// The transfers of a process at the opening, when it keeps one spare.
+#[tactic(auto, using(crate::proofs::Alone::opening_rests, crate::proofs::Alone::opening_spares))]
+fn open(
+    alloc: Global,
+    shape: &Shape,
+    process: u32,
+    seat: &PoolSeat,
+    seats: u32,
+) -> Result<Transfer, NoMemory>
+    requires process { process < shape.now.processes }
+    requires opening { seat.now.view ≡ seat_of_process shape.now process seats }
+    requires among { Among seat.now.view }
+    ensures sizes { IfOk result (λ transfer. transfer.sizes ≡ shape.now) }
+    ensures rests { IfOk result (λ transfer. RestsAlone transfer.sizes seat.now.view transfer.part) }
+    ensures spare { spares_in seat.now.view ≡ (2 * process + 1) * shape.now.length ∷ [] }
+{
+    let _ = seats;
+    Transfer::open(alloc, shape, process)
+}
+
+/// The spare of process 0 at the opening.
+fn first_spare(shape: &Shape) -> u32
+    ensures { result ≡ (2 * 0 + 1) * shape.now.length }
+{
+    shape.length()
+}
+
+/// Whether a process may announce one more transfer.
+fn is_young(transfer: &Transfer) -> bool
+    ensures { IsTrue result ↔ transfer.now.part.age < most_age }
+{
+    transfer.view.age < 1 << 32
+}
+
+/// Begins a take of a process with at most one spare.
+#[tactic(auto, using(crate::proofs::Alone::take_spares))]
+fn begin_take(rt: &impl Abort, transfer: &mut Transfer, seat: &PoolSeat)
+    requires rests { RestsAlone transfer.old.sizes seat.now.view transfer.old.part }
+    requires few { length (spares_in seat.now.view) ≤ 1 }
+    ensures sizes { transfer.new.sizes ≡ transfer.old.sizes }
+    ensures goes { GoesAlone transfer.old.sizes seat.now.view transfer.new.part }
+    ensures spares { spares_about (Alone transfer.new.part.wish) seat.now.view ≡ spares_in seat.now.view }
+{
+    if !is_young(transfer) {
+        panic!(rt; "no age is left");
+    }
+    transfer.begin_take();
+}
+
+/// Begins a give of the one spare of a process.
+#[tactic(auto, using(crate::proofs::Alone::give_spares))]
+fn begin_give(rt: &impl Abort, transfer: &mut Transfer, seat: &PoolSeat, head: u32)
+    requires rests { RestsAlone transfer.old.sizes seat.now.view transfer.old.part }
+    requires spare { spares_in seat.now.view ≡ head ∷ [] }
+    ensures sizes { transfer.new.sizes ≡ transfer.old.sizes }
+    ensures goes { GoesAlone transfer.old.sizes seat.now.view transfer.new.part }
+    ensures spares { spares_about (Alone transfer.new.part.wish) seat.now.view ≡ [] }
+{
+    if !is_young(transfer) {
+        panic!(rt; "no age is left");
+    }
+    assert!(rt; head < transfer.shape.blocks());
+    transfer.begin_give(head);
+}
+
 /// A take of a process at the opening.
-#[tactic(auto, using(crate::proofs::Alone::opening_take))]
 fn take(
+    rt: &impl Abort,
     alloc: Global,
     shape: &Shape,
     process: u32,
@@ -41,9 +127,8 @@ fn take(
     ensures sizes { IfOk result (λ transfer. transfer.sizes ≡ shape.now) }
     ensures goes { IfOk result (λ transfer. GoesAlone transfer.sizes seat.now.view transfer.part) }
 {
-    let _ = seats;
-    let mut transfer = Transfer::open(alloc, shape, process)?;
-    transfer.begin_take();
+    let mut transfer = open(alloc, shape, process, seat, seats)?;
+    begin_take(rt, &mut transfer, seat);
     Ok(transfer)
 }
 
@@ -70,24 +155,56 @@ fn next_word(transfer: &Transfer) -> (u32, bool)
     }
 }
 
-/// Makes the next step of a transfer alone. Its word is the one that stood there, and of a store the one that it left.
-#[tactic(auto, using(crate::proofs::Alone::alone_goes_on, crate::proofs::Alone::alone_can, crate::proofs::Alone::alone_agrees))]
+/// Makes the next step of a transfer alone.
+#[tactic(auto, using(crate::proofs::Alone::alone_can, crate::proofs::Alone::alone_agrees, crate::proofs::Alone::step_advances))]
+fn advance(transfer: &mut Transfer, table: &PoolTable, seat: &mut PoolSeat) -> Progress
+    requires seat { seat.old.table ≡ table.now }
+    requires words { table.now.words ≡ table_words transfer.old.sizes }
+    requires goes { GoesAlone transfer.old.sizes seat.old.view transfer.old.part }
+    ensures sizes { transfer.new.sizes ≡ transfer.old.sizes }
+    ensures seat { SameSeat seat.old seat.new }
+    ensures advanced { Advanced transfer.old.sizes seat.old.view transfer.old.part seat.new.view transfer.new.part result }
+{
+    transfer.step(table, seat, None, &mut Steps::new(Kept::new()))
+}
+
+/// The same with its word: the one that stood there, and of a store the one that it left.
+
 fn step(transfer: &mut Transfer, table: &PoolTable, seat: &mut PoolSeat) -> Made
     requires seat { seat.old.table ≡ table.now }
     requires words { table.now.words ≡ table_words transfer.old.sizes }
     requires goes { GoesAlone transfer.old.sizes seat.old.view transfer.old.part }
     ensures sizes { transfer.new.sizes ≡ transfer.old.sizes }
     ensures seat { SameSeat seat.old seat.new }
-    ensures goes { result.progress ≡ Going → GoesAlone transfer.old.sizes seat.new.view transfer.new.part }
+    ensures advanced { Advanced transfer.old.sizes seat.old.view transfer.old.part seat.new.view transfer.new.part result.progress }
 {
     let (place, stores) = next_word(transfer);
     let met = look(table, seat, place);
-    let mut steps = Steps::new(Kept::new());
-    let progress = transfer.step(table, seat, None, &mut steps);
+    let progress = advance(transfer, table, seat);
     let left = look(table, seat, place);
     Made {
         word: if stores { left } else { met },
         progress,
+    }
+}
+
+/// Whether a transfer has another step.
+fn is_going(progress: Progress) -> bool
+    ensures { IsTrue result ↔ progress ≡ Going }
+{
+    match progress {
+        Progress::Going => true,
+        Progress::Took(_) | Progress::Empty | Progress::Gave => false,
+    }
+}
+
+/// Whether a give ended.
+fn has_given(progress: Progress) -> bool
+    ensures { IsTrue result ↔ progress ≡ Gave }
+{
+    match progress {
+        Progress::Gave => true,
+        Progress::Going | Progress::Took(_) | Progress::Empty => false,
     }
 }
 
@@ -101,12 +218,14 @@ fn run(
     requires seat { seat.old.table ≡ table.now }
     requires words { table.now.words ≡ table_words transfer.old.sizes }
     requires goes { GoesAlone transfer.old.sizes seat.old.view transfer.old.part }
+    ensures sizes { transfer.new.sizes ≡ transfer.old.sizes }
+    ensures seat { SameSeat seat.old seat.new }
+    ensures advanced { Advanced transfer.old.sizes seat.old.view transfer.old.part seat.new.view transfer.new.part result.1 }
 {
     for made in 0..most {
-        let progress = step(transfer, table, seat).progress;
-        match progress {
-            Progress::Going => {}
-            Progress::Took(_) | Progress::Empty | Progress::Gave => return (made + 1, progress),
+        let progress = advance(transfer, table, seat);
+        if !is_going(progress) {
+            return (made + 1, progress);
         }
     }
     (most, Progress::Going)
@@ -125,114 +244,36 @@ fn make(
     requires goes { GoesAlone transfer.old.sizes seat.old.view transfer.old.part }
     ensures sizes { transfer.new.sizes ≡ transfer.old.sizes }
     ensures seat { SameSeat seat.old seat.new }
-    ensures goes { result ≡ Going → GoesAlone transfer.old.sizes seat.new.view transfer.new.part }
+    ensures advanced { Advanced transfer.old.sizes seat.old.view transfer.old.part seat.new.view transfer.new.part result }
 {
     for index in 0..words.len() {
         let made = step(transfer, table, seat);
         assert_eq!(rt; made.word, words[index], "{index}");
-        match made.progress {
-            Progress::Going => {}
-            Progress::Took(_) | Progress::Empty | Progress::Gave => {
-                assert_eq!(rt; index + 1, words.len());
-                return made.progress;
-            }
+        if !is_going(made.progress) {
+            assert_eq!(rt; index + 1, words.len());
+            return made.progress;
         }
     }
     Progress::Going
 }
 
-/// A take of the one process of a pool of so many batches, on these words.
-fn take_alone(
+/// Makes steps on these words, of which none is the last one.
+fn make_part(
     rt: &impl Abort,
-    alloc: Global,
-    batches: u32,
+    transfer: &mut Transfer,
+    table: &PoolTable,
+    seat: &mut PoolSeat,
     words: &[u64],
-) -> Result<Progress, Fail> {
-    let shape = Shape::new(1, batches, 0)?;
-    let (table, mut seat) = open_table(alloc, &shape)?;
-    let mut transfer = take(alloc, &shape, 0, &seat, 1)?;
-    Ok(make(rt, &mut transfer, &table, &mut seat, words))
-}
-
-#[test]
-fn a_lone_take_of_a_batch(rt: HostRuntime) -> Result<(), Fail> {
-    let words = [
-        16777216, 16777218, 16777224, 16777216, 16777216, 16777216, 16777216, 36, 33554439,
-        33554432, 33554432, 41943077, 16777218, 33554432, 41943077,
-    ];
-    let end = take_alone(&rt, rt.alloc(), 10, &words)?;
-    assert_eq!(rt; end, Progress::Took(36));
-    Ok(())
-}
-
-#[test]
-fn a_lone_take_that_finds_nothing(rt: HostRuntime) -> Result<(), Fail> {
-    let words = [
-        16777216, 16777218, 16777216, 16777216, 16777216, 16777216, 16777216, 33554432, 33554432,
-        33554432, 41943040, 16777218, 33554432, 41943040,
-    ];
-    let end = take_alone(&rt, rt.alloc(), 2, &words)?;
-    assert_eq!(rt; end, Progress::Empty);
-    Ok(())
-}
-
-/// Process 0 makes so many steps of a take and stops, and process 1 takes: how many it makes of them, and how it ends.
-fn take_beside(alloc: Global, made: u32) -> Result<(u32, Progress), Fail> {
-    let shape = Shape::new(2, 6, 0)?;
-    let mut steps = Steps::new(Kept::new());
-    let (table, mut first) = open_table(alloc, &shape)?;
-    let mut second = next_seat(&table, &mut first, &mut steps);
-    let mut stopped = take(alloc, &shape, 0, &first, 2)?;
-    let mut taking = take(alloc, &shape, 1, &second, 0)?;
-    let (count, _) = run(&mut stopped, &table, &mut first, made);
-    let (_, end) = run(&mut taking, &table, &mut second, 47);
-    Ok((count, end))
-}
-
-#[test]
-fn a_take_ends_beside_one_that_stopped_anywhere(rt: HostRuntime) -> Result<(), Fail> {
-    for made in 0..21 {
-        let head = if made == 0 { 30 } else { 24 };
-        let row = take_beside(rt.alloc(), made)?;
-        assert_eq!(rt; row, (made, Progress::Took(head)));
+)
+    requires seat { seat.old.table ≡ table.now }
+    requires words { table.now.words ≡ table_words transfer.old.sizes }
+    requires goes { GoesAlone transfer.old.sizes seat.old.view transfer.old.part }
+    ensures sizes { transfer.new.sizes ≡ transfer.old.sizes }
+    ensures seat { SameSeat seat.old seat.new }
+    ensures goes { GoesAlone transfer.old.sizes seat.new.view transfer.new.part }
+{
+    let progress = make(rt, transfer, table, seat, words);
+    if !is_going(progress) {
+        panic!(rt; "the transfer ended");
     }
-    Ok(())
-}
-
-/// Process 0 announces a take and stops, process 1 takes on these words, and process 0 goes on, on those: how each take ends.
-fn help(
-    rt: &impl Abort,
-    alloc: Global,
-    helpers: &[u64],
-    helped: &[u64],
-) -> Result<(Progress, Progress), Fail> {
-    let shape = Shape::new(2, 6, 0)?;
-    let mut steps = Steps::new(Kept::new());
-    let (table, mut first) = open_table(alloc, &shape)?;
-    let mut second = next_seat(&table, &mut first, &mut steps);
-    let mut announced = take(alloc, &shape, 0, &first, 2)?;
-    let mut helping = take(alloc, &shape, 1, &second, 0)?;
-    let begun = make(rt, &mut announced, &table, &mut first, &[16777216]);
-    let helper = make(rt, &mut helping, &table, &mut second, helpers);
-    let end = match begun {
-        Progress::Going => make(rt, &mut announced, &table, &mut first, helped),
-        Progress::Took(_) | Progress::Empty | Progress::Gave => begun,
-    };
-    Ok((helper, end))
-}
-
-#[test]
-fn a_take_is_helped(rt: HostRuntime) -> Result<(), Fail> {
-    let helpers = [
-        16777216, 16777220, 16777218, 16777216, 16777216, 16777216, 16777216, 16777216, 16777216,
-        30, 16777216, 24, 33554432, 33554432, 33554432, 33554432, 41943071, 41943065, 16777220,
-        33554434, 41943065,
-    ];
-    let helped = [
-        33554434, 33554432, 33554432, 33554432, 33554432, 41943071, 41943065, 16777216, 16777216,
-        50331648, 50331648, 50331648, 50331648, 58720287, 58720281, 33554434, 50331648, 58720287,
-    ];
-    let ends = help(&rt, rt.alloc(), &helpers, &helped)?;
-    assert_eq!(rt; ends, (Progress::Took(24), Progress::Took(30)));
-    Ok(())
 }

@@ -27,3 +27,13 @@ pub returns-clause-ends : goal.returns-clause-ends
 returns-clause-ends g c =
     (tells_seen _ _ _ _ _ c.self.view_is c.about_of-about.ensures c.requires.may.can c.requires.agrees _ _ _ _
     c.make_step-word.ensures.step c.meet.ensures c.progress_at.ensures).ends
+
+pub returns-clause-spares : goal.returns-clause-spares
+returns-clause-spares g c =
+    (tells_seen _ _ _ _ _ c.self.view_is c.about_of-about.ensures c.requires.may.can c.requires.agrees _ _ _ _
+    c.make_step-word.ensures.step c.meet.ensures c.progress_at.ensures).spares
+
+pub returns-clause-rests : goal.returns-clause-rests
+returns-clause-rests g c e =
+    (tells_seen _ _ _ _ _ c.self.view_is c.about_of-about.ensures c.requires.may.can c.requires.agrees _ _ _ _
+    c.make_step-word.ensures.step c.meet.ensures c.progress_at.ensures).rests e

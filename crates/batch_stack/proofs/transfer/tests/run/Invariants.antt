@@ -1,8 +1,9 @@
 use Rattle.std.specs.Prelude.{◌≡◌}
-use Rattle.word_layout.specs.Names.{table_words}
-use Rattle.batch_stack.specs.Running.{GoesAlone}
+use Rattle.word_table.specs.Seats.{SameSeat}
+use Rattle.batch_stack.specs.declared.progress.Progress.TheVariants.{Going}
+use Rattle.batch_stack.specs.Alone.{Advanced}
 use Rattle.batch_stack.proofs.transfer.tests.run.Given as goal
 
 abbrev pub invariant-loop-made : goal.invariant-loop-made
-invariant-loop-made l =
-    (l.seat.table ≡ l.table) × (l.table.words ≡ table_words l.transfer.sizes) × GoesAlone l.transfer.sizes l.seat.view l.transfer.part
+invariant-loop-made l = SameSeat l.initial.seat l.seat × (l.transfer.sizes ≡ l.initial.transfer.sizes)
+    × Advanced l.initial.transfer.sizes l.initial.seat.view l.initial.transfer.part l.seat.view l.transfer.part Going

@@ -2,8 +2,8 @@ use Rattle.std.proofs.Common.{rules, ◌≡◌, length, refl, arith}
 use Rattle.versioned_records.proofs.Reading.{below_seen, read_seen, read_on_seen}
 use Rattle.versioned_records.proofs.reader.RecordReader.step.Goals as goal
 
-pub bounds-self-inside-index : goal.bounds-self-inside-index
-bounds-self-inside-index g c = below_seen _ _ _ _ c.self.view_is c.requires.may.can c.requires.reads
+pub bounds-self-inside-cursor : goal.bounds-self-inside-cursor
+bounds-self-inside-cursor g c = below_seen _ _ _ _ c.self.view_is c.requires.may.can c.requires.reads
 
 pub overflow_add-self : goal.overflow_add-self
 overflow_add-self g c = let low = below_seen _ _ _ _ c.self.view_is c.requires.may.can c.requires.reads in omega (arith, low)

@@ -2,8 +2,8 @@ use Rattle.std.proofs.Common.{arith, refl}
 use Rattle.versioned_records.proofs.Writing.{below_seen, can_write_seen, written_seen, write_on_seen}
 use Rattle.versioned_records.proofs.writer.RecordWriter.step.Goals as goal
 
-pub bounds-self-inside-index : goal.bounds-self-inside-index
-bounds-self-inside-index g c = below_seen _ _ _ _ c.self.view_is c.requires.may.can c.requires.writes
+pub bounds-self-inside-cursor : goal.bounds-self-inside-cursor
+bounds-self-inside-cursor g c = below_seen _ _ _ _ c.self.view_is c.requires.may.can c.requires.writes
 
 pub overflow_add-self : goal.overflow_add-self
 overflow_add-self g c = let low = below_seen _ _ _ _ c.self.view_is c.requires.may.can c.requires.writes in omega (arith, low)
