@@ -79,8 +79,9 @@ pub(crate) fn put<G: Gate>(
     ensures told { ToldBefore (G.told gate.now) pass.new.number made.new }
     ensures made { made.new ≡ made.old + 1 }
 {
-    tell(gate, pass, *made);
-    let answer = put_told(pool, pass, value, gate, *made);
+    let call = *made;
+    tell(gate, pass, call);
+    let answer = put_told(pool, pass, value, gate, call);
     *made += 1;
     answer
 }
