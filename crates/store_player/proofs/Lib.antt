@@ -6,3 +6,4 @@ pub mod Parting
 pub mod Playing
 pub mod Whole
 pub mod Written
+pub mod Crossing
