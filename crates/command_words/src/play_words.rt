@@ -1,7 +1,7 @@
 // The words of `play`.
-ghost use Rattle.std.specs.Prelude.{◌≡◌, Some, None, IfOk, IfErr, map, string_bytes};
-ghost use Rattle.clap.specs.Words.{app_of, found_of, rows_of};
-ghost use Rattle.command_words.specs.Play.{play_app, play_in, play_meant};
+ghost use Rattle.std.specs.Prelude.{◌≡◌, false, Some, None, IfOk, IfErr, map, string_bytes};
+ghost use Rattle.clap.specs.Words.{app_of, found_of, rows_of, rule_of};
+ghost use Rattle.command_words.specs.Play.{files_rule, play_app, play_in, play_meant};
 ghost use Rattle.command_words.specs.declared.fault.WordsFault.TheVariants.{Faulty};
 
 use crate::options::{bare_command, number_of_option, option, read_matches};
@@ -22,14 +22,21 @@ pub(crate) fn read_play(alloc: Global, words: &[String]) -> Result<Play, WordsFa
 fn play_command<'a>(alloc: Global) -> Result<clap::Command<'a>, AllocError>
     ensures { IfOk result (λ command. app_of command ≡ play_app) }
 {
-    let files = Arg::new(alloc, "files")
-        .action(ArgAction::Append)
-        .required(true);
     bare_command(alloc, "play")
         .arg(option(alloc, "batches", "1024"))?
         .arg(option(alloc, "size", "64"))?
         .arg(option(alloc, "quantum", "8"))?
-        .arg(files)
+        .arg(files_arg(alloc))
+}
+
+/// The words of a command that are no options: file names, one at least.
+pub(crate) fn files_arg<'a>(alloc: Global) -> Arg<'a>
+    ensures rule { rule_of result ≡ files_rule }
+    ensures local { result.global ≡ false }
+{
+    Arg::new(alloc, "files")
+        .action(ArgAction::Append)
+        .required(true)
 }
 
 /// What the matches of `play` ask for.
@@ -50,7 +57,7 @@ fn play_of(alloc: Global, matches: &ArgMatches<'_>) -> Result<Play, WordsFault>
 }
 
 /// Owned copies of the names.
-fn file_names(alloc: Global, names: &[&str]) -> Result<FileNames, AllocError>
+pub(crate) fn file_names(alloc: Global, names: &[&str]) -> Result<FileNames, AllocError>
     ensures { IfOk result (λ files. files ≡ map (λ name. name.now) names.now) }
 {
     let mut owned = Vec::with_capacity(alloc, names.len())?;
