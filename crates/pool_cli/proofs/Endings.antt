@@ -218,12 +218,13 @@ store_prints told words sizes scripts reads settled text is = record {
 }
 
 -- a run that played, or for which memory was wanting before
-pub ends_worked : {F S K : Type 0} (of_files : files_trait.Ghosts F S) (files files_now : F) (of_sink : sink_trait.Ghosts K) (out out_now : K)
-    (meaning : Option Command) (command : Command) (sizes : Sizes) (IsText : Settlement → List ℕ → Type 0) (result : Result Worked Ending)
+pub ends_worked : {F S K : Type 0} (of_files : files_trait.Ghosts F S) (files files_now : F) (of_sink : sink_trait.Ghosts K)
+    (out out_now : K) (meaning : Option Command) (command : Command) (sizes : Sizes) (IsText : Settlement → List ℕ → Type 0) (result : Result Worked Ending)
     → IsAccepted meaning command sizes → of_files.opens files_now ≡ of_files.opens files + length (files_of command)
     → ((settled : Settlement) (text : List ℕ) → IsText settled text → Prints (of_files.told files) command sizes settled text)
     → IfOk result (HasPrinted of_sink out out_now IsText) → IfErr result (λ ending. ending ≡ Memory) → OnErr result (out_now ≡ out)
-    → CauseOf meaning (outside of_files files of_sink out) (outside of_files files_now of_sink out_now) (settled_of result) (ending_of result)
+    → CauseOf meaning (outside of_files files of_sink out) (outside of_files files_now of_sink out_now)
+    (settled_of result) (ending_of result)
 ends_worked of_files files files_now of_sink out out_now meaning command sizes IsText (Err ending) accepted opened prints ok early kept =
     rw (early, kept) (refl, refl)
 ends_worked of_files files files_now of_sink out out_now meaning command sizes IsText (Ok worked) accepted opened prints ok early kept =
@@ -303,7 +304,8 @@ at_told_file meaning before after file Fact ends free =
     subst (λ (command : Command). IsWithin (taken free.content ends.stops.index) (free.content ends.stops.index)
     × (bad_line_of command (free.content ends.stops.index) ≡ None)) (sym same)
     (free.fine ends.stops.index (omega (arith, ends.stops.within, names))) in
-    (bad_line_of ends.command, taken free.content ends.stops.index, free.content ends.stops.index, ends.stops.here free.content hold, fine.0, fine.1)
+    let others = taken free.content ends.stops.index in
+    (bad_line_of ends.command, others, free.content ends.stops.index, ends.stops.here free.content hold, fine.0, fine.1)
 
 -- the numbers of a shape have no fault
 at_good_shape : (meaning : Option Command) (told : List ℕ → Option (List ℕ)) (fault : ShapeFault) → EndsAtShape meaning fault
@@ -311,7 +313,8 @@ at_good_shape : (meaning : Option Command) (told : List ℕ → Option (List ℕ
 at_good_shape meaning told fault ends free =
     let same : ends.command ≡ free.command = same_command meaning ends.command free.command ends.meant free.accepted.meant in
     let first : IsFirstFault (processes_of free.command) (batches_of free.command) (words_of free.command) (quantum_of free.command) fault =
-    subst (λ (command : Command). IsFirstFault (processes_of command) (batches_of command) (words_of command) (quantum_of command) fault) same ends.first in
+    subst (λ (command : Command). IsFirstFault (processes_of command) (batches_of command) (words_of command) (quantum_of command) fault)
+    same ends.first in
     let asked = free.accepted.asked in
     no_fault free.sizes fault asked.shape
     (rw (asked.processes, asked.batches, asked.words, asked.quantum) first.has)
@@ -403,7 +406,8 @@ module _ (meaning : Option Command) (before after : Outside) (closed : Option Se
   pub sure : IsSure meaning before → (status ≡ 0) ⊎ (status ≡ 8)
   sure free =
       ends_well_unless meaning before after closed ends.ending status ends.answered ends.cause free.playable
-      (λ file read. let at = at_told_file meaning before after file (λ _ _ _. ¬ before.reliable) read.0.0 free.playable in at.3 free.reliable)
+      (λ file read. let at = at_told_file meaning before after file (λ _ _ _. ¬ before.reliable) read.0.0 free.playable in
+      at.3 free.reliable)
       (λ write. write.0.written.1 (free.roomy write.0.settled write.0.text write.0.gives))
 
   -- with enough blocks the report follows from the files alone

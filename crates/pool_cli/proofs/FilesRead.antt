@@ -37,26 +37,30 @@ module _ {T : Type 0} (bad : List ℕ → Option ℕ) (Says : List ℕ → T →
   pub reads_next : (Reliable : Type 0) (told : List ℕ → Option (List ℕ)) (names : List (List ℕ)) (i total : ℕ)
       (scripts : List T) (name : List ℕ) (file : FileScript T)
       → slice_get names i ≡ Some name → ReadsFirst bad Says told names i total scripts
-      → ((bytes : List ℕ) → told name ≡ Some bytes → FileAnswers bad Says Reliable (2 ^ 26 - total) bytes (Ok file)) → file.bytes ≤ 2 ^ 26 - total
+      → ((bytes : List ℕ) → told name ≡ Some bytes → FileAnswers bad Says Reliable (2 ^ 26 - total) bytes (Ok file))
+      → file.bytes ≤ 2 ^ 26 - total
       → ReadsFirst bad Says told names (i + 1) (total + file.bytes) (scripts ++ file.script ∷ [])
   reads_next Reliable told names i total scripts name file at reads answer small = record {
     one_each = omega (arith, length-append scripts (file.script ∷ []), reads.one_each);
     few = omega (arith, reads.few, small);
     all_bytes = λ content hold.
-        let here : FileAnswers bad Says Reliable (2 ^ 26 - total) (content i) (Ok file) = answer (content i) (hold i name (omega arith) at) in
+        let here : FileAnswers bad Says Reliable (2 ^ 26 - total) (content i) (Ok file) =
+        answer (content i) (hold i name (omega arith) at) in
         let before : total ≡ taken content i = reads.all_bytes content (hold_fewer told names content i hold) in
         let more : taken content (suc i) ≡ taken content i + length (content i) = refl in
         let next : taken content (i + 1) ≡ taken content (suc i) = ap (taken content) (let e : i + 1 ≡ suc i = omega arith in e) in
         omega (arith, before, here.3, more, next);
     fine = λ content hold.
-        let here : FileAnswers bad Says Reliable (2 ^ 26 - total) (content i) (Ok file) = answer (content i) (hold i name (omega arith) at) in
+        let here : FileAnswers bad Says Reliable (2 ^ 26 - total) (content i) (Ok file) =
+        answer (content i) (hold i name (omega arith) at) in
         let before : total ≡ taken content i = reads.all_bytes content (hold_fewer told names content i hold) in
         fine_more bad content i (reads.fine content (hold_fewer told names content i hold))
         (omega (arith, here.0), omega (arith, here.0, before, reads.few)) here.1;
     read = λ content hold j script got. elim (slice_get-push_cases scripts file.script script j got) [
       | inl k ↦ reads.read content (hold_fewer told names content i hold) j script k.1
       | inr e ↦
-          let here : FileAnswers bad Says Reliable (2 ^ 26 - total) (content i) (Ok file) = answer (content i) (hold i name (omega arith) at) in
+          let here : FileAnswers bad Says Reliable (2 ^ 26 - total) (content i) (Ok file) =
+          answer (content i) (hold i name (omega arith) at) in
           let same : i ≡ j = omega (arith, reads.one_each, e.0) in
           subst (λ (k : ℕ). Says (content k) script) same (subst (Says (content i)) e.1 here.2)
     ];
@@ -79,7 +83,8 @@ module _ {T : Type 0} (bad : List ℕ → Option ℕ) (Says : List ℕ → T →
   pub stops_next : {F S : Type 0} (of : Ghosts F S) (before between after : F) (names : List (List ℕ)) (i total : ℕ)
       (scripts : List T) (name : List ℕ) (fault : TextFault)
       → slice_get names i ≡ Some name → ReadsFirst bad Says (of.told before) names i total scripts
-      → ((bytes : List ℕ) → of.told before name ≡ Some bytes → FileAnswers bad Says (of.reliable between) (2 ^ 26 - total) bytes (Err fault))
+      → ((bytes : List ℕ) → of.told before name ≡ Some bytes
+      → FileAnswers bad Says (of.reliable between) (2 ^ 26 - total) bytes (Err fault))
       → (of.reliable before → of.reliable between) → of.faults before ≤ of.faults between
       → (fault ≡ ReadFault → HasRisen (of.faults between) (of.faults after))
       → StopsWith of before after bad names (i + 1) fault

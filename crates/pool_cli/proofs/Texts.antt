@@ -5,7 +5,8 @@ use Rattle.pool_io.specs.declared.sink.Sink.{Ghosts}
 use Rattle.pool_io.specs.Writes.{Writes}
 use Rattle.pool_io.proofs.Writing.{writes_both, writes_part}
 
--- the text of a list from a number on: none of no items, else the first one's with the number, and that of the others from the next number on
+-- the text of a list from a number on: of no items it is empty, else the first one's with the number, and then that of the others from the
+-- next number on
 pub record IsOneByOne {X : Type 0} (text_at : ℕ → X → List ℕ) (text_from : ℕ → List X → List ℕ) : Type 0 where
   pub none : (number : ℕ) → text_from number [] ≡ []
   pub next : (number : ℕ) (x : X) (xs : List X) → text_from number (x ∷ xs) ≡ text_at number x ++ text_from (number + 1) xs

@@ -128,7 +128,8 @@ Prints told (Drill drill) sizes settled text = PrintsReport told (Drill drill) s
 Prints told (Store store) sizes settled text = PrintsReplies told (Store store) sizes settled text
 
 -- the run ended at a file, which has this fact after so many bytes of the files before it, which are fine
-pub record StopsAt (bad : List ℕ → Option ℕ) (told : List ℕ → Option (List ℕ)) (names : List (List ℕ)) (file : ℕ) (Fact : ℕ → List ℕ → Type 0) : Type 0 where
+pub record StopsAt (bad : List ℕ → Option ℕ) (told : List ℕ → Option (List ℕ)) (names : List (List ℕ)) (file : ℕ)
+    (Fact : ℕ → List ℕ → Type 0) : Type 0 where
   pub index : ℕ
   pub number : file ≡ index + 1
   pub within : index < length names
