@@ -1,8 +1,7 @@
 -- The words of `store`.
 use Rattle.std.specs.Prelude.{ℕ, List, [], ◌∷◌, Option, Some, None, codes}
 use Rattle.clap.specs.Words.{App, Row, all_of}
-use Rattle.command_words.specs.Options.{asked_of, command_of, number_at, option_rule}
-use Rattle.command_words.specs.Play.{files_rule}
+use Rattle.command_words.specs.Options.{asked_of, command_of, files_rule, number_at, option_rule}
 use Rattle.command_words.specs.declared.command.Store.{Store}
 
 -- the command `store [--batches B] [--quantum Q] FILE...`

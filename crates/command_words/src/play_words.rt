@@ -1,12 +1,12 @@
 // The words of `play`.
-ghost use Rattle.std.specs.Prelude.{◌≡◌, false, Some, None, IfOk, IfErr, map, string_bytes};
-ghost use Rattle.clap.specs.Words.{app_of, found_of, rows_of, rule_of};
-ghost use Rattle.command_words.specs.Play.{files_rule, play_app, play_in, play_meant};
+ghost use Rattle.std.specs.Prelude.{◌≡◌, Some, None, IfOk, IfErr, map, string_bytes};
+ghost use Rattle.clap.specs.Words.{app_of, found_of, rows_of};
+ghost use Rattle.command_words.specs.Play.{play_app, play_in, play_meant};
 ghost use Rattle.command_words.specs.declared.fault.WordsFault.TheVariants.{Faulty};
 
-use crate::options::{bare_command, number_of_option, option, read_matches};
-use crate::{FileNames, Play, WordsFault};
-use clap::{Arg, ArgAction, ArgMatches};
+use crate::options::{bare_command, file_names, files_arg, number_of_option, option, read_matches};
+use crate::{Play, WordsFault};
+use clap::ArgMatches;
 use std::alloc::{AllocError, Global};
 
 /// Reads `play` and the words after it.
@@ -29,16 +29,6 @@ fn play_command<'a>(alloc: Global) -> Result<clap::Command<'a>, AllocError>
         .arg(files_arg(alloc))
 }
 
-/// The words of a command that are no options: file names, one at least.
-pub(crate) fn files_arg<'a>(alloc: Global) -> Arg<'a>
-    ensures rule { rule_of result ≡ files_rule }
-    ensures local { result.global ≡ false }
-{
-    Arg::new(alloc, "files")
-        .action(ArgAction::Append)
-        .required(true)
-}
-
 /// What the matches of `play` ask for.
 fn play_of(alloc: Global, matches: &ArgMatches<'_>) -> Result<Play, WordsFault>
     ensures ok { IfOk result (λ play. play_in (rows_of (found_of matches.now)) ≡ Some play) }
@@ -54,15 +44,4 @@ fn play_of(alloc: Global, matches: &ArgMatches<'_>) -> Result<Play, WordsFault>
         quantum,
         files: file_names(alloc, names)?,
     })
-}
-
-/// Owned copies of the names.
-pub(crate) fn file_names(alloc: Global, names: &[&str]) -> Result<FileNames, AllocError>
-    ensures { IfOk result (λ files. files ≡ map (λ name. name.now) names.now) }
-{
-    let mut owned = Vec::with_capacity(alloc, names.len())?;
-    for name in names {
-        owned.push(String::from_str(alloc, name)?)?;
-    }
-    Ok(FileNames::new(owned))
 }

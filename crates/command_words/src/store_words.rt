@@ -4,8 +4,7 @@ ghost use Rattle.clap.specs.Words.{app_of, found_of, rows_of};
 ghost use Rattle.command_words.specs.Store.{store_app, store_in, store_meant};
 ghost use Rattle.command_words.specs.declared.fault.WordsFault.TheVariants.{Faulty};
 
-use crate::options::{bare_command, number_of_option, option, read_matches};
-use crate::play_words::{file_names, files_arg};
+use crate::options::{bare_command, file_names, files_arg, number_of_option, option, read_matches};
 use crate::{Store, WordsFault};
 use clap::ArgMatches;
 use std::alloc::{AllocError, Global};

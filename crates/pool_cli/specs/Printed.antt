@@ -1,5 +1,5 @@
 -- What is printed of scripts that were played over a pool of their own.
-use Rattle.std.specs.Prelude.{◌≡◌, ℕ, List, Option, Some, Result}
+use Rattle.std.specs.Prelude.{◌≡◌, ℕ, List, Some, Result}
 use Rattle.word_layout.specs.Sizes.{Sizes}
 use Rattle.block_pool.specs.Closing.{Settlement}
 use Rattle.mtrace_reader.specs.declared.steps.Script.{Script}

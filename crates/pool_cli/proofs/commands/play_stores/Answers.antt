@@ -1,11 +1,8 @@
-use Rattle.std.proofs.Common.{◌+◌, ◌∙◌, List, None, length, string_bytes, ap, refl, subst, sym}
+use Rattle.std.proofs.Common.{◌+◌, ◌∙◌, None, length, string_bytes, ap, subst, sym}
 use Rattle.std.proofs.lemmas.List.{length-map}
 use Rattle.std.proofs.lemmas.Result.{err_from_is_err_and}
 use Rattle.command_words.specs.declared.command.Command.TheVariants.{Store}
-use Rattle.mtrace_reader.specs.Reading.{bad_line}
-use Rattle.mtrace_reader.specs.declared.steps.Script.{Script}
 use Rattle.pool_cli.specs.declared.ending.Ending.{Ending}
-use Rattle.pool_cli.specs.Asked.{IsScriptOf}
 use Rattle.pool_cli.specs.Causes.{CauseOf}
 use Rattle.pool_cli.specs.Outside.{outside}
 use Rattle.pool_cli.specs.Printed.{AreRepliesOf}
