@@ -4,7 +4,7 @@ use crate::run;
 use pool_io::{Gate, MemoryFiles, MemorySink, OpenGate};
 use pool_model::NoMemory;
 use std::alloc::{AllocError, Global};
-use std::sync::atomic::{AtomicBool, Ordering};
+use std::sync::atomic::{AtomicBool, AtomicU64, Ordering};
 use std::test::Fail;
 use std::thread::Threads;
 use std::{hint, str};
@@ -39,6 +39,7 @@ const COLUMNS: [&str; 10] = [
 struct Outcome {
     status: u8,
     settled: bool,
+    told: u64,
     out: MemorySink,
     err: MemorySink,
 }
@@ -125,9 +126,22 @@ fn run_with<R: Threads + Sync, G: Gate + Sync>(
     Ok(Outcome {
         status: ended.status,
         settled: ended.settled.is_some(),
+        told: 0,
         out,
         err,
     })
+}
+
+// A gate that counts the calls that it is told of.
+#[derive(Drop)]
+struct Counter {
+    told: AtomicU64,
+}
+
+impl Gate for Counter {
+    fn pass(&self, _process: u32, _call: u64) {
+        self.told.fetch_add(1, Ordering::SeqCst);
+    }
 }
 
 // Runs the words of a line with sinks that take all.
@@ -141,7 +155,12 @@ fn run_line<R: Threads + Sync>(
 {
     let out = failing_sink(alloc, AMPLE, AMPLE, NEVER)?;
     let err = failing_sink(alloc, AMPLE, AMPLE, NEVER)?;
-    run_with(rt, alloc, line, files, out, err, &OpenGate)
+    let gate = Counter {
+        told: AtomicU64::new(0),
+    };
+    let outcome = run_with(rt, alloc, line, files, out, err, &gate)?;
+    let told = gate.told.load(Ordering::SeqCst);
+    Ok(Outcome { told, ..outcome })
 }
 
 // The line of a report with these numbers, which are parted by spaces.
@@ -191,7 +210,10 @@ fn answer<R: Threads + Sync>(
 #[test]
 fn first_report(rt: HostRuntime) -> Result<(), Fail> {
     let (outcome, _) = answer(&rt, rt.alloc(), "pooltrace play f", &[("f", FIRST_TRACE)])?;
+    // Want of memory comes before the first call of the pool: `checks/allocations` lets each allocation fail.
+    assert!(rt; outcome.status != 8 || outcome.told == 0);
     assert_eq!(rt; outcome.parts(), (0, FIRST_REPORT, ""));
+    assert_eq!(rt; outcome.told, 2);
     Ok(())
 }
 
