@@ -9,7 +9,8 @@ use Rattle.std.proofs.lemmas.Slice.Eq.{bytes_eq-Decides}
 use Rattle.command_words.specs.Meant.{meant}
 use Rattle.command_words.specs.Drill.{drill_meant}
 use Rattle.command_words.specs.Play.{play_meant}
-use Rattle.command_words.specs.declared.command.Command.TheVariants.{Drill, Play}
+use Rattle.command_words.specs.Store.{store_meant}
+use Rattle.command_words.specs.declared.command.Command.TheVariants.{Drill, Play, Store}
 
 -- without a second word nothing is meant
 pub meant-no_name : (words : List (List ℕ)) → slice_get words 1 ≡ None → meant words ≡ None
@@ -34,6 +35,14 @@ meant-drill [] some = cc
 meant-drill (program ∷ []) some = cc
 meant-drill (program ∷ name ∷ rest) some = let same : name ≡ codes "drill" = cc in rw same refl
 
+-- where it is `store`, what they ask of `store`
+meant-store : (words : List (List ℕ)) → slice_get words 1 ≡ Some (codes "store")
+    → meant words ≡ option_map Store (store_meant (drop 1 words))
+unfolding meant
+meant-store [] some = cc
+meant-store (program ∷ []) some = cc
+meant-store (program ∷ name ∷ rest) some = let same : name ≡ codes "store" = cc in rw same refl
+
 -- a name that isn't this one is not equal to it
 is_other : (name known : List ℕ) → ¬ (name ≡ known) → bytes_eq name known ≡ false
 is_other name known other = go (bytes_eq name known) refl
@@ -44,13 +53,13 @@ is_other name known other = go (bytes_eq name known) refl
 
 -- where no command has that name, nothing is meant
 meant-unknown : (words : List (List ℕ)) (name : List ℕ) → slice_get words 1 ≡ Some name → ¬ (name ≡ codes "play") → ¬ (name ≡ codes "drill")
-    → meant words ≡ None
+    → ¬ (name ≡ codes "store") → meant words ≡ None
 unfolding meant
-meant-unknown [] name some no_play no_drill = refl
-meant-unknown (program ∷ []) name some no_play no_drill = refl
-meant-unknown (program ∷ second ∷ rest) name some no_play no_drill =
+meant-unknown [] name some no_play no_drill no_store = refl
+meant-unknown (program ∷ []) name some no_play no_drill no_store = refl
+meant-unknown (program ∷ second ∷ rest) name some no_play no_drill no_store =
     let same : second ≡ name = cc in
-    rw (same, is_other name (codes "play") no_play, is_other name (codes "drill") no_drill) refl
+    rw (same, is_other name (codes "play") no_play, is_other name (codes "drill") no_drill, is_other name (codes "store") no_store) refl
 
 -- the same of words that own their bytes, the second of which is this
 module _ (words : List (String Global)) (word : String Global) (within : 1 < length words) (is : word ≡ slice_index_or words 1 word) where
@@ -71,5 +80,11 @@ module _ (words : List (String Global)) (word : String Global) (within : 1 < len
       → meant (map string_bytes words) ≡ option_map Drill (drill_meant (map string_bytes (take (length words - 1) (drop 1 words))))
   means_drill named = meant-drill (map string_bytes words) (second _ named) ∙ ap (λ after. option_map Drill (drill_meant after)) words_after
 
-  pub means_nothing : ¬ (string_bytes word ≡ codes "play") → ¬ (string_bytes word ≡ codes "drill") → meant (map string_bytes words) ≡ None
-  means_nothing no_play no_drill = meant-unknown (map string_bytes words) (string_bytes word) (second _ refl) no_play no_drill
+  pub means_store : string_bytes word ≡ codes "store"
+      → meant (map string_bytes words) ≡ option_map Store (store_meant (map string_bytes (take (length words - 1) (drop 1 words))))
+  means_store named = meant-store (map string_bytes words) (second _ named) ∙ ap (λ after. option_map Store (store_meant after)) words_after
+
+  pub means_nothing : ¬ (string_bytes word ≡ codes "play") → ¬ (string_bytes word ≡ codes "drill") → ¬ (string_bytes word ≡ codes "store")
+      → meant (map string_bytes words) ≡ None
+  means_nothing no_play no_drill no_store =
+      meant-unknown (map string_bytes words) (string_bytes word) (second _ refl) no_play no_drill no_store

@@ -3,15 +3,17 @@ use Rattle.std.specs.Prelude.{ℕ, ◌≤◌, List, [], ◌∷◌, Option, None,
 use Rattle.std.specs.Str.{bytes_eq}
 use Rattle.command_words.specs.Drill.{drill_meant, most_calls}
 use Rattle.command_words.specs.Play.{play_meant}
+use Rattle.command_words.specs.Store.{store_meant}
 use Rattle.command_words.specs.declared.command.Command.{Command}
-use Rattle.command_words.specs.declared.command.Command.TheVariants.{Drill, Play}
+use Rattle.command_words.specs.declared.command.Command.TheVariants.{Drill, Play, Store}
 
 -- what a command and the words after it ask for, by the command's name; none where no command has that name
 abbrev pub command_meant : List ℕ → List (List ℕ) → Option Command
 command_meant name rest =
     if bytes_eq name (codes "play") then option_map Play (play_meant (name ∷ rest))
     else (if bytes_eq name (codes "drill") then option_map Drill (drill_meant (name ∷ rest))
-    else None)
+    else (if bytes_eq name (codes "store") then option_map Store (store_meant (name ∷ rest))
+    else None))
 
 -- what the words ask for, the program's own name first; none where they are at fault
 unfoldable pub meant : List (List ℕ) → Option Command
@@ -19,7 +21,8 @@ meant [] = None
 meant (program ∷ []) = None
 meant (program ∷ name ∷ rest) = command_meant name rest
 
--- a drill asks for at most so many calls of each process; a play has no such limit
+-- a drill asks for at most so many calls of each process; the other commands have no such limit
 abbrev pub HasFewCalls : Command → Type 0
 HasFewCalls (Play play) = Unit {0}
 HasFewCalls (Drill drill) = drill.calls ≤ most_calls
+HasFewCalls (Store store) = Unit {0}

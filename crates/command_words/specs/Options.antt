@@ -1,14 +1,18 @@
 -- The options of a command, and what its words match, as `clap` reads one simple command.
-use Rattle.std.specs.Prelude.{◌≡◌, ℕ, List, [], ◌∷◌, Option, Some, None, true, fold, option_and_then}
+use Rattle.std.specs.Prelude.{◌≡◌, ℕ, List, [], ◌∷◌, Option, Some, None, codes, true, fold, option_and_then}
 use Rattle.clap.specs.Simple.{on_top}
 use Rattle.clap.specs.Words.{App, Kinds, Row, Rule, fault_of, first_of, is_simple, is_simple_and_free, matches_of}
 use Rattle.clap.specs.Words.{new_app, new_rule, with_rule}
-use Rattle.clap.specs.declared.builder.action.ArgAction.TheVariants.{Set}
+use Rattle.clap.specs.declared.builder.action.ArgAction.TheVariants.{Append, Set}
 use Rattle.command_words.specs.Number.{number_of}
 
 -- an option `--NAME V` or `--NAME=V`, and what it is where it isn't given
 abbrev pub option_rule : List ℕ → List ℕ → Rule
 option_rule name default = record (new_rule name) { long = Some name; action = Some Set; defaults = default ∷ [] }
+
+-- the words that are no options: file names, one at least
+abbrev pub files_rule : Rule
+files_rule = record (new_rule (codes "files")) { action = Some Append; required = true }
 
 -- a command without the flags that ask for help
 abbrev pub without_help : App → App

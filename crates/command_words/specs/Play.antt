@@ -1,13 +1,8 @@
 -- The words of `play`.
-use Rattle.std.specs.Prelude.{ℕ, List, [], ◌∷◌, Option, Some, None, true, codes}
-use Rattle.clap.specs.Words.{App, Row, Rule, all_of, new_rule}
-use Rattle.clap.specs.declared.builder.action.ArgAction.TheVariants.{Append}
-use Rattle.command_words.specs.Options.{asked_of, command_of, number_at, option_rule}
+use Rattle.std.specs.Prelude.{ℕ, List, [], ◌∷◌, Option, Some, None, codes}
+use Rattle.clap.specs.Words.{App, Row, all_of}
+use Rattle.command_words.specs.Options.{asked_of, command_of, files_rule, number_at, option_rule}
 use Rattle.command_words.specs.declared.command.Play.{Play}
-
--- the words that are no options: file names, one at least
-abbrev pub files_rule : Rule
-files_rule = record (new_rule (codes "files")) { action = Some Append; required = true }
 
 -- the command `play [--batches B] [--size Z] [--quantum Q] FILE...`
 unfoldable pub play_app : App

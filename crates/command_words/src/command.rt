@@ -10,6 +10,8 @@ pub enum Command {
     Play(Play),
     /// Make traces, and play these.
     Drill(Drill),
+    /// Play store scripts.
+    Store(Store),
 }
 
 /// What `play` was asked for.
@@ -36,6 +38,17 @@ pub struct Drill {
     pub calls: u32,
     /// How many steps of a transfer a call makes at most.
     pub quantum: u32,
+}
+
+/// What `store` was asked for.
+#[derive(Debug, Drop)]
+pub struct Store {
+    /// How many batches of blocks the pool has.
+    pub batches: u32,
+    /// How many steps of a transfer a call makes at most.
+    pub quantum: u32,
+    /// The store scripts.
+    pub files: FileNames,
 }
 
 /// How many operations a trace of `drill` has at most.

@@ -12,8 +12,9 @@ mod number;
 mod options;
 mod play_words;
 mod read;
+mod store_words;
 
-pub use command::{Command, Drill, FileNames, MOST_CALLS, Play};
+pub use command::{Command, Drill, FileNames, MOST_CALLS, Play, Store};
 pub use drill_words::read_drill;
 pub use fault::WordsFault;
 pub use read::read_words;

@@ -1,13 +1,13 @@
-// The options of a command, and the matches of its words.
+// The options of a command, its files, and the matches of its words.
 ghost use Rattle.std.specs.Prelude.{◌≡◌, [], false, IfOk, IfErr, map, string_bytes};
 ghost use Rattle.clap.specs.Words.{app_of, found_of, rows_of, rule_of};
-ghost use Rattle.command_words.specs.Options.{IsMatchedBy, IsReadable, IsRefused, command_of, number_at, option_rule};
+ghost use Rattle.command_words.specs.Options.{IsMatchedBy, IsReadable, IsRefused, command_of, files_rule, number_at, option_rule};
 ghost use Rattle.command_words.specs.declared.fault.WordsFault.TheVariants.{Faulty};
 
-use crate::WordsFault;
 use crate::number::read_number;
+use crate::{FileNames, WordsFault};
 use clap::{Arg, ArgAction, ArgMatches};
-use std::alloc::Global;
+use std::alloc::{AllocError, Global};
 
 /// A command without options and files, and without the flag that asks for help.
 pub(crate) fn bare_command<'a>(alloc: Global, name: &'a str) -> clap::Command<'a>
@@ -41,6 +41,16 @@ pub(crate) fn option<'a>(alloc: Global, name: &'a str, default: &'a str) -> Arg<
         .default_value(default)
 }
 
+/// The words of a command that are no options: file names, one at least.
+pub(crate) fn files_arg<'a>(alloc: Global) -> Arg<'a>
+    ensures rule { rule_of result ≡ files_rule }
+    ensures local { result.global ≡ false }
+{
+    Arg::new(alloc, "files")
+        .action(ArgAction::Append)
+        .required(true)
+}
+
 /// The number of an option, given or default. None where its value is no number below 2^64.
 pub(crate) fn long_number_of_option(matches: &ArgMatches<'_>, name: &str) -> Option<u64>
     ensures { result ≡ number_at 64 name.now (rows_of (found_of matches.now)) }
@@ -53,4 +63,15 @@ pub(crate) fn number_of_option(matches: &ArgMatches<'_>, name: &str) -> Option<u
     ensures { result ≡ number_at 32 name.now (rows_of (found_of matches.now)) }
 {
     u32::try_from(long_number_of_option(matches, name)?).ok()
+}
+
+/// Owned copies of the names.
+pub(crate) fn file_names(alloc: Global, names: &[&str]) -> Result<FileNames, AllocError>
+    ensures { IfOk result (λ files. files ≡ map (λ name. name.now) names.now) }
+{
+    let mut owned = Vec::with_capacity(alloc, names.len())?;
+    for name in names {
+        owned.push(String::from_str(alloc, name)?)?;
+    }
+    Ok(FileNames::new(owned))
 }

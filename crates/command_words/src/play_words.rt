@@ -4,9 +4,9 @@ ghost use Rattle.clap.specs.Words.{app_of, found_of, rows_of};
 ghost use Rattle.command_words.specs.Play.{play_app, play_in, play_meant};
 ghost use Rattle.command_words.specs.declared.fault.WordsFault.TheVariants.{Faulty};
 
-use crate::options::{bare_command, number_of_option, option, read_matches};
-use crate::{FileNames, Play, WordsFault};
-use clap::{Arg, ArgAction, ArgMatches};
+use crate::options::{bare_command, file_names, files_arg, number_of_option, option, read_matches};
+use crate::{Play, WordsFault};
+use clap::ArgMatches;
 use std::alloc::{AllocError, Global};
 
 /// Reads `play` and the words after it.
@@ -22,14 +22,11 @@ pub(crate) fn read_play(alloc: Global, words: &[String]) -> Result<Play, WordsFa
 fn play_command<'a>(alloc: Global) -> Result<clap::Command<'a>, AllocError>
     ensures { IfOk result (λ command. app_of command ≡ play_app) }
 {
-    let files = Arg::new(alloc, "files")
-        .action(ArgAction::Append)
-        .required(true);
     bare_command(alloc, "play")
         .arg(option(alloc, "batches", "1024"))?
         .arg(option(alloc, "size", "64"))?
         .arg(option(alloc, "quantum", "8"))?
-        .arg(files)
+        .arg(files_arg(alloc))
 }
 
 /// What the matches of `play` ask for.
@@ -47,15 +44,4 @@ fn play_of(alloc: Global, matches: &ArgMatches<'_>) -> Result<Play, WordsFault>
         quantum,
         files: file_names(alloc, names)?,
     })
-}
-
-/// Owned copies of the names.
-fn file_names(alloc: Global, names: &[&str]) -> Result<FileNames, AllocError>
-    ensures { IfOk result (λ files. files ≡ map (λ name. name.now) names.now) }
-{
-    let mut owned = Vec::with_capacity(alloc, names.len())?;
-    for name in names {
-        owned.push(String::from_str(alloc, name)?)?;
-    }
-    Ok(FileNames::new(owned))
 }

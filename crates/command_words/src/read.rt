@@ -5,6 +5,7 @@ ghost use Rattle.command_words.specs.declared.fault.WordsFault.TheVariants.{Faul
 
 use crate::drill_words::read_drill;
 use crate::play_words::read_play;
+use crate::store_words::read_store;
 use crate::{Command, WordsFault};
 use std::alloc::Global;
 
@@ -22,6 +23,7 @@ pub fn read_words(alloc: Global, words: &[String]) -> Result<Command, WordsFault
     match name.as_str() {
         "play" => Ok(Command::Play(read_play(alloc, &words[1..])?)),
         "drill" => Ok(Command::Drill(read_drill(alloc, &words[1..])?)),
+        "store" => Ok(Command::Store(read_store(alloc, &words[1..])?)),
         _ => Err(WordsFault::Faulty),
     }
 }

@@ -1,4 +1,4 @@
-use crate::{Command, Drill, Play, WordsFault, read_words};
+use crate::{Command, Drill, FileNames, Play, Store, WordsFault, read_words};
 use std::alloc::Global;
 use std::test::Fail;
 
@@ -24,14 +24,25 @@ fn asked_play(alloc: Global, words: &[&str]) -> Result<Play, Fail> {
     }
 }
 
-fn is_asked(play: &Play, numbers: (u32, u32, u32), files: &[&str]) -> bool {
-    let names = play.files.as_slice();
-    (play.batches, play.size, play.quantum) == numbers
-        && names.len() == files.len()
+/// What they ask of `store`.
+fn asked_store(alloc: Global, words: &[&str]) -> Result<Store, Fail> {
+    match asked(alloc, words)? {
+        Some(Command::Store(store)) => Ok(store),
+        _ => Err(Fail::from("no store")),
+    }
+}
+
+fn are_named(names: &FileNames, files: &[&str]) -> bool {
+    let names = names.as_slice();
+    names.len() == files.len()
         && names
             .iter()
             .zip(files.iter())
             .all(|(name, file)| name.as_str() == *file)
+}
+
+fn is_asked(play: &Play, numbers: (u32, u32, u32), files: &[&str]) -> bool {
+    (play.batches, play.size, play.quantum) == numbers && are_named(&play.files, files)
 }
 
 #[test]
@@ -116,8 +127,28 @@ fn words_of_drill(rt: HostRuntime) -> Result<(), Fail> {
 }
 
 #[test]
+fn words_of_store(rt: HostRuntime) -> Result<(), Fail> {
+    let cases: [(&[&str], (u32, u32), &[&str]); 4] = [
+        (&["store", "f"], (1024, 8), &["f"]),
+        (&["store", "--batches", "2", "f", "g"], (2, 8), &["f", "g"]),
+        (&["store", "f", "--quantum=0"], (1024, 0), &["f"]),
+        (
+            &["store", "--quantum", "16", "--batches=7", "--", "--size"],
+            (7, 16),
+            &["--size"],
+        ),
+    ];
+    for (words, numbers, files) in &cases {
+        let store = asked_store(rt.alloc(), words)?;
+        let same = (store.batches, store.quantum) == *numbers && are_named(&store.files, files);
+        assert!(rt; same, "{words:?}: {store:?}");
+    }
+    Ok(())
+}
+
+#[test]
 fn faulty_words(rt: HostRuntime) -> Result<(), Fail> {
-    let cases: [&[&str]; 29] = [
+    let cases: [&[&str]; 33] = [
         &[],
         &["plays", "f"],
         &["Play", "f"],
@@ -140,6 +171,10 @@ fn faulty_words(rt: HostRuntime) -> Result<(), Fail> {
         &["play", "--help"],
         &["play", "-h", "f"],
         &["play", "--version", "f"],
+        &["store"],
+        &["store", "--size", "64", "f"],
+        &["store", "--batches", "+2", "f"],
+        &["stores", "f"],
         &["drill", "f"],
         &["drill", "--seed", "1", "--seed", "1"],
         &["drill", "--processes=4294967296"],

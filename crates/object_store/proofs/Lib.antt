@@ -1,3 +1,4 @@
 pub mod Known
 pub mod Padded
 pub mod Puts
+pub mod Crossing

@@ -1,13 +1,14 @@
 -- Why a run ends as it does.
 use Rattle.std.proofs.Common.{◌≡◌, ℕ, ◌+◌, ◌-◌, ◌^◌, ◌<◌, ◌≤◌, ◌⊎◌, min, suc, List, [], ◌∷◌, length, refl, sym, ap, ◌∙◌, subst, inl, inr, arith, Some, None}
-use Rattle.std.specs.Prelude.{Bool, Option, fold, slice_get}
+use Rattle.std.specs.Prelude.{Bool, Option, Result, Ok, Err, IfOk, IfErr, OnErr, fold, slice_get}
 use Rattle.std.proofs.lemmas.Bool.{cases_lt}
 use Rattle.std.proofs.lemmas.Option.{get_or_from_slice_get, slice_get_within}
 use Rattle.std.proofs.lemmas.List.FromFn.{get_or-map-range_with_len, length-map-range_with_len}
 use Rattle.command_words.specs.declared.command.Command.{Command}
-use Rattle.command_words.specs.declared.command.Command.TheVariants.{Play, Drill}
+use Rattle.command_words.specs.declared.command.Command.TheVariants.{Play, Drill, Store}
 use Rattle.command_words.specs.declared.command.Play.{Play as PlayWords}
 use Rattle.command_words.specs.declared.command.Drill.{Drill as DrillWords}
+use Rattle.command_words.specs.declared.command.Store.{Store as StoreWords}
 use Rattle.word_layout.specs.declared.fault.ShapeFault.{ShapeFault}
 use Rattle.word_layout.specs.declared.fault.ShapeFault.TheVariants.{NoProcess, ManyProcesses, FewBatches, BadQuantum, ManyBlocks, WideBlock}
 use Rattle.word_layout.specs.Sizes.{Sizes, IsLength, limits_of, sizes}
@@ -18,12 +19,17 @@ use Rattle.pool_model.proofs.Places.{slice_get_as_long}
 use Rattle.block_pool.specs.Closing.{Settlement}
 use Rattle.pool_io.specs.declared.files.Files as files_trait
 use Rattle.pool_io.specs.declared.sink.Sink as sink_trait
-use Rattle.pool_io.specs.Told.{GrowsBy}
+use Rattle.pool_io.specs.declared.files.Failed.{Failed}
+use Rattle.pool_io.specs.Told.{GrowsBy, GrowsByPart}
+use Rattle.pool_io.specs.Writes.{Writes}
 use Rattle.mtrace_reader.specs.declared.trace.Operation.{Operation}
 use Rattle.line_text.specs.declared.fault.TextFault.{TextFault}
 use Rattle.line_text.specs.declared.fault.TextFault.TheVariants.{ReadFault, TooLong, BadLine, NoMemory}
 use Rattle.mtrace_reader.specs.declared.steps.Script.{Script}
-use Rattle.mtrace_reader.specs.Reading.{bad_line, is_cut, operations_of}
+use Rattle.mtrace_reader.specs.Reading as trace
+use Rattle.mtrace_reader.specs.Reading.{is_cut, operations_of}
+use Rattle.store_script.specs.declared.command.StoreScript.{StoreScript}
+use Rattle.store_script.specs.Reading as store
 use Rattle.mtrace_reader.specs.Script.{after, begun}
 use Rattle.trace_player.specs.declared.tally.Tally.{Tally}
 use Rattle.trace_player.specs.Plain.{tallies_without_refusals}
@@ -33,12 +39,21 @@ use Rattle.pool_runs.specs.Enough.{HasEnough}
 use Rattle.pool_runs.specs.Settled.{IsSettledBy}
 use Rattle.pool_cli.specs.declared.ending.Ending.{Ending}
 use Rattle.pool_cli.specs.declared.ending.Ending.TheVariants.{Done, Words, Shape, Read, Long, Line, Write, Memory}
-use Rattle.pool_cli.specs.Asked.{IsScriptFor, IsScriptOf, batches_of, files_of, processes_of, quantum_of}
-use Rattle.pool_cli.specs.Ending.{status_of}
-use Rattle.pool_cli.specs.Causes.{AreScriptsFor, CauseOf, Ends, EndsAtFile, EndsAtShape, EndsPlayed, GivesTallies, HasEnoughBlocks, Hold, IsAccepted, IsAmple, IsPlayable, IsPlayed, IsSure, IsUnhindered, IsWithin, taken}
-use Rattle.pool_cli.specs.Outside.{HasOpened, Outside, outside}
-use Rattle.pool_cli.specs.Scripts.{HasScripts, ReadsAll, StopsReading, StopsWith, ending_for}
+use Rattle.pool_cli.specs.Asked.{IsScriptFor, IsScriptOf, bad_line_of, batches_of, files_of, processes_of, quantum_of, words_of}
+use Rattle.pool_cli.specs.declared.ending.Worked.{Worked}
+use Rattle.pool_cli.specs.Ending.{ending_after, ending_of, settled_of, status_of}
+use Rattle.pool_cli.specs.Causes.{AreScriptsFor, CauseOf, Ends, EndsAtFile, EndsAtShape, EndsPlayed, FilesAreFine, GivesText, HasEnoughBlocks, Hold, IsAccepted, IsAmple, IsPlayable, IsPlayed, IsSure, IsUnhindered, IsWithin, Prints, taken}
+use Rattle.pool_cli.specs.Outside.{Outside, TakesText, outside}
+use Rattle.pool_cli.specs.Printed.{AreRepliesOf, HasPrinted, IsReportOf}
+use Rattle.pool_cli.specs.Scripts.{ReadsAll, StopsReading, StopsWith, ending_for}
 use Rattle.pool_cli.specs.Shapes.{IsShapeOf}
+
+-- these are the scripts of traces that a command plays, and the files that it names are fine
+record HasScripts (told : List ℕ → Option (List ℕ)) (command : Command) (scripts : List Script) : Type 0 where
+  one_each : length scripts ≡ processes_of command
+  fine : (content : ℕ → List ℕ) → Hold told (files_of command) content (length (files_of command)) → FilesAreFine command content
+  are : (content : ℕ → List ℕ) → Hold told (files_of command) content (length (files_of command))
+      → AreScriptsFor command content scripts
 
 -- a fault with no more processes than are counted is the fault for all files
 pub fault_for_all : (n batches words quantum : ℕ) (fault : ShapeFault) → IsFirstFault (min n (2 ^ 32 - 1)) batches words quantum fault
@@ -81,6 +96,7 @@ one_script_for : (command : Command) (content : ℕ → List ℕ) (j : ℕ) (one
     → IsScriptFor command content j other → one ≡ other
 one_script_for (Play play) content j one other p q = one_script play.size (content j) one other p q
 one_script_for (Drill drill) content j one other p q = p ∙ sym q
+one_script_for (Store store) content j one other p q = absurd p
 
 -- lists whose items have one fact each, which holds of one item alone, are the same
 one_list : (Is : ℕ → Script → Type 0) → ((j : ℕ) (one other : Script) → Is j one → Is j other → one ≡ other)
@@ -127,46 +143,29 @@ played_all told command sizes scripts settled tallies has played = record {
       played.unrefused (subst (HasEnough (limits_of sizes)) (sym same) ample.enough) ∙ ap tallies_without_refusals same;
 }
 
--- the run ends with a report of the tallies that were answered
-pub ends_played : (meaning : Option Command) (before now : Outside) (closed : Option Settlement) (Report : List ℕ → Type 0)
-    (command : Command) (sizes : Sizes) (scripts : List Script) (settled : Settlement) (tallies : List Tally)
-    → meaning ≡ Some command → IsShapeOf command sizes → HasScripts before.told command scripts
-    → HasOpened before now (length (files_of command))
-    → closed ≡ Some settled → IsSettledBy sizes scripts tallies settled → Report (report tallies)
-    → EndsPlayed meaning before now closed Report
-ends_played meaning before now closed Report command sizes scripts settled tallies meant asked has opened is played told = record {
-  settled = settled;
-  is_closed = is;
-  tallies = tallies;
-  gives = record {
-    command = command;
-    sizes = sizes;
-    accepted = record { meant = meant; asked = asked };
-    played = played_all before.told command sizes scripts settled tallies has played;
-  };
-  opened = opened;
-  reported = told;
-}
-
 -- the scripts of files that were read are those of a play
-pub read_scripts : (told : List ℕ → Option (List ℕ)) (play : PlayWords) (scripts : List Script)
-    → ReadsAll play.size told play.files scripts → HasScripts told (Play play) scripts
+read_scripts : (told : List ℕ → Option (List ℕ)) (play : PlayWords) (scripts : List Script)
+    → ReadsAll trace.bad_line (IsScriptOf play.size) told play.files scripts → HasScripts told (Play play) scripts
 read_scripts told play scripts reads = record {
   one_each = reads.1.one_each;
   fine = reads.1.fine;
-  are = λ content hold. record { one_each = reads.1.one_each; each = reads.1.read content hold };
+  are = λ content hold. record { traces = tt; one_each = reads.1.one_each; each = reads.1.read content hold };
 }
 
+-- a drill has a made script for each process
+pub made_count : (drill : DrillWords) (scripts : List Script) → scripts ≡ drill_scripts drill.seed drill.calls drill.processes
+    → length scripts ≡ drill.processes
+made_count drill scripts is = ap length is ∙ length-map-range_with_len (drill_script drill.seed drill.calls) 0 drill.processes
+
 -- and those that were made are those of a drill
-pub made_scripts : (told : List ℕ → Option (List ℕ)) (drill : DrillWords) (scripts : List Script)
+made_scripts : (told : List ℕ → Option (List ℕ)) (drill : DrillWords) (scripts : List Script)
     → scripts ≡ drill_scripts drill.seed drill.calls drill.processes → HasScripts told (Drill drill) scripts
 made_scripts told drill scripts is =
-    let count : length scripts ≡ drill.processes = ap length is
-    ∙ length-map-range_with_len (drill_script drill.seed drill.calls) 0 drill.processes in
+    let count : length scripts ≡ drill.processes = made_count drill scripts is in
     record {
       one_each = count;
       fine = λ content hold j low. absurd (omega (arith, low));
-      are = λ content hold. record { one_each = count; each = made_at };
+      are = λ content hold. record { traces = tt; one_each = count; each = made_at };
     }
   where
     made_at : (j : ℕ) (script : Script) → slice_get scripts j ≡ Some script → script ≡ drill_script drill.seed drill.calls j
@@ -178,17 +177,95 @@ made_scripts told drill scripts is =
         ∙ get_or-map-range_with_len (drill_script drill.seed drill.calls) 0 drill.processes j j script
         (omega (arith, low, length-map-range_with_len (drill_script drill.seed drill.calls) 0 drill.processes)) (omega arith)
 
+-- over a pool that is closed with this history, a play prints the report of the scripts of its files
+pub play_prints : (told : List ℕ → Option (List ℕ)) (play : PlayWords) (sizes : Sizes) (scripts : List Script)
+    → ReadsAll trace.bad_line (IsScriptOf play.size) told play.files scripts → (settled : Settlement) (text : List ℕ)
+    → IsReportOf sizes scripts settled text → Prints told (Play play) sizes settled text
+play_prints told play sizes scripts reads settled text is = record {
+  tallies = is.0;
+  played = played_all told (Play play) sizes scripts settled is.0 (read_scripts told play scripts reads) is.1;
+  is = is.2;
+}
+
+-- a drill that of the made ones
+pub drill_prints : (told : List ℕ → Option (List ℕ)) (drill : DrillWords) (sizes : Sizes) (scripts : List Script)
+    → scripts ≡ drill_scripts drill.seed drill.calls drill.processes → (settled : Settlement) (text : List ℕ)
+    → IsReportOf sizes scripts settled text → Prints told (Drill drill) sizes settled text
+drill_prints told drill sizes scripts made settled text is = record {
+  tallies = is.0;
+  played = played_all told (Drill drill) sizes scripts settled is.0 (made_scripts told drill scripts made) is.1;
+  is = is.2;
+}
+
+-- and a store the replies to the scripts of its files
+pub store_prints : (told : List ℕ → Option (List ℕ)) (words : StoreWords) (sizes : Sizes) (scripts : List StoreScript)
+    → ReadsAll store.bad_line store.IsReading told words.files scripts → (settled : Settlement) (text : List ℕ)
+    → AreRepliesOf sizes scripts settled text → Prints told (Store words) sizes settled text
+store_prints told words sizes scripts reads settled text is = record {
+  lists = is.0;
+  answered = record {
+    one_each = is.1.one_each ∙ reads.1.one_each;
+    fine = reads.1.fine;
+    answered = λ content hold. record {
+      shape = is.1.shape;
+      legal = is.1.legal;
+      each = λ j answers at.
+          let script = slice_get_as_long scripts is.0 j answers is.1.one_each at in
+          (script.0, reads.1.read content hold j script.0 script.1, is.1.each j script.0 answers script.1 at);
+    };
+  };
+  is = is.2;
+}
+
+-- a run that played, or for which memory was wanting before
+pub ends_worked : {F S K : Type 0} (of_files : files_trait.Ghosts F S) (files files_now : F) (of_sink : sink_trait.Ghosts K)
+    (out out_now : K) (meaning : Option Command) (command : Command) (sizes : Sizes) (IsText : Settlement → List ℕ → Type 0) (result : Result Worked Ending)
+    → IsAccepted meaning command sizes → of_files.opens files_now ≡ of_files.opens files + length (files_of command)
+    → ((settled : Settlement) (text : List ℕ) → IsText settled text → Prints (of_files.told files) command sizes settled text)
+    → IfOk result (HasPrinted of_sink out out_now IsText) → IfErr result (λ ending. ending ≡ Memory) → OnErr result (out_now ≡ out)
+    → CauseOf meaning (outside of_files files of_sink out) (outside of_files files_now of_sink out_now)
+    (settled_of result) (ending_of result)
+ends_worked of_files files files_now of_sink out out_now meaning command sizes IsText (Err ending) accepted opened prints ok early kept =
+    rw (early, kept) (refl, refl)
+ends_worked of_files files files_now of_sink out out_now meaning command sizes IsText (Ok worked) accepted opened prints ok early kept =
+    rw (ok.is_closed, ok.ends) (by_writing ok.written ok.writes)
+  where
+    before : Outside
+    before = outside of_files files of_sink out
+
+    after : Outside
+    after = outside of_files files_now of_sink out_now
+
+    played : (IsWritten : List ℕ → Type 0) → IsWritten ok.text → EndsPlayed meaning before after (Some ok.settled) IsWritten
+    played IsWritten is = record {
+      settled = ok.settled;
+      is_closed = refl;
+      text = ok.text;
+      gives = record { command = command; sizes = sizes; accepted = accepted; prints = prints ok.settled ok.text ok.is_text };
+      opened = opened;
+      written = is;
+    }
+
+    by_writing : (written : Result (Unit {0}) Failed) → Writes of_sink ok.text out out_now written
+        → CauseOf meaning before after (Some ok.settled) (ending_after written)
+    by_writing (Ok done) writes = played (GrowsBy before.out after.out) writes.whole
+    by_writing (Err failed) writes = (
+      played (λ text. GrowsByPart before.out after.out text × ¬ TakesText before text)
+          (writes.part, λ takes. let ok = (writes.sure takes.room takes.takes takes.fits).0 in cc),
+      writes.failed,
+    )
+
 -- the run ends at a file
 pub ends_at_file : {F S K : Type 0} (of_files : files_trait.Ghosts F S) (files files_now : F) (of_sink : sink_trait.Ghosts K) (out : K)
     (meaning : Option Command) (command : Command) (sizes : Sizes) (ending : Ending)
-    → IsAccepted meaning command sizes → StopsReading of_files files files_now (files_of command) ending
+    → IsAccepted meaning command sizes → StopsReading of_files files files_now (bad_line_of command) (files_of command) ending
     → CauseOf meaning (outside of_files files of_sink out) (outside of_files files_now of_sink out) None ending
 ends_at_file of_files files files_now of_sink out meaning command sizes ending accepted stopped =
     subst (CauseOf meaning (outside of_files files of_sink out) (outside of_files files_now of_sink out) None) (sym stopped.is)
     (by_fault stopped.file stopped.fault stopped.opened stopped.stops)
   where
     by_fault : (file : ℕ) (fault : TextFault) → of_files.opens files_now ≡ of_files.opens files + file
-        → StopsWith of_files files files_now (files_of command) file fault
+        → StopsWith of_files files files_now (bad_line_of command) (files_of command) file fault
         → CauseOf meaning (outside of_files files of_sink out) (outside of_files files_now of_sink out) None (ending_for file fault)
     by_fault file ReadFault opened stops = (
       (record { command = command; sizes = sizes; accepted = accepted; stops = stops.0; opened = opened; unwritten = refl }, stops.1),
@@ -210,9 +287,9 @@ same_command : (meaning : Option Command) (one other : Command) → meaning ≡ 
 same_command meaning one other p q = let e : Some one ≡ Some other = sym p ∙ q in cc
 
 -- of a file at which a run ended, what is so where all files are told and fine
-at_told_file : (meaning : Option Command) (before after : Outside) (file : ℕ) (Fact : ℕ → List ℕ → Type 0)
+at_told_file : (meaning : Option Command) (before after : Outside) (file : ℕ) (Fact : (List ℕ → Option ℕ) → ℕ → List ℕ → Type 0)
     → EndsAtFile meaning before after file Fact → IsPlayable meaning before.told
-    → (others : ℕ) × (bytes : List ℕ) × Fact others bytes × IsWithin others bytes × (bad_line bytes ≡ None)
+    → (bad : List ℕ → Option ℕ) × (others : ℕ) × (bytes : List ℕ) × Fact bad others bytes × IsWithin others bytes × (bad bytes ≡ None)
 at_told_file meaning before after file Fact ends free =
     let same : ends.command ≡ free.command = same_command meaning ends.command free.command ends.accepted.meant free.accepted.meant in
     let names : length (files_of ends.command) ≡ length (files_of free.command) =
@@ -223,17 +300,21 @@ at_told_file meaning before after file Fact ends free =
     (subst (λ (command : Command). Hold before.told (files_of command) free.content (length (files_of free.command))) (sym same)
     free.hold) in
     let fine : IsWithin (taken free.content ends.stops.index) (free.content ends.stops.index)
-    × (bad_line (free.content ends.stops.index) ≡ None) =
-    free.fine ends.stops.index (omega (arith, ends.stops.within, names)) in
-    (taken free.content ends.stops.index, free.content ends.stops.index, ends.stops.here free.content hold, fine.0, fine.1)
+    × (bad_line_of ends.command (free.content ends.stops.index) ≡ None) =
+    subst (λ (command : Command). IsWithin (taken free.content ends.stops.index) (free.content ends.stops.index)
+    × (bad_line_of command (free.content ends.stops.index) ≡ None)) (sym same)
+    (free.fine ends.stops.index (omega (arith, ends.stops.within, names))) in
+    let others = taken free.content ends.stops.index in
+    (bad_line_of ends.command, others, free.content ends.stops.index, ends.stops.here free.content hold, fine.0, fine.1)
 
 -- the numbers of a shape have no fault
 at_good_shape : (meaning : Option Command) (told : List ℕ → Option (List ℕ)) (fault : ShapeFault) → EndsAtShape meaning fault
     → IsPlayable meaning told → ⊥
 at_good_shape meaning told fault ends free =
     let same : ends.command ≡ free.command = same_command meaning ends.command free.command ends.meant free.accepted.meant in
-    let first : IsFirstFault (processes_of free.command) (batches_of free.command) 0 (quantum_of free.command) fault =
-    subst (λ (command : Command). IsFirstFault (processes_of command) (batches_of command) 0 (quantum_of command) fault) same ends.first in
+    let first : IsFirstFault (processes_of free.command) (batches_of free.command) (words_of free.command) (quantum_of free.command) fault =
+    subst (λ (command : Command). IsFirstFault (processes_of command) (batches_of command) (words_of command) (quantum_of command) fault)
+    same ends.first in
     let asked = free.accepted.asked in
     no_fault free.sizes fault asked.shape
     (rw (asked.processes, asked.batches, asked.words, asked.quantum) first.has)
@@ -250,10 +331,10 @@ ends_well_unless meaning before after closed (Shape fault) status is cause free 
     absurd (at_good_shape meaning before.told fault cause.0.0 free)
 ends_well_unless meaning before after closed (Read file) status is cause free reads writes = absurd (reads file cause)
 ends_well_unless meaning before after closed (Long file) status is cause free reads writes =
-    let fine = at_told_file meaning before after file (λ others bytes. ¬ IsWithin others bytes) cause.0 free in absurd (fine.2 fine.3)
+    let fine = at_told_file meaning before after file (λ _ others bytes. ¬ IsWithin others bytes) cause.0 free in absurd (fine.3 fine.4)
 ends_well_unless meaning before after closed (Line file line) status is cause free reads writes =
-    let fine = at_told_file meaning before after file (λ others bytes. IsWithin others bytes × (bad_line bytes ≡ Some line)) cause.0 free in
-    absurd (let e : None ≡ Some line = sym fine.4 ∙ fine.2.1 in cc)
+    let fine = at_told_file meaning before after file (λ bad others bytes. IsWithin others bytes × (bad bytes ≡ Some line)) cause.0 free in
+    absurd (let e : None ≡ Some line = sym fine.5 ∙ fine.3.1 in cc)
 ends_well_unless meaning before after closed Write status is cause free reads writes = absurd (writes cause)
 ends_well_unless meaning before after closed Memory status is cause free reads writes = inr is
 
@@ -273,11 +354,22 @@ same_sizes command one other p q =
     ≡ sizes other.processes other.batches other.words other.quantum other.length = cc in
     each
 
--- tallies of scripts for which there are enough blocks
-ample_tallies : (meaning : Option Command) (told : List ℕ → Option (List ℕ)) (settled : Settlement) (tallies : List Tally)
+-- the text of scripts for which there are enough blocks
+ample_report : (told : List ℕ → Option (List ℕ)) (command : Command) (sizes : Sizes) (settled : Settlement) (text : List ℕ)
+    (content : ℕ → List ℕ) (scripts : List Script)
+    → Prints told command sizes settled text → Hold told (files_of command) content (length (files_of command))
+    → HasEnoughBlocks command sizes content scripts → text ≡ report (tallies_without_refusals scripts)
+ample_report told (Play play) sizes settled text content scripts prints hold enough =
+    prints.is ∙ ap report (prints.played.unrefused content hold scripts enough)
+ample_report told (Drill drill) sizes settled text content scripts prints hold enough =
+    prints.is ∙ ap report (prints.played.unrefused content hold scripts enough)
+ample_report told (Store words) sizes settled text content scripts prints hold enough = absurd enough.are_scripts.traces
+
+-- the text that a run gives where there are enough blocks
+ample_text : (meaning : Option Command) (told : List ℕ → Option (List ℕ)) (settled : Settlement) (text : List ℕ)
     (scripts : List Script)
-    → GivesTallies meaning told settled tallies → IsAmple meaning told scripts → tallies ≡ tallies_without_refusals scripts
-ample_tallies meaning told settled tallies scripts gives ample =
+    → GivesText meaning told settled text → IsAmple meaning told scripts → text ≡ report (tallies_without_refusals scripts)
+ample_text meaning told settled text scripts gives ample =
     let same : ample.command ≡ gives.command = same_command meaning ample.command gives.command ample.accepted.meant gives.accepted.meant in
     let asked : IsShapeOf gives.command ample.sizes =
     subst (λ (command : Command). IsShapeOf command ample.sizes) same ample.accepted.asked in
@@ -285,22 +377,22 @@ ample_tallies meaning told settled tallies scripts gives ample =
     = subst (λ (command : Command). Hold told (files_of command) ample.content (length (files_of command))) same ample.hold in
     let enough : HasEnoughBlocks gives.command ample.sizes ample.content scripts
     = subst (λ (command : Command). HasEnoughBlocks command ample.sizes ample.content scripts) same ample.enough in
-    gives.played.unrefused ample.content hold scripts
+    ample_report told gives.command gives.sizes settled text ample.content scripts gives.prints hold
     (subst (λ (sizes : Sizes). HasEnoughBlocks gives.command sizes ample.content scripts)
     (same_sizes gives.command ample.sizes gives.sizes asked gives.accepted.asked) enough)
 
--- the report of a run that ended well
-report_when_done : (meaning : Option Command) (before after : Outside) (closed : Option Settlement) (ending : Ending) (status : ℕ)
+-- the text of a run that ended well
+text_when_done : (meaning : Option Command) (before after : Outside) (closed : Option Settlement) (ending : Ending) (status : ℕ)
     → status ≡ status_of ending → CauseOf meaning before after closed ending
     → status ≡ 0 → EndsPlayed meaning before after closed (GrowsBy before.out after.out)
-report_when_done meaning before after closed Done status is cause well = cause
-report_when_done meaning before after closed Words status is cause well = absurd (omega (arith, is, well))
-report_when_done meaning before after closed (Shape fault) status is cause well = absurd (omega (arith, is, well))
-report_when_done meaning before after closed (Read file) status is cause well = absurd (omega (arith, is, well))
-report_when_done meaning before after closed (Long file) status is cause well = absurd (omega (arith, is, well))
-report_when_done meaning before after closed (Line file line) status is cause well = absurd (omega (arith, is, well))
-report_when_done meaning before after closed Write status is cause well = absurd (omega (arith, is, well))
-report_when_done meaning before after closed Memory status is cause well = absurd (omega (arith, is, well))
+text_when_done meaning before after closed Done status is cause well = cause
+text_when_done meaning before after closed Words status is cause well = absurd (omega (arith, is, well))
+text_when_done meaning before after closed (Shape fault) status is cause well = absurd (omega (arith, is, well))
+text_when_done meaning before after closed (Read file) status is cause well = absurd (omega (arith, is, well))
+text_when_done meaning before after closed (Long file) status is cause well = absurd (omega (arith, is, well))
+text_when_done meaning before after closed (Line file line) status is cause well = absurd (omega (arith, is, well))
+text_when_done meaning before after closed Write status is cause well = absurd (omega (arith, is, well))
+text_when_done meaning before after closed Memory status is cause well = absurd (omega (arith, is, well))
 
 module _ (meaning : Option Command) (before after : Outside) (closed : Option Settlement) (Told : Ending → Type 0) (status : ℕ)
     (ends : Ends meaning before after closed Told status) where
@@ -314,13 +406,14 @@ module _ (meaning : Option Command) (before after : Outside) (closed : Option Se
   pub sure : IsSure meaning before → (status ≡ 0) ⊎ (status ≡ 8)
   sure free =
       ends_well_unless meaning before after closed ends.ending status ends.answered ends.cause free.playable
-      (λ file read. let at = at_told_file meaning before after file (λ _ _. ¬ before.reliable) read.0.0 free.playable in at.2 free.reliable)
-      (λ write. write.0.reported.1 (free.roomy write.0.settled write.0.tallies write.0.gives))
+      (λ file read. let at = at_told_file meaning before after file (λ _ _ _. ¬ before.reliable) read.0.0 free.playable in
+      at.3 free.reliable)
+      (λ write. write.0.written.1 (free.roomy write.0.settled write.0.text write.0.gives))
 
   -- with enough blocks the report follows from the files alone
   pub enough : (scripts : List Script) → IsAmple meaning before.told scripts → status ≡ 0
       → GrowsBy before.out after.out (report (tallies_without_refusals scripts))
   enough scripts ample well =
-      let done = report_when_done meaning before after closed ends.ending status ends.answered ends.cause well in
-      subst (λ tallies. GrowsBy before.out after.out (report tallies))
-      (ample_tallies meaning before.told done.settled done.tallies scripts done.gives ample) done.reported
+      let done = text_when_done meaning before after closed ends.ending status ends.answered ends.cause well in
+      subst (λ text. GrowsBy before.out after.out text)
+      (ample_text meaning before.told done.settled done.text scripts done.gives ample) done.written

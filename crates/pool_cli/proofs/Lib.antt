@@ -1,4 +1,5 @@
 pub mod Sums
+pub mod Texts
 pub mod Reports
 pub mod FilesRead
 pub mod Endings

@@ -1,6 +1,7 @@
 -- When each ending of a run comes.
 use Rattle.std.specs.Prelude.{◌≡◌, ℕ, ◌+◌, ◌^◌, ◌<◌, ◌≤◌, zero, suc, Option, Some, None, Result, List, length, slice_get}
 use Rattle.command_words.specs.declared.command.Command.{Command}
+use Rattle.command_words.specs.declared.command.Command.TheVariants.{Play, Drill, Store}
 use Rattle.word_layout.specs.declared.fault.ShapeFault.{ShapeFault}
 use Rattle.word_layout.specs.Sizes.{Sizes, limits_of}
 use Rattle.word_layout.specs.Faults.{IsFirstFault}
@@ -15,16 +16,20 @@ use Rattle.pool_io.specs.Writes.{Writes}
 use Rattle.pool_io.specs.declared.files.Failed.{Failed}
 use Rattle.pool_io.specs.declared.sink.Sink.{Ghosts}
 use Rattle.mtrace_reader.specs.declared.steps.Script.{Script}
-use Rattle.mtrace_reader.specs.Reading.{bad_line}
+use Rattle.store_script.specs.declared.command.StoreScript.{StoreScript}
+use Rattle.store_script.specs.declared.answered.Answered.{Answered}
+use Rattle.store_script.specs.Reading.{IsReading}
+use Rattle.store_runs.specs.Settled.{HasAnswers}
 use Rattle.trace_player.specs.declared.tally.Tally.{Tally}
 use Rattle.trace_player.specs.Fit.{IsTallied}
 use Rattle.trace_player.specs.Plain.{tallies_without_refusals}
 use Rattle.trace_player.specs.Report.{report}
 use Rattle.pool_cli.specs.declared.ending.Ending.{Ending}
 use Rattle.pool_cli.specs.declared.ending.Ending.TheVariants.{Done, Words, Shape, Read, Long, Line, Write, Memory}
-use Rattle.pool_cli.specs.Asked.{IsScriptFor, batches_of, files_of, processes_of, quantum_of}
+use Rattle.pool_cli.specs.Asked.{IsScriptFor, PlaysTraces, bad_line_of, batches_of, files_of, processes_of, quantum_of, words_of}
 use Rattle.pool_cli.specs.Ending.{line_of, status_of}
 use Rattle.pool_cli.specs.Outside.{HasOpened, IsUntouched, IsUnwritten, Outside, TakesText}
+use Rattle.pool_cli.specs.Replies.{replies}
 use Rattle.pool_cli.specs.Shapes.{IsShapeOf}
 
 -- the first so many names are told to hold these contents
@@ -40,16 +45,21 @@ taken content (suc count) = taken content count + length (content count)
 abbrev pub IsWithin : ℕ → List ℕ → Type 0
 IsWithin before bytes = (length bytes ≤ 2 ^ 24) × (before + length bytes ≤ 2 ^ 26)
 
--- the first so many files may be read whole and have no bad line
-abbrev pub AreFine : (ℕ → List ℕ) → ℕ → Type 0
-AreFine content count = (j : ℕ) → j < count → IsWithin (taken content j) (content j) × (bad_line (content j) ≡ None)
+-- the first so many files may be read whole and have no bad line, in a language by which bytes have this first bad line
+abbrev pub AreFine : (List ℕ → Option ℕ) → (ℕ → List ℕ) → ℕ → Type 0
+AreFine bad content count = (j : ℕ) → j < count → IsWithin (taken content j) (content j) × (bad (content j) ≡ None)
 
--- these are the scripts that a command plays, where the files have these contents, one for each process
+-- all files that a command names are fine
+abbrev pub FilesAreFine : Command → (ℕ → List ℕ) → Type 0
+FilesAreFine command content = AreFine (bad_line_of command) content (length (files_of command))
+
+-- these are the scripts of traces that a command plays, where the files have these contents, one for each process
 pub record AreScriptsFor (command : Command) (content : ℕ → List ℕ) (scripts : List Script) : Type 0 where
+  pub traces : PlaysTraces command
   pub one_each : length scripts ≡ processes_of command
   pub each : (j : ℕ) (script : Script) → slice_get scripts j ≡ Some script → IsScriptFor command content j script
 
--- the words ask for this command, and its numbers are those of a pool without data words
+-- the words ask for this command, and its numbers are those of a pool
 pub record IsAccepted (meaning : Option Command) (command : Command) (sizes : Sizes) : Type 0 where
   pub meant : meaning ≡ Some command
   pub asked : IsShapeOf command sizes
@@ -69,58 +79,96 @@ pub record HasEnoughBlocks (command : Command) (sizes : Sizes) (content : ℕ �
   pub are_scripts : AreScriptsFor command content scripts
   pub enough : HasEnough (limits_of sizes) scripts
 
--- all files were read and all scripts played: the files are fine, the tallies are computed from the one history, and with enough
+-- all files were read and all scripts of traces played: the files are fine, the tallies are computed from the one history, and with enough
 -- blocks from the scripts alone
 pub record IsPlayed (told : List ℕ → Option (List ℕ)) (command : Command) (sizes : Sizes) (settled : Settlement) (tallies : List Tally)
     : Type 0 where
   pub one_each : length tallies ≡ processes_of command
-  pub fine : (content : ℕ → List ℕ) → Hold told (files_of command) content (length (files_of command))
-      → AreFine content (length (files_of command))
+  pub fine : (content : ℕ → List ℕ) → Hold told (files_of command) content (length (files_of command)) → FilesAreFine command content
   pub played : (content : ℕ → List ℕ) → Hold told (files_of command) content (length (files_of command))
       → IsHistoryOf command sizes content settled tallies
   pub unrefused : (content : ℕ → List ℕ) → Hold told (files_of command) content (length (files_of command))
       → (scripts : List Script) → HasEnoughBlocks command sizes content scripts → tallies ≡ tallies_without_refusals scripts
 
+-- the pool was closed with one legal history of a free set, of the shape that is asked for; the entries of each process fit the script that
+-- its file says, with refusals that they determine; the answers are those with these, and it made four steps at least for each of them for
+-- which the words of a block were used
+pub record IsStoreHistoryOf (sizes : Sizes) (content : ℕ → List ℕ) (settled : Settlement) (lists : List (List Answered)) : Type 0 where
+  pub shape : settled.sizes ≡ sizes
+  pub legal : IsLegal (limits_of sizes) settled.history
+  pub each : (j : ℕ) (answers : List Answered) → slice_get lists j ≡ Some answers
+      → (script : StoreScript) × IsReading (content j) script × HasAnswers settled j script answers
+
+-- all files were read and all store scripts played: the files are fine, and the answers are computed from the one history
+pub record IsAnsweredAll (told : List ℕ → Option (List ℕ)) (command : Command) (sizes : Sizes) (settled : Settlement)
+    (lists : List (List Answered)) : Type 0 where
+  pub one_each : length lists ≡ processes_of command
+  pub fine : (content : ℕ → List ℕ) → Hold told (files_of command) content (length (files_of command)) → FilesAreFine command content
+  pub answered : (content : ℕ → List ℕ) → Hold told (files_of command) content (length (files_of command))
+      → IsStoreHistoryOf sizes content settled lists
+
+-- the text is the report of tallies that are played for
+pub record PrintsReport (told : List ℕ → Option (List ℕ)) (command : Command) (sizes : Sizes) (settled : Settlement) (text : List ℕ)
+    : Type 0 where
+  pub tallies : List Tally
+  pub played : IsPlayed told command sizes settled tallies
+  pub is : text ≡ report tallies
+
+-- the text is the replies to all files, one after the other
+pub record PrintsReplies (told : List ℕ → Option (List ℕ)) (command : Command) (sizes : Sizes) (settled : Settlement) (text : List ℕ)
+    : Type 0 where
+  pub lists : List (List Answered)
+  pub answered : IsAnsweredAll told command sizes settled lists
+  pub is : text ≡ replies lists
+
+-- what a command prints over a pool of this shape that was closed with this history
+abbrev pub Prints : (List ℕ → Option (List ℕ)) → Command → Sizes → Settlement → List ℕ → Type 0
+Prints told (Play play) sizes settled text = PrintsReport told (Play play) sizes settled text
+Prints told (Drill drill) sizes settled text = PrintsReport told (Drill drill) sizes settled text
+Prints told (Store store) sizes settled text = PrintsReplies told (Store store) sizes settled text
+
 -- the run ended at a file, which has this fact after so many bytes of the files before it, which are fine
-pub record StopsAt (told : List ℕ → Option (List ℕ)) (names : List (List ℕ)) (file : ℕ) (Fact : ℕ → List ℕ → Type 0) : Type 0 where
+pub record StopsAt (bad : List ℕ → Option ℕ) (told : List ℕ → Option (List ℕ)) (names : List (List ℕ)) (file : ℕ)
+    (Fact : ℕ → List ℕ → Type 0) : Type 0 where
   pub index : ℕ
   pub number : file ≡ index + 1
   pub within : index < length names
-  pub earlier : (content : ℕ → List ℕ) → Hold told names content index → AreFine content index
+  pub earlier : (content : ℕ → List ℕ) → Hold told names content index → AreFine bad content index
   pub here : (content : ℕ → List ℕ) → Hold told names content (index + 1) → Fact (taken content index) (content index)
 
--- the words were accepted and the run ended at a file, the last that was opened
-pub record EndsAtFile (meaning : Option Command) (before after : Outside) (file : ℕ) (Fact : ℕ → List ℕ → Type 0) : Type 0 where
+-- the words were accepted and the run ended at a file, the last that was opened; the fact may speak of the first bad line in the language
+-- of the command's files
+pub record EndsAtFile (meaning : Option Command) (before after : Outside) (file : ℕ)
+    (Fact : (List ℕ → Option ℕ) → ℕ → List ℕ → Type 0) : Type 0 where
   pub command : Command
   pub sizes : Sizes
   pub accepted : IsAccepted meaning command sizes
-  pub stops : StopsAt before.told (files_of command) file Fact
+  pub stops : StopsAt (bad_line_of command) before.told (files_of command) file (Fact (bad_line_of command))
   pub opened : HasOpened before after file
   pub unwritten : IsUnwritten before after
 
--- the words were accepted, and what they ask for gives this history and these tallies
-pub record GivesTallies (meaning : Option Command) (told : List ℕ → Option (List ℕ)) (settled : Settlement) (tallies : List Tally)
-    : Type 0 where
+-- the words were accepted, and what they ask for gives this history and prints this text
+pub record GivesText (meaning : Option Command) (told : List ℕ → Option (List ℕ)) (settled : Settlement) (text : List ℕ) : Type 0 where
   pub command : Command
   pub sizes : Sizes
   pub accepted : IsAccepted meaning command sizes
-  pub played : IsPlayed told command sizes settled tallies
+  pub prints : Prints told command sizes settled text
 
--- all files were opened, all scripts played, and the pool closed with this history; this was done with the report
-pub record EndsPlayed (meaning : Option Command) (before after : Outside) (closed : Option Settlement) (Report : List ℕ → Type 0)
+-- all files were opened, all scripts played, and the pool closed with this history; this was done with the text
+pub record EndsPlayed (meaning : Option Command) (before after : Outside) (closed : Option Settlement) (IsWritten : List ℕ → Type 0)
     : Type 0 where
   pub settled : Settlement
   pub is_closed : closed ≡ Some settled
-  pub tallies : List Tally
-  pub gives : GivesTallies meaning before.told settled tallies
+  pub text : List ℕ
+  pub gives : GivesText meaning before.told settled text
   pub opened : HasOpened before after (length (files_of gives.command))
-  pub reported : Report (report tallies)
+  pub written : IsWritten text
 
 -- the words ask for a pool whose numbers have this fault and none before it
 pub record EndsAtShape (meaning : Option Command) (fault : ShapeFault) : Type 0 where
   pub command : Command
   pub meant : meaning ≡ Some command
-  pub first : IsFirstFault (processes_of command) (batches_of command) 0 (quantum_of command) fault
+  pub first : IsFirstFault (processes_of command) (batches_of command) (words_of command) (quantum_of command) fault
 
 -- When a run ends before its pool is closed. Where the bytes of the files up to an unread one are told, the files weren't reliable.
 -- Want of memory may come at any time before the playing.
@@ -129,14 +177,14 @@ EarlyCause meaning before after Done = ⊥
 EarlyCause meaning before after Words = (meaning ≡ None) × IsUntouched before after
 EarlyCause meaning before after (Shape fault) = EndsAtShape meaning fault × IsUntouched before after
 EarlyCause meaning before after (Read file) =
-    EndsAtFile meaning before after file (λ _ _. ¬ before.reliable) × HasRisen before.file_faults after.file_faults
-EarlyCause meaning before after (Long file) = EndsAtFile meaning before after file (λ others bytes. ¬ IsWithin others bytes)
+    EndsAtFile meaning before after file (λ _ _ _. ¬ before.reliable) × HasRisen before.file_faults after.file_faults
+EarlyCause meaning before after (Long file) = EndsAtFile meaning before after file (λ _ others bytes. ¬ IsWithin others bytes)
 EarlyCause meaning before after (Line file line) =
-    EndsAtFile meaning before after file (λ others bytes. IsWithin others bytes × (bad_line bytes ≡ Some line))
+    EndsAtFile meaning before after file (λ bad others bytes. IsWithin others bytes × (bad bytes ≡ Some line))
 EarlyCause meaning before after Write = ⊥
 EarlyCause meaning before after Memory = IsUnwritten before after
 
--- When each ending comes, and what the pool was closed with. An output that failed wasn't sure to take the report.
+-- When each ending comes, and what the pool was closed with. An output that failed wasn't sure to take the text.
 abbrev pub CauseOf : Option Command → Outside → Outside → Option Settlement → Ending → Type 0
 CauseOf meaning before after closed Done = EndsPlayed meaning before after closed (GrowsBy before.out after.out)
 CauseOf meaning before after closed Write =
@@ -163,7 +211,7 @@ pub record IsPlayable (meaning : Option Command) (told : List ℕ → Option (Li
   pub accepted : IsAccepted meaning command sizes
   pub content : ℕ → List ℕ
   pub hold : Hold told (files_of command) content (length (files_of command))
-  pub fine : AreFine content (length (files_of command))
+  pub fine : FilesAreFine command content
 
 -- besides, neither the files nor the output failed in the run
 pub record IsUnhindered (meaning : Option Command) (before after : Outside) : Type 0 where
@@ -171,12 +219,11 @@ pub record IsUnhindered (meaning : Option Command) (before after : Outside) : Ty
   pub read : ¬ HasRisen before.file_faults after.file_faults
   pub written : ¬ HasRisen before.out_faults after.out_faults
 
--- besides, before the run the files are reliable, and the output is sure to take whatever report playing may give
+-- besides, before the run the files are reliable, and the output is sure to take whatever text playing may give
 pub record IsSure (meaning : Option Command) (before : Outside) : Type 0 where
   pub playable : IsPlayable meaning before.told
   pub reliable : before.reliable
-  pub roomy : (settled : Settlement) (tallies : List Tally) → GivesTallies meaning before.told settled tallies
-      → TakesText before (report tallies)
+  pub roomy : (settled : Settlement) (text : List ℕ) → GivesText meaning before.told settled text → TakesText before text
 
 -- the words are accepted, all files are told, and these are the scripts, for which there are enough blocks
 pub record IsAmple (meaning : Option Command) (told : List ℕ → Option (List ℕ)) (scripts : List Script) : Type 0 where

@@ -4,6 +4,7 @@ use Rattle.command_words.specs.declared.fault.WordsFault.{WordsFault}
 use Rattle.command_words.specs.declared.fault.WordsFault.TheVariants.{Faulty, NoMemory}
 use Rattle.word_layout.specs.Faults.{number_of}
 use Rattle.block_pool.specs.Closing.{Settlement}
+use Rattle.pool_io.specs.declared.files.Failed.{Failed}
 use Rattle.pool_cli.specs.declared.ending.Ending.{Ending}
 use Rattle.pool_cli.specs.declared.ending.Worked.{Worked}
 use Rattle.pool_cli.specs.declared.ending.Ending.TheVariants.{Done, Words, Shape, Read, Long, Line, Write, Memory}
@@ -38,6 +39,11 @@ line_of Memory = codes "pooltrace: memory\n"
 abbrev pub for_words : WordsFault → Ending
 for_words Faulty = Words
 for_words NoMemory = Memory
+
+-- the ending of work that played, by how its text was written
+abbrev pub ending_after : Result (Unit {0}) Failed → Ending
+ending_after (Ok done) = Done
+ending_after (Err failed) = Write
 
 -- the ending of work that played, or ended early
 abbrev pub ending_of : Result Worked Ending → Ending

@@ -3,6 +3,7 @@ ghost use Rattle.std.specs.Prelude.{◌≡◌};
 
 use block_pool::Settled;
 use command_words::WordsFault;
+use pool_io::Failed;
 use pool_model::NoMemory;
 use word_layout::ShapeFault;
 
@@ -24,7 +25,23 @@ pub(crate) struct Worked {
 }
 
 impl Worked {
-    ghost use Rattle.pool_cli.specs.Ending.{ending_of, settled_of};
+    ghost use Rattle.std.specs.Prelude.{Some};
+    ghost use Rattle.pool_cli.specs.Ending.{ending_after, ending_of, settled_of};
+
+    /// How work ended that played, and then wrote what it prints.
+    pub(crate) fn printed(settled: Settled, written: Result<(), Failed>) -> Worked
+        ensures ending { result.ending ≡ ending_after written }
+        ensures settled { result.settled ≡ Some settled }
+    {
+        let ending = match written {
+            Ok(()) => Ending::Done,
+            Err(_) => Ending::Write,
+        };
+        Worked {
+            ending,
+            settled: Some(settled),
+        }
+    }
 
     /// How work ended that played, or ended early.
     pub(crate) fn after(work: Result<Worked, Ending>) -> Worked
@@ -56,7 +73,7 @@ pub enum Ending {
     Long { file: u64 },
     /// This line of this file is of no form.
     Line { file: u64, line: u64 },
-    /// The report couldn't be written.
+    /// What is printed couldn't be written.
     Write,
     /// Want of memory.
     Memory,

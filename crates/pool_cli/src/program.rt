@@ -1,7 +1,6 @@
 // The top call.
-ghost use Rattle.std.specs.Prelude.{◌≡◌, ◌⊎◌, ◌^◌, ◌<◌, List, Some, Option, map, string_bytes};
-ghost use Rattle.command_words.specs.declared.command.Command.{Command};
-ghost use Rattle.command_words.specs.Meant.{HasFewCalls, meant};
+ghost use Rattle.std.specs.Prelude.{◌≡◌, ◌⊎◌, ◌^◌, ◌<◌, List, map, string_bytes};
+ghost use Rattle.command_words.specs.Meant.{meant};
 ghost use Rattle.pool_cli.specs.Ending.{ending_of, settled_of};
 ghost use Rattle.pool_io.specs.Told.{GrowsBy};
 ghost use Rattle.mtrace_reader.specs.declared.steps.Script.{Script};
@@ -10,23 +9,21 @@ ghost use Rattle.trace_player.specs.Report.{report};
 ghost use Rattle.pool_cli.specs.Causes.{CauseOf, Ends, IsAmple, IsSure, IsTold, IsUnhindered};
 ghost use Rattle.pool_cli.specs.Outside.{outside};
 
+use crate::commands::play_command;
 use crate::ending::Worked;
-use crate::report::write_report;
-use crate::scripts::scripts_of;
-use crate::shape::shape_of;
 use crate::tell::tell;
 use crate::{Ended, Ending};
-use command_words::{Command, read_words};
+use command_words::read_words;
 use pool_io::{Files, Gate, Sink};
-use pool_runs::play_on_pool;
 use std::alloc::Global;
 use std::thread::Threads;
 
 /// Does all that the program does: reads the words, plays what they ask for over a pool, each process on a
-/// thread where one can be had, and writes the report to `out`. Where it ends otherwise, its line is written to `err`;
-/// a fault of `err` changes no status. The gate is told of each call of the pool before it.
+/// thread where one can be had, and writes the report, or the replies of a store, to `out`. Where it ends otherwise, its line
+/// is written to `err`; a fault of `err` changes no status. The gate is told of each call of the pool that gets or frees a
+/// block before it.
 ///
-/// Each status comes exactly as the causes say: 0 after the whole report, 2 for faulty words, 3 for a shape
+/// Each status comes exactly as the causes say: 0 after the whole text, 2 for faulty words, 3 for a shape
 /// that is refused, 4 to 6 for a file, 7 where `out` failed. Want of memory, 8, comes before the playing.
 pub fn run<R: Threads + Sync, F: Files, K: Sink, G: Gate + Sync>(
     rt: &R,
@@ -80,34 +77,4 @@ fn work<R: Threads + Sync, F: Files, K: Sink, G: Gate + Sync>(
 {
     let command = read_words(alloc, words)?;
     play_command(rt, alloc, &command, files, out, gate)
-}
-
-/// Plays what a command asks for and writes the report, and answers what ended it early.
-fn play_command<R: Threads + Sync, F: Files, K: Sink, G: Gate + Sync>(
-    rt: &R,
-    alloc: Global,
-    command: &Command,
-    files: &mut F,
-    out: &mut K,
-    gate: &G,
-) -> Result<Worked, Ending>
-    requires opens { F.opens files.old < 2 ^ 63 }
-    requires few { HasFewCalls command.now }
-    ensures { (meaning : Option Command) → meaning ≡ Some command.now → CauseOf meaning
-        (outside F.Files files.old K.Sink out.old)
-        (outside F.Files files.new K.Sink out.new)
-        (settled_of result)
-        (ending_of result) }
-{
-    let shape = shape_of(command)?;
-    let scripts = scripts_of(alloc, command, files)?;
-    let played = play_on_pool(rt, alloc, &shape, &scripts, gate)?;
-    let ending = match write_report(out, &played.tallies) {
-        Ok(()) => Ending::Done,
-        Err(_) => Ending::Write,
-    };
-    Ok(Worked {
-        ending,
-        settled: Some(played.settled),
-    })
 }

@@ -1,11 +1,11 @@
-// The files of a play: each is opened, read and made a script, in turn.
-ghost use Rattle.std.specs.Prelude.{◌≡◌, ◌≢◌, ℕ, ◌+◌, ◌-◌, ◌^◌, ◌<◌, ◌≤◌, List, length, map, min, All, IfOk, IfErr, OnOk, Some, Err, string_bytes};
+// The files of a command: each is opened, read and made a script, in turn.
+ghost use Rattle.std.specs.Prelude.{◌≡◌, ◌≢◌, ℕ, ◌+◌, ◌-◌, ◌^◌, ◌<◌, ◌≤◌, List, Option, length, map, min, All, IfOk, IfErr, IfSome, OnOk, Some, Err};
+ghost use Rattle.std.specs.Prelude.{string_bytes};
 ghost use Rattle.pool_io.specs.Counts.{HasRisen};
-ghost use Rattle.pool_runs.specs.Playable.{IsPlayable};
 ghost use Rattle.pool_cli.specs.Scripts.{FileAnswers, ReadsAll, StopsReading, ending_for};
 
 use crate::Ending;
-use mtrace_reader::{Script, TraceFault, read_trace, script};
+use line_text::TextFault;
 use pool_io::Files;
 use std::alloc::Global;
 
@@ -14,74 +14,102 @@ const MOST_BYTES: u64 = 1 << 26;
 
 /// The script of one file, and how many bytes the file has.
 #[derive(Drop)]
-struct FileScript {
-    script: Script,
-    bytes: u64,
+pub(crate) struct FileScript<S> {
+    pub(crate) script: S,
+    pub(crate) bytes: u64,
+}
+
+/// A language of files, each of which says a script.
+pub(crate) trait Language {
+    /// What a file says.
+    type Script: Drop;
+
+    /// The number of the first line that isn't of the language.
+    ghost bad: { Self → List ℕ → Option ℕ };
+
+    /// These bytes say this script.
+    ghost says: { Self → List ℕ → Self.Script → Type 0 };
+
+    /// A script that a fresh process may play.
+    ghost playable: { Self → Self.Script → Type 0 };
+
+    /// Reads the script that a source has left, of which at most `room` bytes may be taken.
+    fn read<F: Files>(
+        &self,
+        alloc: Global,
+        files: &mut F,
+        source: F::Source,
+        room: u64,
+    ) -> Result<FileScript<Self::Script>, TextFault>
+        ensures answer { IfSome (F.left files.old source) (λ left.
+            FileAnswers (bad self.now) (says self.now) (F.reliable files.old) room left result) }
+        ensures within { IfOk result (λ file. file.bytes ≤ room) }
+        ensures playable { IfOk result (λ file. playable self.now file.script) }
+
+        ensures names { F.told files.new ≡ F.told files.old }
+        ensures opens { F.opens files.new ≡ F.opens files.old }
+        ensures never_falls { F.faults files.old ≤ F.faults files.new }
+        ensures failed { result ≡ Err TextFault.ReadFault → HasRisen (F.faults files.old) (F.faults files.new) }
+        ensures reliable { F.reliable files.old → F.reliable files.new };
 }
 
 /// Opens a file, reads it to its end and makes its script. At most `room` bytes may be taken.
-fn read_file<F: Files>(
+fn read_file<F: Files, L: Language>(
     alloc: Global,
     files: &mut F,
     name: &str,
     room: u64,
-    size: u64,
-) -> Result<FileScript, TraceFault>
+    language: &L,
+) -> Result<FileScript<L::Script>, TextFault>
     requires { F.opens files.old < 2 ^ 64 - 1 }
     ensures answer { (bytes : List ℕ) → F.told files.old name.now ≡ Some bytes →
-        FileAnswers (F.reliable files.old) room size bytes result }
+        FileAnswers (L.bad language.now) (L.says language.now) (F.reliable files.old) room bytes result }
     ensures within { IfOk result (λ file. file.bytes ≤ room) }
-    ensures playable { IfOk result (λ file. IsPlayable file.script) }
+    ensures playable { IfOk result (λ file. L.playable language.now file.script) }
 
     ensures names { F.told files.new ≡ F.told files.old }
     ensures opens { F.opens files.new ≡ F.opens files.old + 1 }
     ensures never_falls { F.faults files.old ≤ F.faults files.new }
-    ensures failed { result ≡ Err TraceFault.ReadFault → HasRisen (F.faults files.old) (F.faults files.new) }
+    ensures failed { result ≡ Err TextFault.ReadFault → HasRisen (F.faults files.old) (F.faults files.new) }
     ensures reliable { F.reliable files.old → F.reliable files.new }
 {
     let Ok(source) = files.open(name) else {
-        return Err(TraceFault::ReadFault);
+        return Err(TextFault::ReadFault);
     };
-    let trace = read_trace(alloc, files, source, room)?;
-    let Ok(script) = script(alloc, &trace, size) else {
-        return Err(TraceFault::NoMemory);
-    };
-    Ok(FileScript {
-        script,
-        bytes: trace.bytes,
-    })
+    language.read(alloc, files, source, room)
 }
 
 /// How a run ends for a fault of this file, counted from 1.
-fn ending_at(file: u64, fault: TraceFault) -> Ending
+fn ending_at(file: u64, fault: TextFault) -> Ending
     ensures { result ≡ ending_for file fault }
 {
     match fault {
-        TraceFault::ReadFault => Ending::Read { file },
-        TraceFault::TooLong => Ending::Long { file },
-        TraceFault::BadLine(line) => Ending::Line { file, line },
-        TraceFault::NoMemory => Ending::Memory,
+        TextFault::ReadFault => Ending::Read { file },
+        TextFault::TooLong => Ending::Long { file },
+        TextFault::BadLine(line) => Ending::Line { file, line },
+        TextFault::NoMemory => Ending::Memory,
     }
 }
 
 /// The scripts of all files, in their order. Ends at the first file that can't be read.
-pub(crate) fn read_files<F: Files>(
+pub(crate) fn read_files<F: Files, L: Language>(
     alloc: Global,
     files: &mut F,
     names: &[String],
-    size: u64,
-) -> Result<Vec<Script>, Ending>
+    language: &L,
+) -> Result<Vec<L::Script>, Ending>
     requires { F.opens files.old + length names.now < 2 ^ 64 }
-    ensures scripts { IfOk result
-        (λ scripts. ReadsAll size (F.told files.old) (map string_bytes names.now) scripts.items) }
-    ensures playable { IfOk result (λ scripts. All IsPlayable scripts.items) }
+    ensures scripts { IfOk result (λ scripts.
+        ReadsAll (L.bad language.now) (L.says language.now) (F.told files.old) (map string_bytes names.now) scripts.items) }
+    ensures playable { IfOk result (λ scripts. All (L.playable language.now) scripts.items) }
     ensures opened { OnOk result (F.opens files.new ≡ F.opens files.old + length names.now) }
-    ensures stopped { IfErr result (StopsReading F.Files files.old files.new (map string_bytes names.now)) }
+    ensures stopped { IfErr result
+        (StopsReading F.Files files.old files.new (L.bad language.now) (map string_bytes names.now)) }
 {
     let mut scripts = Vec::new(alloc);
     let mut taken = 0;
     for (index, name) in names.iter().enumerate() {
-        match read_file(alloc, files, name.as_str(), MOST_BYTES - taken, size) {
+        match read_file(alloc, files, name.as_str(), MOST_BYTES - taken, language) {
             Ok(file) => {
                 taken += file.bytes;
                 let Ok(()) = scripts.push(file.script) else {

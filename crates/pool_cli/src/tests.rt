@@ -4,7 +4,7 @@ use crate::run;
 use pool_io::{Gate, MemoryFiles, MemorySink, OpenGate};
 use pool_model::NoMemory;
 use std::alloc::{AllocError, Global};
-use std::sync::atomic::{AtomicBool, Ordering};
+use std::sync::atomic::{AtomicBool, AtomicU64, Ordering};
 use std::test::Fail;
 use std::thread::Threads;
 use std::{hint, str};
@@ -17,6 +17,8 @@ const EMPTY_TRACE: &[u8] = b"= End\n";
 
 const RESIZE: &[u8] = b"+ 0x10 0x8\n< 0x10\n> 0x20 0x10\n";
 
+const GET: &[u8] = b"get 1\n";
+
 const FIRST_TRACE: &[u8] =
     b"= Start\n@ ./a.out:[0x401136] + 0x4052a0 0x20\n@ ./a.out:[0x401146] - 0x4052a0\n= End\n";
 
@@ -24,6 +26,9 @@ const FIRST_REPORT: &str =
     "1: news 1 frees 1 big 0 failed 0 stray 0 twice 0 refused 0 peak 1 left 0 cut 0\nall: news 1 frees 1 big 0 failed 0 stray 0 twice 0 refused 0 peak 1 left 0 cut 0\n";
 
 const ZEROS: &str = "0 0 0 0 0 0 0 0 0 0";
+
+const FIRST_ZEROS: &str =
+    "1: news 0 frees 0 big 0 failed 0 stray 0 twice 0 refused 0 peak 0 left 0 cut 0\n";
 
 const COLUMNS: [&str; 10] = [
     "news", "frees", "big", "failed", "stray", "twice", "refused", "peak", "left", "cut",
@@ -34,6 +39,7 @@ const COLUMNS: [&str; 10] = [
 struct Outcome {
     status: u8,
     settled: bool,
+    told: u64,
     out: MemorySink,
     err: MemorySink,
 }
@@ -120,9 +126,22 @@ fn run_with<R: Threads + Sync, G: Gate + Sync>(
     Ok(Outcome {
         status: ended.status,
         settled: ended.settled.is_some(),
+        told: 0,
         out,
         err,
     })
+}
+
+// A gate that counts the calls that it is told of.
+#[derive(Drop)]
+struct Counter {
+    told: AtomicU64,
+}
+
+impl Gate for Counter {
+    fn pass(&self, _process: u32, _call: u64) {
+        self.told.fetch_add(1, Ordering::SeqCst);
+    }
 }
 
 // Runs the words of a line with sinks that take all.
@@ -136,7 +155,12 @@ fn run_line<R: Threads + Sync>(
 {
     let out = failing_sink(alloc, AMPLE, AMPLE, NEVER)?;
     let err = failing_sink(alloc, AMPLE, AMPLE, NEVER)?;
-    run_with(rt, alloc, line, files, out, err, &OpenGate)
+    let gate = Counter {
+        told: AtomicU64::new(0),
+    };
+    let outcome = run_with(rt, alloc, line, files, out, err, &gate)?;
+    let told = gate.told.load(Ordering::SeqCst);
+    Ok(Outcome { told, ..outcome })
 }
 
 // The line of a report with these numbers, which are parted by spaces.
@@ -186,7 +210,10 @@ fn answer<R: Threads + Sync>(
 #[test]
 fn first_report(rt: HostRuntime) -> Result<(), Fail> {
     let (outcome, _) = answer(&rt, rt.alloc(), "pooltrace play f", &[("f", FIRST_TRACE)])?;
+    // Want of memory comes before the first call of the pool: `checks/allocations` lets each allocation fail.
+    assert!(rt; outcome.status != 8 || outcome.told == 0);
     assert_eq!(rt; outcome.parts(), (0, FIRST_REPORT, ""));
+    assert_eq!(rt; outcome.told, 2);
     Ok(())
 }
 
@@ -347,7 +374,7 @@ fn each_line_is_one_write(rt: HostRuntime) -> Result<(), Fail> {
 }
 
 // Words that open no file, the status, and the line on the error sink.
-static REFUSED: [(&str, u8, &str); 13] = [
+static REFUSED: [(&str, u8, &str); 15] = [
     ("pooltrace", 2, "pooltrace: words\n"),
     ("pooltrace plays f", 2, "pooltrace: words\n"),
     ("pooltrace play", 2, "pooltrace: words\n"),
@@ -370,6 +397,8 @@ static REFUSED: [(&str, u8, &str); 13] = [
         "pooltrace: shape 3\n",
     ),
     ("pooltrace play --quantum 3 f", 3, "pooltrace: shape 6\n"),
+    ("pooltrace store", 2, "pooltrace: words\n"),
+    ("pooltrace store --batches 1 f", 3, "pooltrace: shape 3\n"),
     ("pooltrace drill f", 2, "pooltrace: words\n"),
     ("pooltrace drill --calls 131073", 2, "pooltrace: words\n"),
     ("pooltrace drill --processes 0", 3, "pooltrace: shape 1\n"),
@@ -416,6 +445,40 @@ fn large_drill(rt: HostRuntime) -> Result<(), Fail> {
     Ok(())
 }
 
+// Words of a store, the bytes of its file, and what is printed.
+static STORED: [(&str, &[u8], &str); 5] = [
+    (
+        "pooltrace store f",
+        b"put 7 1 2 3 4\nget 7\nset 7 2 99\nget 7\nput 7 0 0 0 0\ndel 7\nget 7\n",
+        "1: ok\n1: 7 1 2 3 4\n1: ok\n1: 7 1 2 99 4\n1: there\n1: ok\n1: none\n",
+    ),
+    (
+        "pooltrace store --batches 2 f",
+        b"put 1 0 0 0 0\nput 2 0 0 0 0\nput 3 0 0 0 0\nput 4 0 0 0 0\nput 5 0 0 0 0\nput 6 0 0 0 0\nput 7 0 0 0 0\nput 8 0 0 0 0\nput 9 0 0 0 0\nget 9\n",
+        "1: ok\n1: ok\n1: ok\n1: ok\n1: ok\n1: ok\n1: ok\n1: ok\n1: full\n1: none\n",
+    ),
+    (
+        "pooltrace store f",
+        b"get 00000000000000000007\n",
+        "1: none\n",
+    ),
+    ("pooltrace store f", b"", ""),
+    (
+        "pooltrace store f f",
+        b"put 18446744073709551615 1 2 3 4\nget 18446744073709551615",
+        "1: ok\n1: 18446744073709551615 1 2 3 4\n2: ok\n2: 18446744073709551615 1 2 3 4\n",
+    ),
+];
+
+#[test]
+fn replies_of_stores(rt: HostRuntime) -> Result<(), Fail> {
+    for (line, script, replies) in STORED.iter() {
+        let (outcome, _) = answer(&rt, rt.alloc(), line, &[("f", script)])?;
+        assert_eq!(rt; outcome.parts(), (0, *replies, ""), "{line}: {script:?}");
+    }
+    Ok(())
+}
+
 // A gate at which each of two processes waits before its first call until the other is before its own.
 #[derive(Drop)]
 struct Meeting {
@@ -448,10 +511,15 @@ impl Gate for Meeting {
     }
 }
 
-#[test]
-fn two_players_meet_before_their_first_calls(rt: HostRuntime) -> Result<(), Fail> {
-    let alloc = rt.alloc();
-    let mut files = files_of(alloc, &[("f", RESIZE), ("g", RESIZE)])?;
+// Runs the words of a line on two files of the same bytes, whose processes meet before their first calls. Whether they
+// met, and the status.
+fn meet<R: Threads + Sync>(
+    rt: &R,
+    alloc: Global,
+    line: &str,
+    bytes: &[u8],
+) -> Result<(bool, u8), Fail> {
+    let mut files = files_of(alloc, &[("f", bytes), ("g", bytes)])?;
     let out = failing_sink(alloc, AMPLE, AMPLE, NEVER)?;
     let err = failing_sink(alloc, AMPLE, AMPLE, NEVER)?;
     let gate = Meeting {
@@ -459,44 +527,57 @@ fn two_players_meet_before_their_first_calls(rt: HostRuntime) -> Result<(), Fail
         second: AtomicBool::new(false),
         missed: AtomicBool::new(false),
     };
-    let outcome = run_with(
-        &rt,
-        alloc,
-        "pooltrace play f g",
-        &mut files,
-        out,
-        err,
-        &gate,
-    )?;
-    assert_eq!(rt; outcome.status, 0);
-    assert!(rt; !gate.missed.load(Ordering::SeqCst));
+    let outcome = run_with(rt, alloc, line, &mut files, out, err, &gate)?;
+    let met = gate.first.load(Ordering::SeqCst) && !gate.missed.load(Ordering::SeqCst);
+    Ok((met, outcome.status))
+}
+
+#[test]
+fn two_players_meet_before_their_first_calls(rt: HostRuntime) -> Result<(), Fail> {
+    let cases: [(&str, &[u8]); 2] = [
+        ("pooltrace play f g", RESIZE),
+        ("pooltrace store f g", b"put 1 0 0 0 0\n"),
+    ];
+    for (line, bytes) in &cases {
+        let met = meet(&rt, rt.alloc(), line, bytes)?;
+        assert_eq!(rt; met, (true, 0), "{line}");
+    }
     Ok(())
 }
 
-// Traces, and the number of their first bad line.
-static BAD_LINES: [(&[u8], u64); 8] = [
-    (b"= Start\n+ 0x 0x8\n", 2),
-    (b"a + 0x10 0x8\n", 1),
-    (b"+ 0X10 0x8\n", 1),
-    (b"+ 0x10 8\n", 1),
-    (b"+ 0x11111111111111111 0x8\n", 1),
-    (b"@ - 0x10 0x8\n", 1),
-    (b"\xff\n", 1),
-    (b"+ 0x10 0x8\r\n", 1),
+// Words of one file, its bytes, and the number of the first bad line.
+static BAD_LINES: [(&str, &[u8], u64); 13] = [
+    ("pooltrace play f", b"= Start\n+ 0x 0x8\n", 2),
+    ("pooltrace play f", b"a + 0x10 0x8\n", 1),
+    ("pooltrace play f", b"+ 0X10 0x8\n", 1),
+    ("pooltrace play f", b"+ 0x10 8\n", 1),
+    ("pooltrace play f", b"+ 0x11111111111111111 0x8\n", 1),
+    ("pooltrace play f", b"@ - 0x10 0x8\n", 1),
+    ("pooltrace play f", b"\xff\n", 1),
+    ("pooltrace play f", b"+ 0x10 0x8\r\n", 1),
+    ("pooltrace store f", b"set 7 4 1\n", 1),
+    ("pooltrace store f", b"get 000000000000000000007\n", 1),
+    ("pooltrace store f", b"get 18446744073709551616\n", 1),
+    ("pooltrace store f", b"get 7\n= Start\n", 2),
+    ("pooltrace store f", b"get 7\nget", 2),
 ];
 
 #[test]
 fn bad_lines(rt: HostRuntime) -> Result<(), Fail> {
-    for (trace, line) in BAD_LINES.iter() {
-        let (outcome, _) = answer(&rt, rt.alloc(), "pooltrace play f", &[("f", trace)])?;
+    for (words, bytes, line) in BAD_LINES.iter() {
+        let (outcome, _) = answer(&rt, rt.alloc(), words, &[("f", bytes)])?;
         let err = format!(in rt.alloc(); "pooltrace: file 1 line {line}\n")?;
-        assert_eq!(rt; outcome.parts(), (6, "", err.as_str()), "{trace:?}");
+        assert_eq!(rt;
+            outcome.parts(),
+            (6, "", err.as_str()),
+            "{words}: {bytes:?}"
+        );
     }
     Ok(())
 }
 
 // Words, the call of the files that fails, the status, the line on the error sink, and how many calls there were.
-static FAILING_CALLS: [(&str, u64, u8, &str, u64); 12] = [
+static FAILING_CALLS: [(&str, u64, u8, &str, u64); 21] = [
     ("pooltrace play e", 0, 4, "pooltrace: file 1 read\n", 1),
     ("pooltrace play e", 1, 4, "pooltrace: file 1 read\n", 2),
     ("pooltrace play e", 2, 4, "pooltrace: file 1 read\n", 3),
@@ -508,6 +589,15 @@ static FAILING_CALLS: [(&str, u64, u8, &str, u64); 12] = [
     ("pooltrace play e", 8, 0, "", 8),
     ("pooltrace play e e2", 8, 4, "pooltrace: file 2 read\n", 9),
     ("pooltrace play f", 3, 4, "pooltrace: file 1 read\n", 4),
+    ("pooltrace store s", 0, 4, "pooltrace: file 1 read\n", 1),
+    ("pooltrace store s", 1, 4, "pooltrace: file 1 read\n", 2),
+    ("pooltrace store s", 2, 4, "pooltrace: file 1 read\n", 3),
+    ("pooltrace store s", 3, 4, "pooltrace: file 1 read\n", 4),
+    ("pooltrace store s", 4, 4, "pooltrace: file 1 read\n", 5),
+    ("pooltrace store s", 5, 4, "pooltrace: file 1 read\n", 6),
+    ("pooltrace store s", 6, 4, "pooltrace: file 1 read\n", 7),
+    ("pooltrace store s", 7, 4, "pooltrace: file 1 read\n", 8),
+    ("pooltrace store s", 8, 0, "", 8),
     (
         "pooltrace play unknown",
         NEVER,
@@ -524,7 +614,12 @@ fn answer_failing<R: Threads + Sync>(
     line: &str,
     failing: u64,
 ) -> Result<(Outcome, u64), Fail> {
-    let named = [("e", EMPTY_TRACE), ("e2", EMPTY_TRACE), ("f", FIRST_TRACE)];
+    let named = [
+        ("e", EMPTY_TRACE),
+        ("e2", EMPTY_TRACE),
+        ("f", FIRST_TRACE),
+        ("s", GET),
+    ];
     let mut files = failing_files(alloc, &named, 1, failing)?;
     let outcome = run_line(rt, alloc, line, &mut files)?;
     Ok((outcome, files.calls))
@@ -536,7 +631,11 @@ fn one_failing_call_of_the_files(rt: HostRuntime) -> Result<(), Fail> {
     let zeros = report(alloc, &[ZEROS], ZEROS)?;
     for (line, failing, status, err, calls) in FAILING_CALLS.iter() {
         let (outcome, made) = answer_failing(&rt, alloc, line, *failing)?;
-        let out = if *status == 0 { zeros.as_str() } else { "" };
+        let out = match (*status, *line) {
+            (0, "pooltrace store s") => "1: none\n",
+            (0, _) => zeros.as_str(),
+            _ => "",
+        };
         assert_eq!(rt; outcome.parts(), (*status, out, *err), "{line}: {failing}");
         assert_eq!(rt; made, *calls, "{line}: {failing}");
     }
@@ -546,34 +645,38 @@ fn one_failing_call_of_the_files(rt: HostRuntime) -> Result<(), Fail> {
 // How a sink takes bytes: its room, how many a write takes at most, and which write fails; and what it then has.
 type Writing = (usize, usize, u64, &'static str);
 
-static FAILING_WRITES: [Writing; 3] = [
-    (AMPLE, AMPLE, 0, ""),
-    (AMPLE, 1, 5, "1: ne"),
-    (0, 1, NEVER, ""),
+// Words, and how the output takes the report's bytes.
+static FAILING_WRITES: [(&str, Writing); 9] = [
+    ("pooltrace play e", (AMPLE, AMPLE, 0, "")),
+    ("pooltrace play e", (AMPLE, AMPLE, 1, FIRST_ZEROS)),
+    ("pooltrace play e", (AMPLE, 1, 5, "1: ne")),
+    ("pooltrace play e", (0, 1, NEVER, "")),
+    (
+        "pooltrace drill --processes 1 --calls 0",
+        (AMPLE, AMPLE, 1, FIRST_ZEROS),
+    ),
+    (
+        "pooltrace drill --processes 1 --calls 0",
+        (AMPLE, 1, 5, "1: ne"),
+    ),
+    ("pooltrace drill --processes 1 --calls 0", (0, 1, NEVER, "")),
+    ("pooltrace store s", (AMPLE, AMPLE, 0, "")),
+    ("pooltrace store s", (AMPLE, 1, 5, "1: no")),
 ];
 
 #[test]
 fn one_failing_write(rt: HostRuntime) -> Result<(), Fail> {
     let alloc = rt.alloc();
-    for (room, most, failing, out) in FAILING_WRITES.iter() {
-        let mut files = files_of(alloc, &[("e", EMPTY_TRACE)])?;
+    for (line, (room, most, failing, out)) in FAILING_WRITES.iter() {
+        let mut files = files_of(alloc, &[("e", EMPTY_TRACE), ("s", GET)])?;
         let sink = failing_sink(alloc, *room, *most, *failing)?;
         let err = failing_sink(alloc, AMPLE, AMPLE, NEVER)?;
-        let outcome = run_with(
-            &rt,
-            alloc,
-            "pooltrace play e",
-            &mut files,
-            sink,
-            err,
-            &OpenGate,
-        )?;
+        let outcome = run_with(&rt, alloc, line, &mut files, sink, err, &OpenGate)?;
         assert_eq!(rt;
             outcome.parts(),
             (7, *out, "pooltrace: write\n"),
-            "{room} {most} {failing}"
+            "{line}: {room} {most} {failing}"
         );
-        assert!(rt; outcome.settled, "{room} {most} {failing}");
     }
     Ok(())
 }

@@ -1,5 +1,9 @@
+pub mod Closed
 pub mod Found
+pub mod Gathering
 pub mod Going
+pub mod Parting
 pub mod Playing
 pub mod Whole
 pub mod Written
+pub mod Crossing

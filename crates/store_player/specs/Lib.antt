@@ -1,1 +1,4 @@
+pub mod All
+pub mod Players
 pub mod Playing
+pub mod Together

@@ -1,7 +1,7 @@
-use Rattle.std.proofs.Common.{rules, ◌≡◌, ◌∙◌, ap₂}
+use Rattle.std.proofs.Common.{◌∙◌, ap₂}
 use Rattle.std.proofs.lemmas.Result.{IfOk-weaker}
-use Rattle.clap.specs.Words.{rule_of, with_rule}
-use Rattle.command_words.specs.Play.{files_rule, play_app}
+use Rattle.clap.specs.Words.{with_rule}
+use Rattle.command_words.specs.Play.{play_app}
 use Rattle.command_words.proofs.play_words.play_command.Goals as goal
 
 pub returns : goal.returns
@@ -10,5 +10,5 @@ returns c =
     let with_batches = c.in_ok-arg.ensures.shape c.option.ensures.local ∙ ap₂ with_rule c.bare_command.ensures c.option.ensures.rule in
     let with_size = c.in_ok-arg-2.ensures.shape c.option-2.ensures.local ∙ ap₂ with_rule with_batches c.option-2.ensures.rule in
     let with_quantum = c.in_ok-arg-3.ensures.shape c.option-3.ensures.local ∙ ap₂ with_rule with_size c.option-3.ensures.rule in
-    let files : rule_of c.required-files.result ≡ files_rule = search rules in
-    IfOk-weaker c.arg-4.result _ _ (λ command added. added.shape (search rules) ∙ ap₂ with_rule with_quantum files) c.arg-4.ensures
+    IfOk-weaker c.arg-4.result _ _
+    (λ command added. added.shape c.files_arg.ensures.local ∙ ap₂ with_rule with_quantum c.files_arg.ensures.rule) c.arg-4.ensures

@@ -1,7 +1,6 @@
 use Rattle.std.proofs.Common.{◌≡◌, ◌+◌, ◌∷◌, [], ◌++◌, refl, ap, ◌∙◌, arith, Err}
 use Rattle.std.proofs.lemmas.List.Elements.{All-push}
 use Rattle.line_text.specs.declared.fault.TextFault.TheVariants.{NoMemory}
-use Rattle.pool_runs.specs.Playable.{IsPlayable}
 use Rattle.pool_cli.proofs.FilesRead.{name_at, reads_next, stops_next}
 use Rattle.pool_cli.proofs.reading.read_files.Goals as goal
 
@@ -12,7 +11,8 @@ returns-in-Err-clause-stopped g c =
       fault = c.in-Err.fault;
       is = c.ending_at.ensures;
       opened = omega (arith, c.in-Err.ensures.opens, c.loop-index.invariant.opens);
-      stops = stops_next g.F.Files _ c.loop-index.files _ c.args.size _ c.loop-index.index c.loop-index.taken c.loop-index.scripts.items
+      stops = stops_next (g.L.Language.bad c.args.language.now) (g.L.Language.says c.args.language.now) g.F.Files _
+          c.loop-index.files _ _ c.loop-index.index c.loop-index.taken c.loop-index.scripts.items
           _ c.in-Err.fault
           (name_at c.args.names.now c.loop-index.index _ c.loop-index-test.true c.index-names-index.is) c.loop-index.invariant.reads
           (λ bytes has. c.in-Err.ensures.answer bytes (ap (λ (told : _). told c.as_str.result.now) c.loop-index.invariant.names
@@ -33,14 +33,16 @@ pub loop-index-preserved : goal.loop-index-preserved
 loop-index-preserved g c =
     let pushed : c.push.new.self.items ≡ c.loop-index.scripts.items ++ c.in-Ok.file.script ∷ [] = c.in-Ok-push.ensures.items in
     record {
-      reads = rw pushed (reads_next (g.F.Files.reliable c.loop-index.files) c.args.size _ _ c.loop-index.index c.loop-index.taken
+      reads = rw pushed (reads_next (g.L.Language.bad c.args.language.now) (g.L.Language.says c.args.language.now)
+          (g.F.Files.reliable c.loop-index.files) _ _ c.loop-index.index c.loop-index.taken
           c.loop-index.scripts.items _ c.in-Ok.file
           (name_at c.args.names.now c.loop-index.index _ c.loop-index-test.true c.index-names-index.is) c.loop-index.invariant.reads
           (λ bytes has. c.in-Ok.ensures.answer bytes (ap (λ (told : _). told c.as_str.result.now) c.loop-index.invariant.names
           ∙ ap (g.F.Files.told c.args.files.now) c.as_str.ensures.value ∙ has))
           c.in-Ok.ensures.within);
       playable = rw pushed
-          (All-push IsPlayable c.loop-index.scripts.items c.in-Ok.file.script c.loop-index.invariant.playable c.in-Ok.ensures.playable);
+          (All-push (g.L.Language.playable c.args.language.now) c.loop-index.scripts.items c.in-Ok.file.script
+          c.loop-index.invariant.playable c.in-Ok.ensures.playable);
       names = c.read_file.ensures.names ∙ c.loop-index.invariant.names;
       opens = omega (arith, c.read_file.ensures.opens, c.loop-index.invariant.opens);
       reliable = λ sure. c.read_file.ensures.reliable (c.loop-index.invariant.reliable sure);

@@ -1,0 +1,89 @@
+// Who has each block, as the processes say it.
+use pool_model::NoMemory;
+use std::alloc::Global;
+use std::sync::atomic::{AtomicU64, Ordering};
+
+/// Who has each block, and what was seen that mustn't be.
+#[derive(Drop)]
+pub(crate) struct Owners {
+    /// For each block the number of the process that has it, and one; 0 where nobody has it.
+    of: Vec<AtomicU64>,
+    /// How many blocks went to an owner, or left one, that weren't of the pool or of whom they were said to be.
+    wrong: AtomicU64,
+    /// How many calls took more steps than a quantum and one.
+    long: AtomicU64,
+    /// How many allocates were refused.
+    refused: AtomicU64,
+}
+
+impl Owners {
+    /// So many blocks that nobody has.
+    pub(crate) fn of_none(alloc: Global, blocks: u32) -> Result<Owners, NoMemory> {
+        let mut of = Vec::with_capacity(alloc, blocks as usize)?;
+        for _block in 0..blocks {
+            of.push(AtomicU64::new(0))?;
+        }
+        Ok(Owners {
+            of,
+            wrong: AtomicU64::new(0),
+            long: AtomicU64::new(0),
+            refused: AtomicU64::new(0),
+        })
+    }
+
+    /// The block goes from one owner to another.
+    pub(crate) fn hand(&self, block: u32, from: u64, to: u64) {
+        let right = match self.of.get(block as usize) {
+            Some(owner) => owner
+                .compare_exchange(from, to, Ordering::SeqCst, Ordering::SeqCst)
+                .is_ok(),
+            None => false,
+        };
+        if !right {
+            self.err();
+        }
+    }
+
+    /// Something went wrong.
+    pub(crate) fn err(&self) {
+        self.wrong.fetch_add(1, Ordering::SeqCst);
+    }
+
+    /// A call took so many steps.
+    pub(crate) fn time(&self, steps: u64, quantum: u32) {
+        if steps > u64::from(quantum) + 1 {
+            self.long.fetch_add(1, Ordering::SeqCst);
+        }
+    }
+
+    /// An allocate was refused.
+    pub(crate) fn refuse(&self) {
+        self.refused.fetch_add(1, Ordering::SeqCst);
+    }
+
+    /// How many blocks have no owner.
+    pub(crate) fn ownerless(&self) -> u64 {
+        let mut ownerless = 0u64;
+        for owner in self.of.iter() {
+            if owner.load(Ordering::SeqCst) == 0 {
+                ownerless = ownerless.saturating_add(1);
+            }
+        }
+        ownerless
+    }
+
+    /// How many moves of blocks were wrong.
+    pub(crate) fn wrong(&self) -> u64 {
+        self.wrong.load(Ordering::SeqCst)
+    }
+
+    /// How many calls were long.
+    pub(crate) fn long(&self) -> u64 {
+        self.long.load(Ordering::SeqCst)
+    }
+
+    /// How many allocates were refused.
+    pub(crate) fn refused(&self) -> u64 {
+        self.refused.load(Ordering::SeqCst)
+    }
+}

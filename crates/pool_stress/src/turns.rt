@@ -1,0 +1,209 @@
+// The turns of one process.
+ghost use Rattle.std.specs.Prelude.{◌≡◌, ◌+◌, ◌<◌, ◌^◌, None, IfOk, length, replicate};
+ghost use Rattle.block_pool.specs.Passing.{IsOf};
+ghost use Rattle.block_pool.specs.Calls.{SamePass};
+ghost use Rattle.block_pool.specs.Tested.{SlotsFit};
+
+use crate::owners::Owners;
+use crate::places::Places;
+use crate::stopping::{Stop, Stopping};
+use block_pool::{Answer, Block, Pass, Pool};
+use pool_model::NoMemory;
+use std::alloc::Global;
+use step_counter::{Kept, Ledger, Steps};
+
+/// How many transfers a pass may begin.
+pub(crate) const MOST_AGE: u64 = 1 << 32;
+
+/// What each process is to do.
+#[derive(Clone, Copy)]
+pub(crate) struct Work<'a> {
+    /// How many calls it makes.
+    pub(crate) calls: u32,
+    /// Makes the first process's places; those of each further one are made by the next number.
+    pub(crate) seed: u64,
+    pub(crate) owners: &'a Owners,
+}
+
+/// So many slots without a block.
+fn empty_slots(alloc: Global, count: u32) -> Result<Vec<Option<Block>>, NoMemory>
+    ensures { IfOk result (λ slots. slots.items ≡ replicate count None) }
+{
+    let mut slots = Vec::with_capacity(alloc, count as usize)?;
+    for _place in 0..count {
+        slots.push(None)?;
+    }
+    Ok(slots)
+}
+
+/// Frees the block of a slot, or allocates one into it where it has none. The owners hear of it.
+fn turn<L: Ledger>(
+    pool: &Pool,
+    pass: &mut Pass,
+    slots: &mut [Option<Block>],
+    place: usize,
+    owners: &Owners,
+    steps: &mut Steps<L>,
+)
+    requires pool { IsOf pool.now pass.old }
+    requires young { pass.old.age < 2 ^ 32 }
+    requires room { steps.old + pass.old.sizes.quantum + 1 < 2 ^ 64 }
+    requires place { place < length slots.old }
+    requires slots { SlotsFit pass.old.held slots.old }
+    ensures pass { SamePass pass.old pass.new }
+    ensures slots { SlotsFit pass.new.held slots.new }
+{
+    let owner = u64::from(pass.number()) + 1;
+    match slots[place].take() {
+        Some(block) => {
+            owners.hand(block.number(), owner, 0);
+            pool.free(pass, block, steps);
+        }
+        None => match pool.allocate(pass, steps) {
+            Answer::Got(block) => {
+                owners.hand(block.number(), 0, owner);
+                slots[place] = Some(block);
+            }
+            Answer::Dry => owners.refuse(),
+        },
+    }
+}
+
+/// The same, and looks how many steps it took.
+fn turn_counted(
+    pool: &Pool,
+    pass: &mut Pass,
+    slots: &mut [Option<Block>],
+    place: usize,
+    owners: &Owners,
+)
+    requires pool { IsOf pool.now pass.old }
+    requires young { pass.old.age < 2 ^ 32 }
+    requires place { place < length slots.old }
+    requires slots { SlotsFit pass.old.held slots.old }
+    ensures pass { SamePass pass.old pass.new }
+    ensures slots { SlotsFit pass.new.held slots.new }
+{
+    let quantum = pool.shape().quantum();
+    let mut steps = Steps::new(Kept::new());
+    turn(pool, pass, slots, place, owners, &mut steps);
+    owners.time(steps.count(), quantum);
+}
+
+/// The same of a process that stops at one of its steps.
+fn turn_stopping(
+    pool: &Pool,
+    pass: &mut Pass,
+    slots: &mut [Option<Block>],
+    place: usize,
+    owners: &Owners,
+    stop: &Stop,
+)
+    requires pool { IsOf pool.now pass.old }
+    requires young { pass.old.age < 2 ^ 32 }
+    requires place { place < length slots.old }
+    requires slots { SlotsFit pass.old.held slots.old }
+    ensures pass { SamePass pass.old pass.new }
+    ensures slots { SlotsFit pass.new.held slots.new }
+{
+    let quantum = pool.shape().quantum();
+    let before = stop.made();
+    stop.set_frees(slots[place].is_some());
+    let mut steps = Steps::new(Stopping::new(stop));
+    turn(pool, pass, slots, place, owners, &mut steps);
+    stop.set_frees(false);
+    owners.time(stop.made().saturating_sub(before), quantum);
+}
+
+/// One turn of a process, which may be one that stops.
+fn turn_slot(
+    pool: &Pool,
+    pass: &mut Pass,
+    slots: &mut [Option<Block>],
+    place: usize,
+    owners: &Owners,
+    stop: Option<&Stop>,
+)
+    requires pool { IsOf pool.now pass.old }
+    requires young { pass.old.age < 2 ^ 32 }
+    requires place { place < length slots.old }
+    requires slots { SlotsFit pass.old.held slots.old }
+    ensures pass { SamePass pass.old pass.new }
+    ensures slots { SlotsFit pass.new.held slots.new }
+{
+    match stop {
+        Some(stop) => turn_stopping(pool, pass, slots, place, owners, stop),
+        None => turn_counted(pool, pass, slots, place, owners),
+    }
+}
+
+/// Turns slots at random, again and again.
+fn turn_slots(
+    pool: &Pool,
+    pass: &mut Pass,
+    slots: &mut [Option<Block>],
+    work: Work<'_>,
+    stop: Option<&Stop>,
+)
+    requires pool { IsOf pool.now pass.old }
+    requires some { 0 < length slots.old }
+    requires slots { SlotsFit pass.old.held slots.old }
+    ensures { SamePass pass.old pass.new }
+{
+    let mut places = Places::new(work.seed.wrapping_add(u64::from(pass.number())));
+    for _call in 0..work.calls {
+        if pass.age() >= MOST_AGE {
+            return;
+        }
+        let place = places.next(slots.len());
+        turn_slot(pool, pass, slots, place, work.owners, stop);
+    }
+}
+
+/// The calls of one process. It has slots for two of its parts of the blocks, so that all of them often want more than there are.
+pub(crate) fn play(pool: &Pool, alloc: Global, pass: &mut Pass, work: Work<'_>, stop: Option<&Stop>)
+    requires { IsOf pool.now pass.old }
+    ensures { SamePass pass.old pass.new }
+{
+    let count = 2 * (pool.shape().blocks() / pool.shape().processes()) + 1;
+    match empty_slots(alloc, count) {
+        Ok(mut slots) => turn_slots(pool, pass, slots.as_mut_slice(), work, stop),
+        Err(NoMemory) => work.owners.err(),
+    }
+}
+
+/// Allocates a block that is kept. Whether there was one.
+fn keep(pool: &Pool, pass: &mut Pass, owners: &Owners) -> bool
+    requires pool { IsOf pool.now pass.old }
+    requires young { pass.old.age < 2 ^ 32 }
+    ensures pass { SamePass pass.old pass.new }
+{
+    let quantum = pool.shape().quantum();
+    let owner = u64::from(pass.number()) + 1;
+    let mut steps = Steps::new(Kept::new());
+    let answer = pool.allocate(pass, &mut steps);
+    owners.time(steps.count(), quantum);
+    match answer {
+        Answer::Got(block) => {
+            owners.hand(block.number(), 0, owner);
+            true
+        }
+        Answer::Dry => false,
+    }
+}
+
+/// Allocates and keeps what it gets, until it is refused in each of so many calls that its transfers have ended.
+pub(crate) fn drain(pool: &Pool, pass: &mut Pass, owners: &Owners)
+    requires { IsOf pool.now pass.old }
+    ensures { SamePass pass.old pass.new }
+{
+    let enough = 2 * pool.shape().length();
+    let mut refused = 0u32;
+    for _call in 0..u32::MAX {
+        if refused >= enough || pass.age() >= MOST_AGE {
+            return;
+        }
+        let got = keep(pool, pass, owners);
+        refused = if got { 0 } else { refused + 1 };
+    }
+}
