@@ -9,7 +9,7 @@ use Rattle.word_layout.specs.declared.announced.Wish.TheVariants.{Take}
 use Rattle.transfer_machine.specs.Loads.{loaded_tag, loaded_record}
 use Rattle.transfer_machine.specs.Machine.{met_of, CanAct, CanMeet}
 use Rattle.transfer_machine.specs.Stages.{is_rest}
-use Rattle.transfer_machine.specs.declared.stage.NextStep.TheVariants.{Announce, Try}
+use Rattle.transfer_machine.specs.declared.stage.NextStep.TheVariants.{Announce}
 use Rattle.transfer_machine.specs.declared.stage.TryStep.{TryStep}
 use Rattle.transfer_machine.specs.declared.stage.TryStep.TheVariants.{LoadRecordWord, LoadAnnouncement}
 use Rattle.transfer_machine.specs.declared.transfer.TransferView.{TransferView}
