@@ -3,14 +3,19 @@ use Rattle.std.proofs.Common.{◌≡◌, ℕ, zero, suc, ◌<◌, ◌≤◌, ref
 use Rattle.word_layout.specs.Sizes.{Sizes}
 use Rattle.word_layout.specs.Packing.{tagged, tag_of, value_of, wish_code, wish_of, announced_word, announced_of}
 use Rattle.word_layout.specs.declared.announced.Announced.{Announced}
+use Rattle.word_layout.specs.declared.name.WordName.TheVariants.{Announcement}
 use Rattle.transfer_machine.specs.Machine.{CanActAt}
+use Rattle.transfer_machine.specs.declared.action.Action.TheVariants.{Load}
+use Rattle.interleaving_core.specs.Steps.{next_action}
 use Rattle.pool_table.specs.declared.about.About.{About}
+use Rattle.pool_table.specs.Turns.{turning}
 use Rattle.pool_table.specs.Views.{SeatView}
 use Rattle.pool_table.specs.Steps.{CanStep, Stepped}
 use Rattle.pool_table.specs.Transfers.{transfer_about}
 use Rattle.pool_table.proofs.Transfers.{due_there, transfer_can_act}
 use Rattle.announce.specs.Heard.{LoadsAnnouncement, IsPresentWhile}
 use Rattle.announce.specs.Reading.{Reading, CanHear, HasHeard, heard}
+use Rattle.announce.proofs.Hearing.{load_is_next, heard_now_present}
 
 code_of_wish : (code : ℕ) → wish_code (wish_of code) ≡ code
 code_of_wish zero = refl
@@ -41,12 +46,21 @@ has_heard a v x r word announced e s present =
     }
 
 -- the same of a reader's fields, before and after
+pub load_seen : (a b : About) (v : SeatView) (r old : Reading) → r ≡ old → b ≡ a → CanHear a v old
+    → Load (Announcement r.process) ≡ next_action r.sizes (turning b v.mind.view)
+load_seen a b v r old e same hears =
+    subst (λ z. Load (Announcement r.process) ≡ next_action r.sizes (turning z v.mind.view)) (sym same)
+    (load_is_next r.sizes a v r.process (subst (CanHear a v) (sym e) hears))
+
 pub few_seen : (a : About) (v : SeatView) (r old : Reading) → r ≡ old → CanStep old.sizes a v → CanHear a v old → r.process < 32
 few_seen a v r old e can hears = subst (λ (o : Reading). o.process < 32) (sym e) (hears_few old.sizes a v old.process can hears)
 
 pub heard_seen : (a b : About) (v x : SeatView) (r old s : Reading) (word : ℕ) (announced : Announced) → r ≡ old → b ≡ a
-    → announced ≡ announced_of word → Stepped b v word x → IsPresentWhile x r.process word → s ≡ heard r → HasHeard a v old x s announced
-heard_seen a b v x r old s word announced e same read stepped present after =
+    → CanStep old.sizes a v → CanHear a v old → announced ≡ announced_of word → Stepped b v word x → s ≡ heard r
+    → HasHeard a v old x s announced
+heard_seen a b v x r old s word announced e same can hears read stepped after =
     let met = subst (λ z. Stepped z v word x) same stepped in
+    let can_so = subst (λ (o : Reading). CanStep o.sizes a v) (sym e) can in
+    let present = heard_now_present r.sizes a v x r.process word can_so (subst (CanHear a v) (sym e) hears) met in
     subst (λ o. HasHeard a v o x s announced) e
     (subst (λ z. HasHeard a v r x z announced) (sym after) (has_heard a v x r word announced read met present))

@@ -5,9 +5,9 @@ ghost use Rattle.pool_table.specs.Steps.{MayStep, OneStep};
 ghost use Rattle.pool_table.specs.Transfers.{about_of};
 ghost use Rattle.announce.specs.Reading.{CanHear, HasHeard, begun};
 
-use crate::load::load_announcement;
+use crate::load::load_of_announcement;
 use pool_machine::Call;
-use pool_table::{PoolSeat, PoolTable, about_of};
+use pool_table::{PoolSeat, PoolTable, about_of, act};
 use std::marker::Model;
 use step_counter::{Ledger, Steps};
 use word_layout::{Announced, Shape, Wish};
@@ -65,7 +65,8 @@ impl AnnounceReader {
         // In the middle of a transfer its wish isn't looked at.
         let about = about_of(call, Wish::Take);
         let process = self.process;
-        let word = load_announcement(&self.shape, &about, process, table, seat, steps);
+        let action = load_of_announcement(process);
+        let word = act(&about, action, &self.shape, table, seat, steps);
         self.process = process + 1;
         Announced::read(word)
     }

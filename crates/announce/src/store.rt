@@ -1,6 +1,9 @@
 // The store of the own announcement.
-ghost use Rattle.std.specs.Prelude.{◌≡◌};
+ghost use Rattle.std.specs.Prelude.{◌≡◌, ◌≤◌};
+ghost use Rattle.word_layout.specs.Packing.{FitsWish, most_age};
 ghost use Rattle.word_layout.specs.declared.announced.Wish.TheVariants.{Take, Give};
+ghost use Rattle.word_layout.specs.declared.name.WordName.TheVariants.{Announcement};
+ghost use Rattle.transfer_machine.specs.declared.action.Action.TheVariants.{Store};
 ghost use Rattle.pool_table.specs.Steps.{MayStep, OneStep};
 ghost use Rattle.pool_table.specs.Transfers.{about_of};
 ghost use Rattle.announce.specs.Stored.{Announces, HasAnnounced, announcement};
@@ -8,7 +11,8 @@ ghost use Rattle.announce.specs.Stored.{Announces, HasAnnounced, announcement};
 use pool_machine::Call;
 use pool_table::{About, PoolSeat, PoolTable, about_of};
 use step_counter::{Ledger, Steps};
-use word_layout::{Announced, Wish};
+use transfer_machine::Action;
+use word_layout::{Announced, Wish, WordName};
 
 /// Announces a take: one store, which begins it where none is begun, and raises the age of the process to `number`.
 pub fn announce_take<L: Ledger>(
@@ -55,10 +59,8 @@ pub fn announce_give<L: Ledger>(
     );
 }
 
-/// Announces the wish of the seat's process, which is to be its transfer of this number: one atomic step. It
-/// answers the word that it stored.
-#[inline(always)]
-pub fn announce<L: Ledger>(
+/// Announces the wish of the seat's process, which is to be its transfer of this number: one atomic step.
+fn announce<L: Ledger>(
     about: &About,
     process: u32,
     number: u64,
@@ -66,15 +68,36 @@ pub fn announce<L: Ledger>(
     table: &PoolTable,
     seat: &mut PoolSeat,
     steps: &mut Steps<L>,
-) -> u64
+)
     requires may { MayStep seat.old.view.sizes about.now table.now seat.old steps.old }
     requires announces { Announces about.now seat.old.view process number wish }
     ensures one { OneStep seat.old seat.new steps.old steps.new }
-    ensures word { result ≡ announcement number wish }
     ensures announced { HasAnnounced about.now seat.old.view number wish seat.new.view }
 {
-    let word = Announced { number, wish }.pack();
+    let word = announcement(number, wish);
     // The announcements come right after the state.
     table.store_with(seat, 1 + process, word, about, steps);
-    word
+}
+
+/// The store that announces this wish of a process, as its transfer of this number, for whoever has the shape.
+#[inline(always)]
+pub fn store_of_announcement(process: u32, number: u64, wish: Wish) -> Action
+    requires number { number ≤ most_age }
+    requires wish { FitsWish wish }
+    ensures { result ≡ Store (Announcement process) (announcement number wish) }
+{
+    Action::Store {
+        name: WordName::Announcement { process },
+        word: announcement(number, wish),
+    }
+}
+
+/// The word of that announcement.
+#[inline(always)]
+fn announcement(number: u64, wish: Wish) -> u64
+    requires number { number ≤ most_age }
+    requires wish { FitsWish wish }
+    ensures { result ≡ announcement number wish }
+{
+    Announced { number, wish }.pack()
 }

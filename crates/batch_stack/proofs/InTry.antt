@@ -22,7 +22,7 @@ use Rattle.pool_table.specs.Steps.{CanStep, MayStep, Stepped}
 use Rattle.pool_table.specs.Transfers.{Agrees}
 use Rattle.pool_table.proofs.Transfers.{transfer_can_act, transfer_can_meet}
 use Rattle.announce.specs.Heard.{LoadsAnnouncement}
-use Rattle.versioned_records.specs.declared.load.ReadStep.{ReadStep}
+use Rattle.versioned_records.specs.declared.reader.ReadStep.{ReadStep}
 use Rattle.versioned_records.specs.Reading.{Reading, CanReadOn, HasReadOn, opened, begun}
 use Rattle.batch_stack.specs.declared.progress.Progress.TheVariants.{Going}
 use Rattle.batch_stack.specs.Alone.{GoesAlone, ReadsAlone}

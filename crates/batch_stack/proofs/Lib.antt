@@ -6,3 +6,4 @@ pub mod Parts
 pub mod Resting
 pub mod Alone
 pub mod InTry
+pub mod Written

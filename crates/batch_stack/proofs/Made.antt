@@ -1,14 +1,17 @@
 -- a step of a running transfer is the machine's, and what it tells
 use Rattle.std.proofs.Common.{◌≡◌, ◌≢◌, ℕ, Option, sym, subst}
 use Rattle.word_layout.specs.Sizes.{Sizes}
-use Rattle.transfer_machine.specs.Machine.{met_of, CanAct, CanMeet}
+use Rattle.transfer_machine.specs.Machine.{action_of, met_of, CanAct, CanMeet}
+use Rattle.transfer_machine.specs.declared.action.Action.{Action}
 use Rattle.transfer_machine.specs.declared.transfer.TransferView.{TransferView}
 use Rattle.pool_machine.specs.declared.call.Call.{Call}
+use Rattle.interleaving_core.specs.Steps.{next_action}
 use Rattle.pool_table.specs.declared.about.About.{About}
+use Rattle.pool_table.specs.Turns.{turning}
 use Rattle.pool_table.specs.Views.{SeatView}
 use Rattle.pool_table.specs.Steps.{CanStep, Stepped}
 use Rattle.pool_table.specs.Transfers.{Agrees}
-use Rattle.pool_table.proofs.Transfers.{transfer_can_act, transfer_can_meet, transfer_steps}
+use Rattle.pool_table.proofs.Transfers.{transfer_acts_next, transfer_can_act, transfer_can_meet, transfer_steps}
 use Rattle.batch_stack.specs.declared.progress.Progress.{Progress}
 use Rattle.batch_stack.specs.declared.progress.Progress.TheVariants.{Going}
 use Rattle.batch_stack.specs.Running.{Running, MadeStep, ComesNearer, GoesOn, progress_at, step_about}
@@ -53,6 +56,9 @@ module _ (call : Option Call) (v : SeatView) (r old : Running) (a : About) (e : 
 
   pub act_seen : CanAct r.sizes r.part
   act_seen = transfer_can_act r.sizes a v r.part can_seen agrees_seen
+
+  pub next_seen : (action : Action) → action ≡ action_of r.sizes r.part → action ≡ next_action r.sizes (turning a v.mind.view)
+  next_seen action e = transfer_acts_next r.sizes a v r.part action agrees_seen e
 
   pub meet_seen : (word : ℕ) (x : SeatView) → Stepped a v word x → CanMeet r.sizes r.part word
   meet_seen word x s = transfer_can_meet r.sizes a v x r.part word can_seen agrees_seen s

@@ -1,43 +1,45 @@
--- the next step of a transfer's part, as the crates below make it
-use Rattle.std.proofs.Common.{◌≡◌, ℕ, ◌+◌, ◌<◌, ◌≤◌, refl, sym, ap, ◌∙◌, subst}
+-- the next step of a transfer's part, as the crates below say it
+use Rattle.std.proofs.Common.{◌≡◌, ℕ, ◌+◌, ◌<◌, sym, ap, ◌∙◌, subst}
 use Rattle.word_layout.specs.Sizes.{Sizes}
-use Rattle.word_layout.specs.Names.{record_words}
-use Rattle.word_layout.specs.Packing.{most_age}
+use Rattle.word_layout.specs.Packing.{most_age, FitsWish}
+use Rattle.word_layout.specs.declared.name.WordName.TheVariants.{Announcement}
 use Rattle.transfer_machine.specs.Loads.{loaded_tag, loaded_record}
-use Rattle.transfer_machine.specs.Machine.{CanActAt, CanStore}
+use Rattle.transfer_machine.specs.Machine.{CanAct, CanActAt, CanActInTry, action_at, action_of, try_action}
 use Rattle.transfer_machine.specs.Tries.{drafted_value}
+use Rattle.transfer_machine.specs.declared.action.Action.TheVariants.{Store}
 use Rattle.transfer_machine.specs.declared.stage.NextStep.TheVariants.{Announce}
+use Rattle.transfer_machine.specs.declared.stage.TryStep.{TryStep}
 use Rattle.transfer_machine.specs.declared.stage.TryStep.TheVariants.{LoadRecordWord, LoadAnnouncement, StoreRecordWord}
 use Rattle.transfer_machine.specs.declared.transfer.TransferView.{TransferView}
 use Rattle.pool_table.specs.declared.about.About.{About}
-use Rattle.pool_table.specs.Turns.{MayTurn}
 use Rattle.pool_table.specs.Views.{SeatView}
-use Rattle.pool_table.specs.Steps.{CanStep}
 use Rattle.pool_table.specs.Transfers.{Agrees}
-use Rattle.pool_table.proofs.Transfers.{transfer_can_act}
 use Rattle.announce.specs.Heard.{LoadsAnnouncement}
-use Rattle.announce.specs.Stored.{IsToAnnounce, Announces}
+use Rattle.announce.specs.Stored.{announcement}
 use Rattle.versioned_records.specs.Loads.{IsToLoad, LoadsWord}
 use Rattle.versioned_records.specs.Stores.{IsToStore, StoresWord}
 use Rattle.batch_stack.specs.Running.{IsInTry}
 
--- a seat of this shape is one of its own
-pub own_shape : (sizes : Sizes) (a : About) (v : SeatView) → CanStep sizes a v → CanStep v.sizes a v
-own_shape sizes a v c =
-    record { of_process = c.of_process; shape = refl; may = subst (λ z. MayTurn z a v.mind) (sym c.shape) c.may; among = c.among }
+-- what is announced fits a word
+pub record AnnouncesFit (t : TransferView) : Type 0 where
+  pub young : t.age < most_age
+  pub wish : FitsWish t.wish
 
--- the announcement
-pub part_announces : (a : About) (v : SeatView) (t : TransferView) → Agrees a v t → t.next ≡ Announce
-    → Announces a v t.number (t.age + 1) t.wish
-part_announces a v t agrees e = record {
-  moves = agrees.moves;
-  begun = subst (λ u. IsToAnnounce u t.number (t.age + 1) t.wish) (sym agrees.same)
-      (record { next = e; own = refl; counted = refl; wished = refl });
-}
+pub announces_fit : (sizes : Sizes) (t : TransferView) → CanAct sizes t → t.next ≡ Announce → AnnouncesFit t
+announces_fit sizes t can e =
+    let (low, young, fits) = subst (CanActAt sizes t) e can in
+    record { young = young; wish = fits }
 
-pub part_is_young : (sizes : Sizes) (a : About) (v : SeatView) (t : TransferView) → CanStep sizes a v → Agrees a v t → t.next ≡ Announce
-    → t.age < most_age
-part_is_young sizes a v t c agrees e = (subst (CanActAt sizes t) e (transfer_can_act sizes a v t c agrees)).1
+pub announces_next : (sizes : Sizes) (t : TransferView) → t.next ≡ Announce
+    → Store (Announcement t.number) (announcement (t.age + 1) t.wish) ≡ action_of sizes t
+announces_next sizes t e = sym (ap (action_at sizes t) e)
+
+-- a step of a try
+pub fits_in_try : (sizes : Sizes) (t : TransferView) (step : TryStep) → CanAct sizes t → IsInTry t step → CanActInTry sizes t step
+fits_in_try sizes t step can (second, e) = subst (CanActAt sizes t) e can
+
+pub acts_in_try : (sizes : Sizes) (t : TransferView) (step : TryStep) → IsInTry t step → try_action sizes t step ≡ action_of sizes t
+acts_in_try sizes t step (second, e) = sym (ap (action_at sizes t) e)
 
 -- a record word is loaded
 pub part_loads : (a : About) (v : SeatView) (t : TransferView) (tag row index : ℕ) → Agrees a v t → IsInTry t (LoadRecordWord index)
@@ -63,14 +65,3 @@ part_stores sizes a v t tag row index value agrees (second, e) tagged placed dra
   stores = subst (λ u. IsToStore sizes u tag row index value) (sym agrees.same)
       (record { second = second; next = e; same_tag = sym tagged; same_row = sym placed; same_value = sym drafted });
 }
-
-pub record DraftedFits (sizes : Sizes) (t : TransferView) (index : ℕ) : Type 0 where
-  pub within : index < record_words sizes
-  pub room : t.draft.overlay ≤ 32
-
-pub part_drafted : (sizes : Sizes) (a : About) (v : SeatView) (t : TransferView) (index : ℕ) → CanStep sizes a v → Agrees a v t
-    → IsInTry t (StoreRecordWord index) → DraftedFits sizes t index
-part_drafted sizes a v t index c agrees (second, e) =
-    let can : CanStore sizes t index = subst (CanActAt sizes t) e (transfer_can_act sizes a v t c agrees) in
-    let (row_low, index_low, room, tag_low, value_low) = can in
-    record { within = index_low; room = room }

@@ -1,7 +1,9 @@
 -- a process that makes transfers outside any call: in one of them, and between two
-use Rattle.std.specs.Prelude.{◌≡◌, ◌≢◌, ℕ, true, List, [], ◌∷◌, ◌++◌}
+use Rattle.std.specs.Prelude.{◌≡◌, ◌≢◌, ℕ, ◌<◌, true, List, [], ◌∷◌, ◌++◌, length, slice_index}
 use Rattle.word_layout.specs.Sizes.{Sizes}
+use Rattle.word_layout.specs.Names.{record_words}
 use Rattle.word_layout.specs.declared.announced.Wish.TheVariants.{Take}
+use Rattle.transfer_machine.specs.Tries.{drafted_value}
 use Rattle.transfer_machine.specs.declared.stage.NextStep.TheVariants.{Rest}
 use Rattle.transfer_machine.specs.declared.transfer.TransferView.{TransferView}
 use Rattle.pool_machine.specs.Conditions.{may_use_transfers}
@@ -12,6 +14,7 @@ use Rattle.pool_table.specs.Views.{SeatView}
 use Rattle.pool_table.specs.Steps.{Among, CanStep}
 use Rattle.pool_table.specs.Transfers.{Agrees}
 use Rattle.versioned_records.specs.Reading.{Reading, CanReadOn}
+use Rattle.versioned_records.specs.Writing.{Writing, CanWriteOn}
 use Rattle.batch_stack.specs.declared.progress.Progress.{Progress}
 use Rattle.batch_stack.specs.declared.progress.Progress.TheVariants.{Going, Took, Empty, Gave}
 
@@ -32,6 +35,18 @@ pub record RestsAlone (sizes : Sizes) (v : SeatView) (t : TransferView) : Type 0
 -- a process outside any call loads this reader's next word next
 pub record ReadsAlone (v : SeatView) (r : Reading) : Type 0 where
   pub on : CanReadOn r.sizes (Alone Take) v r
+
+-- a transfer drafted these values for its next record
+pub record HasDrafted (sizes : Sizes) (t : TransferView) (values : List ℕ) : Type 0 where
+  pub all : length values ≡ record_words sizes
+  pub same : (index : ℕ) → index < record_words sizes → drafted_value sizes.processes t.draft index ≡ slice_index values index
+
+-- a process outside any call stores this writer's next value next: it drafted all that the writer was begun with
+pub record WritesAlone (v : SeatView) (w : Writing) : Type 0 where
+  pub on : CanWriteOn w.sizes (Alone Take) v w
+  pub within : w.index < record_words w.sizes
+  pub same : (index : ℕ) → index < record_words w.sizes
+      → drafted_value w.sizes.processes v.mind.view.transfer.draft index ≡ slice_index w.values index
 
 -- the heads of its spares, the newest last
 abbrev pub spares_in : SeatView → List ℕ

@@ -2,8 +2,9 @@
 ghost use Rattle.std.specs.Prelude.{◌≡◌, ◌≢◌, ◌<◌, MatchResult};
 ghost use Rattle.word_layout.specs.Sizes.{blocks};
 ghost use Rattle.word_layout.specs.declared.announced.Wish.TheVariants.{Take, Give};
+ghost use Rattle.transfer_machine.specs.Machine.{CanAct, action_of};
 ghost use Rattle.transfer_machine.specs.declared.stage.NextStep.TheVariants.{Rest};
-ghost use Rattle.pool_table.specs.Steps.{MayStep, OneStep, Stepped};
+ghost use Rattle.pool_table.specs.Steps.{MayStep, OneStep};
 ghost use Rattle.pool_table.specs.Transfers.{Agrees};
 ghost use Rattle.batch_stack.specs.declared.progress.Progress.TheVariants.{Going};
 ghost use Rattle.batch_stack.specs.Alone.{EndsAtRest, spares_in, spares_about, spares_after};
@@ -11,15 +12,15 @@ ghost use Rattle.batch_stack.specs.Ended.{EndTells};
 ghost use Rattle.batch_stack.specs.Running.{Running, MadeStep, ComesNearer, GoesOn, IsInTry, opened, step_about, wishing};
 
 use crate::progress::{Progress, progress_at};
-use announce::{announce, load_announcement};
+use announce::{load_of_announcement, store_of_announcement};
 use pool_machine::Call;
 use pool_model::NoMemory;
-use pool_table::{About, PoolSeat, PoolTable, about_of, act};
+use pool_table::{PoolSeat, PoolTable, about_of, act};
 use std::alloc::Global;
 use std::marker::Model;
 use step_counter::{Ledger, Steps};
-use transfer_machine::{NextStep, TransferView, TryStep};
-use versioned_records::{RecordCursor, load_record_word, store_record_word};
+use transfer_machine::{Action, NextStep, TransferView, TryStep};
+use versioned_records::RecordCursor;
 use word_layout::{Shape, Wish};
 
 #[cfg(test)]
@@ -98,79 +99,48 @@ impl Transfer {
     {
         let about = about_of(call, self.view.wish);
         let next = self.view.next;
-        let word = make_step(&self.view, &self.shape, &about, table, seat, steps);
+        let action = next_action(&self.view, &self.shape);
+        let word = act(&about, action, &self.shape, table, seat, steps);
         self.view.meet(&self.shape, word);
         progress_at(next, self.view.answer)
     }
 }
 
-/// Makes the next step of a transfer on its word, and answers the word that it met; of a store, the one that it left.
-fn make_step<L: Ledger>(
-    view: &TransferView,
-    shape: &Shape,
-    about: &About,
-    table: &PoolTable,
-    seat: &mut PoolSeat,
-    steps: &mut Steps<L>,
-) -> u64
-    requires may { MayStep shape.now about.now table.now seat.old steps.old }
-    requires agrees { Agrees about.now seat.old.view view.now }
-    ensures one { OneStep seat.old seat.new steps.old steps.new }
-    ensures step { Stepped about.now seat.old.view result seat.new.view }
+/// What a transfer does next. What announces, and what loads or stores a record word or loads an announcement, is
+/// said by the crate of records or of announcements.
+fn next_action(view: &TransferView, shape: &Shape) -> Action
+    requires { CanAct shape.now view.now }
+    ensures { result ≡ action_of shape.now view.now }
 {
     match view.next {
-        NextStep::Announce => announce(
-            about,
-            view.number,
-            view.age + 1,
-            view.wish,
-            table,
-            seat,
-            steps,
-        ),
-        NextStep::Try { step, .. } => make_try_step(view, step, shape, about, table, seat, steps),
-        NextStep::Rest | NextStep::LoadFinalState | NextStep::LoadReply => {
-            act(about, view.action(shape), shape, table, seat, steps)
-        }
+        NextStep::Announce => store_of_announcement(view.number, view.age + 1, view.wish),
+        NextStep::Try { step, .. } => try_action(view, step, shape),
+        NextStep::Rest | NextStep::LoadFinalState | NextStep::LoadReply => view.action(shape),
     }
 }
 
-/// The same of a step of a try.
-fn make_try_step<L: Ledger>(
-    view: &TransferView,
-    step: TryStep,
-    shape: &Shape,
-    about: &About,
-    table: &PoolTable,
-    seat: &mut PoolSeat,
-    steps: &mut Steps<L>,
-) -> u64
-    requires may { MayStep shape.now about.now table.now seat.old steps.old }
-    requires agrees { Agrees about.now seat.old.view view.now }
+/// The same in a try.
+fn try_action(view: &TransferView, step: TryStep, shape: &Shape) -> Action
+    requires act { CanAct shape.now view.now }
     requires step { IsInTry view.now step }
-    ensures one { OneStep seat.old seat.new steps.old steps.new }
-    ensures step { Stepped about.now seat.old.view result seat.new.view }
+    ensures { result ≡ action_of shape.now view.now }
 {
     let loaded = &view.loaded;
     match step {
         TryStep::LoadRecordWord { index } => {
             let (tag, row) = (loaded.tag(), loaded.row());
-            let cursor = RecordCursor { tag, row, index };
-            load_record_word(shape, about, cursor, table, seat, steps).word
+            RecordCursor { tag, row, index }.load()
         }
-        TryStep::LoadAnnouncement { process } => {
-            load_announcement(shape, about, process, table, seat, steps)
-        }
+        TryStep::LoadAnnouncement { process } => load_of_announcement(process),
         TryStep::StoreRecordWord { index } => {
             let (tag, row) = (loaded.tag() + 1, view.next_record);
-            let cursor = RecordCursor { tag, row, index };
             let value = view.draft.value(shape.processes(), index);
-            store_record_word(shape, about, cursor, value, table, seat, steps).word
+            RecordCursor { tag, row, index }.store(value)
         }
         TryStep::LoadState
         | TryStep::LoadCoveredSlot { .. }
         | TryStep::ExchangeSlot { .. }
         | TryStep::LoadPoppedSlot { .. }
-        | TryStep::ExchangeState => act(about, view.action(shape), shape, table, seat, steps),
+        | TryStep::ExchangeState => view.action(shape),
     }
 }

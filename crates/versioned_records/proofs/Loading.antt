@@ -7,14 +7,14 @@ use Rattle.word_layout.specs.Sizes.{Sizes}
 use Rattle.word_layout.specs.Names.{record_words, word_at}
 use Rattle.word_layout.specs.Packing.{tag_of}
 use Rattle.word_layout.specs.declared.name.WordName.TheVariants.{State, RecordWord}
-use Rattle.transfer_machine.specs.Loads.{loaded_tag, overlay_length}
+use Rattle.transfer_machine.specs.Loads.{loaded_tag, overlay_length, record_value}
 use Rattle.transfer_machine.specs.Machine.{action_at, action_of, met_at, met_of, record_word_loaded, CanActAt}
 use Rattle.transfer_machine.specs.Words.{met_word}
 use Rattle.transfer_machine.specs.declared.action.Action.TheVariants.{Load}
 use Rattle.transfer_machine.specs.declared.loaded.Loaded.{Loaded}
 use Rattle.transfer_machine.specs.declared.stage.TryStep.TheVariants.{LoadAnnouncement, LoadCoveredSlot}
 use Rattle.transfer_machine.specs.declared.transfer.TransferView.{TransferView}
-use Rattle.transfer_invariant.specs.Memory.{Words, States, state_tag, current_record, word_tag, state_value}
+use Rattle.transfer_invariant.specs.Memory.{Words, States, state_tag, current_record, word_tag, word_value, state_value}
 use Rattle.transfer_invariant.specs.Progress.{has_loaded, has_loaded_state, loaded_words, loaded_in_try}
 use Rattle.transfer_invariant.specs.Records.{CurrentRecord, LoadedState}
 use Rattle.pool_machine.specs.declared.view.ProcessView.{ProcessView}
@@ -25,11 +25,19 @@ use Rattle.pool_table.specs.Minds.{Mind}
 use Rattle.pool_table.specs.Turns.{turning}
 use Rattle.pool_table.specs.Views.{SeatView}
 use Rattle.pool_table.specs.Steps.{CanStep, Stepped, answered}
-use Rattle.pool_table.specs.Transfers.{Agrees, transfer_about}
+use Rattle.pool_table.specs.Transfers.{Agrees, transfer_about, WhereverSeated}
 use Rattle.pool_table.proofs.Transfers.{DueOn, due_on, transfer_can_act, transfer_acts_next, transfer_steps}
 use Rattle.pool_table.proofs.Turns.{seat_of}
-use Rattle.versioned_records.specs.declared.load.ReadStep.TheVariants.{Going, Whole, Moved}
-use Rattle.versioned_records.specs.Loads.{read_step, IsToLoad, LoadsWord, SomewhereSeated, HadMovedOn, HasState}
+use Rattle.versioned_records.specs.declared.reader.ReadStep.TheVariants.{Going, Whole, Moved}
+use Rattle.versioned_records.specs.Loads.{read_step, IsToLoad, LoadsWord, SomewhereSeated, HadMovedOn}
+
+-- the record words that a seat's process has loaded are those of the state with this tag: wherever the rule holds with its view, they
+-- have that state's values, and so has the current record while that is the state
+pub record HasState (v : SeatView) (tag : ℕ) : Type 0 where
+  pub values : WhereverSeated v (λ words states. (index : ℕ) → index < record_words v.sizes
+      → record_value v.mind.view.transfer.loaded index ≡ state_value v.sizes.processes (states tag) index)
+  pub present : WhereverSeated v (λ words states. state_tag words ≡ tag → (index : ℕ) → index < record_words v.sizes
+      → record_value v.mind.view.transfer.loaded index ≡ word_value words (current_record words) index)
 
 -- the process makes that transfer
 own_agrees : (a : About) (v : SeatView) (tag row index : ℕ) → LoadsWord a v tag row index → Agrees a v (transfer_about a v)

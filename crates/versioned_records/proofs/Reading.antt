@@ -7,12 +7,15 @@ use Rattle.std.proofs.lemmas.Bool.Decides.{nat_tests}
 use Rattle.word_layout.specs.Sizes.{Sizes}
 use Rattle.word_layout.specs.Names.{record_words}
 use Rattle.word_layout.specs.Packing.{tag_of, value_of}
+use Rattle.word_layout.specs.declared.name.WordName.TheVariants.{RecordWord}
 use Rattle.transfer_machine.specs.Loads.{loaded_tag, loaded_record}
 use Rattle.transfer_machine.specs.Machine.{met_at, met_of, record_word_loaded}
 use Rattle.transfer_machine.specs.Stages.{is_rest}
+use Rattle.transfer_machine.specs.declared.action.Action.TheVariants.{Load}
 use Rattle.transfer_machine.specs.declared.loaded.Loaded.{Loaded}
 use Rattle.transfer_machine.specs.declared.transfer.TransferView.{TransferView}
 use Rattle.pool_machine.specs.declared.view.ProcessView.{ProcessView}
+use Rattle.interleaving_core.specs.Steps.{next_action}
 use Rattle.pool_table.specs.declared.about.About.{About}
 use Rattle.pool_table.specs.declared.about.About.TheVariants.{Alone, InCall}
 use Rattle.pool_table.specs.Turns.{turning}
@@ -20,11 +23,11 @@ use Rattle.pool_table.specs.Views.{SeatView}
 use Rattle.pool_table.specs.Steps.{CanStep, Stepped}
 use Rattle.pool_table.specs.Transfers.{Agrees, transfer_about}
 use Rattle.pool_table.proofs.Transfers.{DueOn, due_there, transfer_steps, goes_on_alone}
-use Rattle.versioned_records.specs.declared.load.ReadStep.{ReadStep}
-use Rattle.versioned_records.specs.declared.load.ReadStep.TheVariants.{Going, Whole, Moved}
-use Rattle.versioned_records.specs.Loads.{IsToLoad, HasState, read_step}
+use Rattle.versioned_records.specs.declared.reader.ReadStep.{ReadStep}
+use Rattle.versioned_records.specs.declared.reader.ReadStep.TheVariants.{Going, Whole, Moved}
+use Rattle.versioned_records.specs.Loads.{IsToLoad, read_step}
 use Rattle.versioned_records.specs.Reading.{Reading, CanRead, CanReadOn, HasRead, HasReadOn, reading_after}
-use Rattle.versioned_records.proofs.Loading.{load_within, tag_never_lower, moved_on, whole_has_state, whole_tests}
+use Rattle.versioned_records.proofs.Loading.{HasState, load_is_next, load_within, tag_never_lower, moved_on, whole_has_state, whole_tests}
 
 -- the room of the record words that a process loads
 due_room : (sizes : Sizes) (words : List ℕ) (v : ProcessView) → DueOn sizes words v → length v.transfer.loaded.record_words ≡ 66
@@ -196,26 +199,39 @@ can_read_on sizes (Alone wish) v x r word c reads s room answer e goes =
 can_read_on sizes (InCall call) v x r word c reads s room answer e goes = tt
 
 -- the same of a reader's fields, before and after
-pub read_seen : (a b : About) (v x : SeatView) (r old s : Reading) (word : ℕ) (answer : ReadStep) → r ≡ old → b ≡ a → CanStep old.sizes a v
-    → CanRead a v old → Stepped b v word x → length r.words ≡ 66 → answer ≡ read_step r.sizes r.tag r.index word
-    → s ≡ reading_after answer word r → HasReadOn a v old x s answer
-read_seen a b v x r old s word answer e same can reads stepped room answered after =
-    let met = subst (λ z. Stepped z v word x) same stepped in
-    subst (λ o. HasReadOn a v o x s answer) e
-    (subst (λ z. HasReadOn a v r x z answer) (sym after)
-    (reads_on r.sizes a v x r word (subst (λ (o : Reading). CanStep o.sizes a v) (sym e) can) (subst (CanRead a v) (sym e) reads) met
-    refl room answer answered))
+pub load_seen : (a b : About) (v : SeatView) (r old : Reading) → r ≡ old → b ≡ a → CanRead a v old
+    → Load (RecordWord r.row r.index) ≡ next_action r.sizes (turning b v.mind.view)
+load_seen a b v r old e same reads =
+    let reads_so = subst (CanRead a v) (sym e) reads in
+    subst (λ z. Load (RecordWord r.row r.index) ≡ next_action r.sizes (turning z v.mind.view)) (sym same)
+    (load_is_next r.sizes a v r.tag r.row r.index reads_so.loads)
 
-pub read_on_seen : (a b : About) (v x : SeatView) (r old s : Reading) (word : ℕ) (answer : ReadStep) → r ≡ old → b ≡ a
-    → CanStep old.sizes a v
-    → CanRead a v old → Stepped b v word x → length r.words ≡ 66 → answer ≡ read_step r.sizes r.tag r.index word
-    → s ≡ reading_after answer word r → answer ≡ Going → CanReadOn old.sizes a x s
-read_on_seen a b v x r old s word answer e same can reads stepped room answered after goes =
-    let met = subst (λ z. Stepped z v word x) same stepped in
-    subst (λ (o : Reading). CanReadOn o.sizes a x s) e
-    (subst (CanReadOn r.sizes a x) (sym after)
-    (can_read_on r.sizes a v x r word (subst (λ (o : Reading). CanStep o.sizes a v) (sym e) can) (subst (CanRead a v) (sym e) reads) met
-    room answer answered goes))
+pub within_seen : (a : About) (v : SeatView) (r old : Reading) → r ≡ old → CanStep old.sizes a v → CanRead a v old
+    → r.index < record_words r.sizes
+within_seen a v r old e can reads =
+    subst (λ (o : Reading). o.index < record_words o.sizes) (sym e) (load_within old.sizes a v old.tag old.row old.index can reads.loads)
 
 pub below_seen : (a : About) (v : SeatView) (r old : Reading) → r ≡ old → CanStep old.sizes a v → CanRead a v old → r.index < 66
 below_seen a v r old e can reads = subst (λ (o : Reading). o.index < 66) (sym e) (reads_below old.sizes a v old can reads)
+
+module _ (a b : About) (v x : SeatView) (r old s : Reading) (word : ℕ) (answer : ReadStep) (e : r ≡ old) (same : b ≡ a)
+    (can : CanStep old.sizes a v) (reads : CanRead a v old) (stepped : Stepped b v word x) (room : length r.words ≡ 66)
+    (answered : answer ≡ read_step r.sizes r.tag r.index word) (after : s ≡ reading_after answer word r) where
+  can_so : CanStep r.sizes a v
+  can_so = subst (λ (o : Reading). CanStep o.sizes a v) (sym e) can
+
+  reads_so : CanRead a v r
+  reads_so = subst (CanRead a v) (sym e) reads
+
+  met : Stepped a v word x
+  met = subst (λ z. Stepped z v word x) same stepped
+
+  pub read_seen : HasReadOn a v old x s answer
+  read_seen =
+      let read = reads_on r.sizes a v x r word can_so reads_so met refl room answer answered in
+      subst (λ o. HasReadOn a v o x s answer) e (subst (λ z. HasReadOn a v r x z answer) (sym after) read)
+
+  pub read_on_seen : answer ≡ Going → CanReadOn old.sizes a x s
+  read_on_seen goes =
+      let on = can_read_on r.sizes a v x r word can_so reads_so met room answer answered goes in
+      subst (λ (o : Reading). CanReadOn o.sizes a x s) e (subst (CanReadOn r.sizes a x) (sym after) on)

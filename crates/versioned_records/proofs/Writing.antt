@@ -3,21 +3,25 @@ use Rattle.std.proofs.Common.{◌≡◌, ℕ, ◌+◌, ◌<◌, ◌≤◌, ◌==
 use Rattle.std.specs.Prelude.{if◌then◌else◌}
 use Rattle.word_layout.specs.Sizes.{Sizes}
 use Rattle.word_layout.specs.Names.{record_words}
+use Rattle.word_layout.specs.declared.name.WordName.TheVariants.{RecordWord}
 use Rattle.transfer_machine.specs.Machine.{met_at, met_of, after_stored}
 use Rattle.transfer_machine.specs.Stages.{is_rest}
 use Rattle.transfer_machine.specs.Tries.{drafted_value}
+use Rattle.transfer_machine.specs.declared.action.Action.TheVariants.{Store}
 use Rattle.transfer_machine.specs.declared.stage.NextStep.TheVariants.{Try}
 use Rattle.transfer_machine.specs.declared.transfer.TransferView.{TransferView}
+use Rattle.interleaving_core.specs.Steps.{next_action}
 use Rattle.pool_table.specs.declared.about.About.{About}
 use Rattle.pool_table.specs.declared.about.About.TheVariants.{Alone, InCall}
+use Rattle.pool_table.specs.Turns.{turning}
 use Rattle.pool_table.specs.Views.{SeatView}
 use Rattle.pool_table.specs.Steps.{CanStep, Stepped}
 use Rattle.pool_table.specs.Transfers.{Agrees, transfer_about}
 use Rattle.pool_table.proofs.Transfers.{due_there, transfer_steps, goes_on_alone}
-use Rattle.versioned_records.specs.declared.store.WriteStep.{WriteStep}
-use Rattle.versioned_records.specs.declared.store.WriteStep.TheVariants.{Going, Written}
+use Rattle.versioned_records.specs.declared.writer.WriteStep.{WriteStep}
+use Rattle.versioned_records.specs.declared.writer.WriteStep.TheVariants.{Going, Written}
 use Rattle.versioned_records.specs.Stores.{IsToStore, write_step}
-use Rattle.versioned_records.proofs.Storing.{store_fits}
+use Rattle.versioned_records.proofs.Storing.{StoreFits, store_is_next, store_fits, store_leaves}
 use Rattle.versioned_records.specs.Writing.{Writing, CanWrite, CanWriteOn, HasWrittenOn, next_word, next_value, wrote}
 
 -- the transfer after such a store
@@ -26,7 +30,7 @@ stored_is : (sizes : Sizes) (t : TransferView) (tag row index value word : ℕ) 
 stored_is sizes t tag row index value word d = ap (met_at sizes t word) d.next
 
 -- where that wasn't the last word, the next is to be stored
-more_tests : (last : Bool) → (if last then Written else Going) ≡ Going → last ≡ false
+pub more_tests : (last : Bool) → (if last then Written else Going) ≡ Going → last ≡ false
 more_tests true e = absurd (cc)
 more_tests false e = refl
 
@@ -80,12 +84,17 @@ can_write_on (Alone wish) v x w c writes s answer e goes =
 can_write_on (InCall call) v x w c writes s answer e goes = tt
 
 -- the same of a writer's fields, before and after
-pub can_write_seen : (a b : About) (v : SeatView) (w old : Writing) → w ≡ old → b ≡ a → CanWrite a v old → CanWrite b v w
-can_write_seen a b v w old e same writes = subst (λ z. CanWrite z v w) (sym same) (subst (CanWrite a v) (sym e) writes)
+pub store_seen : (a b : About) (v : SeatView) (w old : Writing) → w ≡ old → b ≡ a → CanWrite a v old
+    → Store (RecordWord w.row w.index) (next_word w) ≡ next_action w.sizes (turning b v.mind.view)
+store_seen a b v w old e same writes =
+    subst (λ z. Store (RecordWord w.row w.index) (next_word w) ≡ next_action w.sizes (turning z v.mind.view)) (sym same)
+    (store_is_next w.sizes a v w.tag w.row w.index (next_value w) (next_word w) (subst (CanWrite a v) (sym e) writes) refl)
 
-pub can_step_seen : (a b : About) (v : SeatView) (w old : Writing) → w ≡ old → b ≡ a → CanStep old.sizes a v → CanStep w.sizes b v
-can_step_seen a b v w old e same can =
-    subst (λ z. CanStep w.sizes z v) (sym same) (subst (λ (o : Writing). CanStep o.sizes a v) (sym e) can)
+pub fits_seen : (a : About) (v : SeatView) (w old : Writing) → w ≡ old → CanStep old.sizes a v → CanWrite a v old
+    → StoreFits w.sizes w.tag w.index (next_value w)
+fits_seen a v w old e can writes =
+    subst (λ (o : Writing). StoreFits o.sizes o.tag o.index (next_value o)) (sym e)
+    (store_fits old.sizes a v old.tag old.row old.index (next_value old) can writes)
 
 pub below_seen : (a : About) (v : SeatView) (w old : Writing) → w ≡ old → CanStep old.sizes a v → CanWrite a v old → w.index < 66
 below_seen a v w old e can writes =
@@ -94,20 +103,26 @@ below_seen a v w old e can writes =
     let within = (store_fits old.sizes a v old.tag old.row old.index (next_value old) can writes).within in
     subst (λ (o : Writing). o.index < 66) (sym e) (omega (arith, small, within))
 
-pub written_seen : (a b : About) (v x : SeatView) (w old s : Writing) (word : ℕ) (answer : WriteStep) → w ≡ old → b ≡ a
-    → CanStep old.sizes a v → CanWrite a v old → Stepped b v word x → word ≡ next_word w → answer ≡ write_step w.sizes w.index
-    → s ≡ wrote w → HasWrittenOn a v old x s answer
-written_seen a b v x w old s word answer e same can writes stepped stored answered after =
-    let met = subst (λ n. Stepped a v n x) stored (subst (λ z. Stepped z v word x) same stepped) in
-    let can_so = can_step_seen a a v w old e refl can in
-    let written = has_written_on a v x w can_so (can_write_seen a a v w old e refl writes) met answer answered in
-    subst (λ o. HasWrittenOn a v o x s answer) e (subst (λ z. HasWrittenOn a v w x z answer) (sym after) written)
+module _ (a b : About) (v x : SeatView) (w old s : Writing) (word : ℕ) (answer : WriteStep) (e : w ≡ old) (same : b ≡ a)
+    (can : CanStep old.sizes a v) (writes : CanWrite a v old) (stepped : Stepped b v word x) (answered : answer ≡ write_step w.sizes w.index)
+    (after : s ≡ wrote w) where
+  can_so : CanStep w.sizes a v
+  can_so = subst (λ (o : Writing). CanStep o.sizes a v) (sym e) can
 
-pub write_on_seen : (a b : About) (v x : SeatView) (w old s : Writing) (word : ℕ) (answer : WriteStep) → w ≡ old → b ≡ a
-    → CanStep old.sizes a v → CanWrite a v old → Stepped b v word x → word ≡ next_word w → answer ≡ write_step w.sizes w.index
-    → s ≡ wrote w → answer ≡ Going → CanWriteOn old.sizes a x s
-write_on_seen a b v x w old s word answer e same can writes stepped stored answered after goes =
-    let met = subst (λ n. Stepped a v n x) stored (subst (λ z. Stepped z v word x) same stepped) in
-    let can_so = can_step_seen a a v w old e refl can in
-    let on = can_write_on a v x w can_so (can_write_seen a a v w old e refl writes) met answer answered goes in
-    subst (λ (o : Writing). CanWriteOn o.sizes a x s) e (subst (CanWriteOn w.sizes a x) (sym after) on)
+  writes_so : CanWrite a v w
+  writes_so = subst (CanWrite a v) (sym e) writes
+
+  leaves : Stepped a v (next_word w) x
+  leaves =
+      let met = subst (λ z. Stepped z v word x) same stepped in
+      store_leaves w.sizes a v x w.tag w.row w.index (next_value w) (next_word w) word can_so writes_so refl met
+
+  pub written_seen : HasWrittenOn a v old x s answer
+  written_seen =
+      let written = has_written_on a v x w can_so writes_so leaves answer answered in
+      subst (λ o. HasWrittenOn a v o x s answer) e (subst (λ z. HasWrittenOn a v w x z answer) (sym after) written)
+
+  pub write_on_seen : answer ≡ Going → CanWriteOn old.sizes a x s
+  write_on_seen goes =
+      let on = can_write_on a v x w can_so writes_so leaves answer answered goes in
+      subst (λ (o : Writing). CanWriteOn o.sizes a x s) e (subst (CanWriteOn w.sizes a x) (sym after) on)

@@ -6,19 +6,18 @@ use Rattle.word_layout.specs.Sizes.{Sizes}
 use Rattle.word_layout.specs.Names.{record_words, word_at}
 use Rattle.word_layout.specs.Packing.{tag_of}
 use Rattle.word_layout.specs.declared.name.WordName.TheVariants.{State}
-use Rattle.transfer_machine.specs.Loads.{loaded_tag, loaded_record, record_value}
+use Rattle.transfer_machine.specs.Loads.{loaded_tag, loaded_record}
 use Rattle.transfer_machine.specs.declared.stage.NextStep.TheVariants.{Try}
 use Rattle.transfer_machine.specs.declared.stage.TryStep.TheVariants.{LoadRecordWord}
 use Rattle.transfer_machine.specs.declared.transfer.TransferView.{TransferView}
-use Rattle.transfer_invariant.specs.Memory.{state_tag, current_record, word_value, state_value}
 use Rattle.interleaving_core.specs.TransferLaws.{moves_transfer}
 use Rattle.pool_table.specs.declared.about.About.{About}
 use Rattle.pool_table.specs.Rule.{Holds}
 use Rattle.pool_table.specs.Turns.{turning}
 use Rattle.pool_table.specs.Views.{SeatView}
-use Rattle.pool_table.specs.Transfers.{transfer_about, WhereverSeated}
-use Rattle.versioned_records.specs.declared.load.ReadStep.{ReadStep}
-use Rattle.versioned_records.specs.declared.load.ReadStep.TheVariants.{Going, Whole, Moved}
+use Rattle.pool_table.specs.Transfers.{transfer_about}
+use Rattle.versioned_records.specs.declared.reader.ReadStep.{ReadStep}
+use Rattle.versioned_records.specs.declared.reader.ReadStep.TheVariants.{Going, Whole, Moved}
 
 -- how far the reading of a record is once this word was loaded there: one with a higher tag is of a later state
 abbrev pub read_step : Sizes → ℕ → ℕ → ℕ → ReadStep
@@ -50,11 +49,3 @@ pub record SomewhereSeated (v : SeatView) (Fact : List ℕ → Type 0) : Type 0 
 -- the state had a higher tag
 abbrev pub HadMovedOn : SeatView → ℕ → Type 0
 HadMovedOn v tag = SomewhereSeated v (λ words. tag < tag_of (word_at v.sizes words State))
-
--- the record words that a seat's process has loaded are those of the state with this tag: wherever the rule holds with its view, they
--- have that state's values, and so has the current record while that is the state
-pub record HasState (v : SeatView) (tag : ℕ) : Type 0 where
-  pub values : WhereverSeated v (λ words states. (index : ℕ) → index < record_words v.sizes
-      → record_value v.mind.view.transfer.loaded index ≡ state_value v.sizes.processes (states tag) index)
-  pub present : WhereverSeated v (λ words states. state_tag words ≡ tag → (index : ℕ) → index < record_words v.sizes
-      → record_value v.mind.view.transfer.loaded index ≡ word_value words (current_record words) index)

@@ -10,8 +10,8 @@ use Rattle.pool_table.specs.declared.about.About.TheVariants.{Alone, InCall}
 use Rattle.pool_table.specs.Views.{SeatView}
 use Rattle.pool_table.specs.Steps.{CanStep, Stepped}
 use Rattle.pool_table.specs.Transfers.{transfer_about, WhereverSeated}
-use Rattle.versioned_records.specs.declared.load.ReadStep.{ReadStep}
-use Rattle.versioned_records.specs.declared.load.ReadStep.TheVariants.{Going, Whole, Moved}
+use Rattle.versioned_records.specs.declared.reader.ReadStep.{ReadStep}
+use Rattle.versioned_records.specs.declared.reader.ReadStep.TheVariants.{Going, Whole, Moved}
 use Rattle.versioned_records.specs.Loads.{LoadsWord, HadMovedOn, read_step}
 
 -- what clauses see of a reader: the shape's numbers, the tag and the row that it was begun with, how many words it loaded since, the words,

@@ -12,8 +12,8 @@ use Rattle.pool_table.specs.declared.about.About.{About}
 use Rattle.pool_table.specs.Turns.{turning}
 use Rattle.pool_table.specs.Views.{SeatView}
 use Rattle.pool_table.specs.Transfers.{transfer_about}
-use Rattle.versioned_records.specs.declared.store.WriteStep.{WriteStep}
-use Rattle.versioned_records.specs.declared.store.WriteStep.TheVariants.{Going, Written}
+use Rattle.versioned_records.specs.declared.writer.WriteStep.{WriteStep}
+use Rattle.versioned_records.specs.declared.writer.WriteStep.TheVariants.{Going, Written}
 
 -- how far the writing of a record is once that word was stored
 abbrev pub write_step : Sizes → ℕ → WriteStep

@@ -9,7 +9,7 @@ use Rattle.pool_table.specs.declared.about.About.TheVariants.{Alone, InCall}
 use Rattle.pool_table.specs.Views.{SeatView}
 use Rattle.pool_table.specs.Steps.{CanStep, Stepped}
 use Rattle.pool_table.specs.Transfers.{transfer_about}
-use Rattle.versioned_records.specs.declared.store.WriteStep.{WriteStep}
+use Rattle.versioned_records.specs.declared.writer.WriteStep.{WriteStep}
 use Rattle.versioned_records.specs.Stores.{StoresWord, write_step}
 
 -- what clauses see of a writer: the shape's numbers, the tag and the row that it was begun with, how many words it stored since, and its

@@ -5,18 +5,29 @@ ghost use Rattle.word_layout.specs.Packing.{tag_limit};
 ghost use Rattle.word_layout.specs.declared.announced.Wish.TheVariants.{Take};
 ghost use Rattle.pool_table.specs.Steps.{MayStep, OneStep};
 ghost use Rattle.pool_table.specs.Transfers.{about_of};
-ghost use Rattle.versioned_records.specs.declared.load.ReadStep.TheVariants.{Going, Whole};
+ghost use Rattle.versioned_records.specs.declared.reader.ReadStep.TheVariants.{Going, Whole};
+ghost use Rattle.versioned_records.specs.Loads.{read_step};
 ghost use Rattle.versioned_records.specs.Reading.{CanRead, CanReadOn, HasReadOn, begun, opened, read_value};
 
 use crate::cursor::RecordCursor;
-use crate::load::{ReadStep, load_record_word};
 use pool_machine::Call;
 use pool_model::NoMemory;
-use pool_table::{PoolSeat, PoolTable, about_of};
+use pool_table::{PoolSeat, PoolTable, about_of, act};
 use std::alloc::Global;
 use std::marker::Model;
 use step_counter::{Ledger, Steps};
 use word_layout::{Shape, Tagged, Wish};
+
+/// How far the reading of a record is after the load of a word.
+#[derive(Clone, Copy, Debug, PartialEq, Eq, Hash)]
+pub enum ReadStep {
+    /// The word is of this state, and there are more.
+    Going,
+    /// All words are loaded, and each is of this state.
+    Whole,
+    /// The word is of a later state.
+    Moved,
+}
 
 /// A record of the shared stack, as far as it is read.
 ///
@@ -88,11 +99,12 @@ impl RecordReader {
         // In the middle of a transfer its wish isn't looked at.
         let about = about_of(call, Wish::Take);
         let cursor = self.cursor;
-        let loaded = load_record_word(&self.shape, &about, cursor, table, seat, steps);
-        self.words[cursor.index as usize] = loaded.word;
+        let word = act(&about, cursor.load(), &self.shape, table, seat, steps);
+        let read = read_step(&self.shape, cursor.tag, cursor.index, word);
+        self.words[cursor.index as usize] = word;
         self.cursor.index = cursor.index + 1;
-        self.reached = loaded.read;
-        loaded.read
+        self.reached = read;
+        read
     }
 
     /// The value of a word of a record that is whole.
@@ -103,5 +115,20 @@ impl RecordReader {
     {
         prove!(self.shape.processes() <= 32);
         Tagged::value(self.words[index as usize])
+    }
+}
+
+/// How far the reading is once this word was loaded there.
+fn read_step(shape: &Shape, tag: u64, index: u32, word: u64) -> ReadStep
+    requires { index < record_words shape.now }
+    ensures { result ≡ read_step shape.now tag index word }
+{
+    let count = shape.record_words();
+    if Tagged::tag(word) > tag {
+        ReadStep::Moved
+    } else if index + 1 == count {
+        ReadStep::Whole
+    } else {
+        ReadStep::Going
     }
 }

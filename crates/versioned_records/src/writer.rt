@@ -1,21 +1,30 @@
 // The writing of a whole record.
-ghost use Rattle.std.specs.Prelude.{◌≡◌, length, MatchResult};
+ghost use Rattle.std.specs.Prelude.{◌≡◌, ◌<◌, length, MatchResult};
 ghost use Rattle.word_layout.specs.Names.{record_words};
 ghost use Rattle.word_layout.specs.declared.announced.Wish.TheVariants.{Take};
 ghost use Rattle.pool_table.specs.Steps.{MayStep, OneStep};
 ghost use Rattle.pool_table.specs.Transfers.{about_of};
-ghost use Rattle.versioned_records.specs.declared.store.WriteStep.TheVariants.{Going};
+ghost use Rattle.versioned_records.specs.declared.writer.WriteStep.TheVariants.{Going};
+ghost use Rattle.versioned_records.specs.Stores.{write_step};
 ghost use Rattle.versioned_records.specs.Writing.{CanWrite, CanWriteOn, HasWrittenOn, begun};
 
 use crate::cursor::RecordCursor;
-use crate::store::{WriteStep, store_record_word};
 use pool_machine::Call;
 use pool_model::NoMemory;
-use pool_table::{PoolSeat, PoolTable, about_of};
+use pool_table::{PoolSeat, PoolTable, about_of, act};
 use std::alloc::Global;
 use std::marker::Model;
 use step_counter::{Ledger, Steps};
 use word_layout::{Shape, Wish};
+
+/// How far the writing of a record is after the store of a word.
+#[derive(Clone, Copy, Debug, PartialEq, Eq, Hash)]
+pub enum WriteStep {
+    /// There are more words.
+    Going,
+    /// All words are stored.
+    Written,
+}
 
 /// A record of the shared stack, as far as it is written.
 ///
@@ -88,8 +97,21 @@ impl RecordWriter {
         let about = about_of(call, Wish::Take);
         let cursor = self.cursor;
         let value = self.values[cursor.index as usize];
-        let stored = store_record_word(&self.shape, &about, cursor, value, table, seat, steps);
+        act(&about, cursor.store(value), &self.shape, table, seat, steps);
         self.cursor.index = cursor.index + 1;
-        stored.write
+        write_step(&self.shape, cursor.index)
+    }
+}
+
+/// How far the writing is once that word was stored.
+fn write_step(shape: &Shape, index: u32) -> WriteStep
+    requires { index < record_words shape.now }
+    ensures { result ≡ write_step shape.now index }
+{
+    let count = shape.record_words();
+    if index + 1 == count {
+        WriteStep::Written
+    } else {
+        WriteStep::Going
     }
 }

@@ -9,6 +9,7 @@ ghost use Rattle.pool_table.specs.Views.{seat_of_process};
 ghost use Rattle.pool_table.specs.Steps.{Among};
 ghost use Rattle.batch_stack.specs.declared.progress.Progress.TheVariants.{Gave, Going};
 ghost use Rattle.batch_stack.specs.Alone.{Advanced, GoesAlone, RestsAlone, spares_in, spares_about};
+ghost use Rattle.batch_stack.specs.Running.{IsInTry};
 
 use super::Transfer;
 use crate::progress::Progress;
@@ -17,7 +18,7 @@ use pool_table::{PoolSeat, PoolTable, next_seat, open_table};
 use std::alloc::Global;
 use std::process::Abort;
 use step_counter::{Kept, Steps};
-use transfer_machine::Action;
+use transfer_machine::{Action, NextStep, TryStep};
 use word_layout::Shape;
 
 mod announcements;
@@ -26,6 +27,7 @@ mod records;
 mod stale;
 mod takes;
 mod threads;
+mod writing;
 
 /// A step that was made.
 #[derive(Drop)]
@@ -172,7 +174,6 @@ fn advance(transfer: &mut Transfer, table: &PoolTable, seat: &mut PoolSeat) -> P
 }
 
 /// The same with its word: the one that stood there, and of a store the one that it left.
-
 fn step(transfer: &mut Transfer, table: &PoolTable, seat: &mut PoolSeat) -> Made
     requires seat { seat.old.table ≡ table.now }
     requires words { table.now.words ≡ table_words transfer.old.sizes }
@@ -188,6 +189,17 @@ fn step(transfer: &mut Transfer, table: &PoolTable, seat: &mut PoolSeat) -> Made
     Made {
         word: if stores { left } else { met },
         progress,
+    }
+}
+
+/// Whether this is a transfer's next step, in one of its tries.
+fn tries_next(transfer: &Transfer, step: TryStep) -> bool
+    ensures { IsTrue result → IsInTry transfer.now.part step }
+{
+    match transfer.view.next {
+        NextStep::Try { step: next, .. } => next == step,
+        NextStep::Rest | NextStep::Announce | NextStep::LoadFinalState | NextStep::LoadReply =>
+            false,
     }
 }
 

@@ -3,11 +3,9 @@ ghost use Rattle.std.specs.Prelude.{◌≡◌, ◌+◌, IsTrue};
 ghost use Rattle.word_layout.specs.Names.{table_words};
 ghost use Rattle.word_layout.specs.Packing.{FitsAnnounced};
 ghost use Rattle.word_table.specs.Seats.{SameSeat};
-ghost use Rattle.transfer_machine.specs.declared.stage.TryStep.TheVariants.{LoadAnnouncement};
 ghost use Rattle.batch_stack.specs.Alone.{GoesAlone};
-ghost use Rattle.batch_stack.specs.Running.{IsInTry};
 
-use super::{begun_take, make, make_part, open_two};
+use super::{begun_take, make, make_part, open_two, tries_next};
 use crate::progress::Progress;
 use crate::transfer::Transfer;
 use announce::AnnounceReader;
@@ -16,21 +14,8 @@ use std::alloc::Global;
 use std::process::Abort;
 use std::test::Fail;
 use step_counter::{Kept, Steps};
-use transfer_machine::{NextStep, TryStep};
+use transfer_machine::TryStep;
 use word_layout::{Announced, Shape, Wish};
-
-/// Whether a transfer loads the announcement of this process next.
-fn hears_next(transfer: &Transfer, process: u32) -> bool
-    ensures { IsTrue result → IsInTry transfer.now.part (LoadAnnouncement process) }
-{
-    match transfer.view.next {
-        NextStep::Try {
-            step: TryStep::LoadAnnouncement { process: next },
-            ..
-        } => next == process,
-        _ => false,
-    }
-}
 
 /// Whether a process announces a take.
 fn is_take(announced: Announced) -> bool
@@ -60,7 +45,7 @@ fn hear(
     ensures reader { reader.new ≡ record { sizes = transfer.old.sizes; process = process + 1 } }
     ensures goes { GoesAlone transfer.old.sizes seat.new.view transfer.new.part }
 {
-    if !hears_next(transfer, process) {
+    if !tries_next(transfer, TryStep::LoadAnnouncement { process }) {
         panic!(rt; "another word is loaded next");
     }
     let announced = reader.step(table, seat, None, &mut Steps::new(Kept::new()));

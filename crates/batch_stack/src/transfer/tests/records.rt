@@ -1,14 +1,12 @@
-// Whole records, read and written in the place of a transfer's own steps.
+// Whole records, read in the place of a transfer's own steps.
 ghost use Rattle.std.specs.Prelude.{◌≡◌, ◌≢◌, IfOk, IsTrue, ◌↔◌};
 ghost use Rattle.word_layout.specs.Names.{table_words};
 ghost use Rattle.word_table.specs.Seats.{SameSeat};
-ghost use Rattle.transfer_machine.specs.declared.stage.TryStep.TheVariants.{LoadRecordWord};
-ghost use Rattle.versioned_records.specs.declared.load.ReadStep.TheVariants.{Going, Whole};
+ghost use Rattle.versioned_records.specs.declared.reader.ReadStep.TheVariants.{Going, Whole};
 ghost use Rattle.batch_stack.specs.Alone.{GoesAlone, ReadsAlone};
-ghost use Rattle.batch_stack.specs.Running.{IsInTry};
 
 use super::making::{give, take};
-use super::{begun_take, first_spare, make_part, open, open_two};
+use super::{begun_take, first_spare, make_part, open, open_two, tries_next};
 use crate::transfer::Transfer;
 use pool_model::NoMemory;
 use pool_table::{PoolSeat, PoolTable, open_table};
@@ -16,22 +14,9 @@ use std::alloc::Global;
 use std::process::Abort;
 use std::test::Fail;
 use step_counter::{Kept, Steps};
-use transfer_machine::{NextStep, TryStep};
+use transfer_machine::TryStep;
 use versioned_records::{ReadStep, RecordReader};
 use word_layout::Shape;
-
-/// Whether a transfer loads a record next, from its first word.
-fn is_at_record(transfer: &Transfer) -> bool
-    ensures { IsTrue result → IsInTry transfer.now.part (LoadRecordWord 0) }
-{
-    match transfer.view.next {
-        NextStep::Try {
-            step: TryStep::LoadRecordWord { index },
-            ..
-        } => index == 0,
-        _ => false,
-    }
-}
 
 /// A reader of the record that a transfer loads next.
 fn read_record(
@@ -44,7 +29,7 @@ fn read_record(
     ensures sizes { IfOk result (λ reader. reader.sizes ≡ transfer.now.sizes) }
     ensures reads { IfOk result (λ reader. ReadsAlone seat.now.view reader) }
 {
-    if !is_at_record(transfer) {
+    if !tries_next(transfer, TryStep::LoadRecordWord { index: 0 }) {
         panic!(rt; "no record is loaded next");
     }
     let row = transfer.view.loaded.row();
