@@ -12,7 +12,7 @@ use Rattle.store_script.proofs.Determined.{only_refusals}
 use Rattle.block_pool.specs.Passing.{Passed}
 use Rattle.object_store.specs.Objects.{ObjectView}
 use Rattle.store_player.specs.Playing.{IsStorePlayed, PlaysSoFar, object_in}
-use Rattle.store_player.proofs.Playing.{grows_none}
+use Rattle.pass_players.proofs.Growing.{grows_none}
 
 -- slots that are all empty have nothing
 nothing_in : (n slot : ℕ) → object_in (replicate n None) slot ≡ None
@@ -69,8 +69,3 @@ played_all script start pass slots answers made p =
       apart = p.apart;
       moved = p.moved;
     }
-
--- the pass's own list grew by as many entries as calls were made
-pub made_by : {keys : List ℕ} {done : List Command} {start pass : Passed} {slots : List (Option (ObjectView Quad))} {answers : List Answered} {made : ℕ}
-    → PlaysSoFar keys done start pass slots answers made → length pass.own - length start.own ≡ made
-made_by {start = start} p = omega (arith, p.count, ap length p.grown.own, length-append start.own p.entries)

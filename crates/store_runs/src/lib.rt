@@ -5,5 +5,4 @@
 
 mod play;
 
-pub use play::play_stores_on_pool;
-pub use store_player::Replied;
+pub use play::{Replied, play_stores_on_pool};

@@ -3,7 +3,8 @@ use Rattle.std.proofs.lemmas.List.{take_more, take_all, length-take-le, length-r
 use Rattle.mtrace_reader.specs.declared.steps.Step.TheVariants.{Place}
 use Rattle.trace_player.proofs.Ordered.{may_come, room_for}
 use Rattle.pool_io.specs.Gates.{ToldBefore}
-use Rattle.pool_player.proofs.Playing.{made_by, played_all, so_far_none}
+use Rattle.pass_players.proofs.Growing.{grown_by}
+use Rattle.pool_player.proofs.Playing.{played_all, so_far_none}
 use Rattle.pool_player.proofs.one.play_one.Goals as goal
 
 pub loop-step-init : goal.loop-step-init
@@ -54,5 +55,5 @@ returns g c =
     let played = rw all at c.loop-step.invariant.played in
     record {
       played = played_all c.args.script.now _ _ c.loop-step.slots _ _ c.requires.well_formed played;
-      told = rw (made_by played, sym played.grown.same.number) c.loop-step.invariant.told;
+      told = rw (grown_by played.grown played.count, sym played.grown.same.number) c.loop-step.invariant.told;
     }
