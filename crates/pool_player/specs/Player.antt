@@ -2,8 +2,10 @@
 use Rattle.std.specs.Prelude.{ℕ, ◌+◌, ◌*◌, ◌≤◌, length}
 use Rattle.mtrace_reader.specs.declared.steps.Script.{Script}
 use Rattle.trace_player.specs.declared.tally.Tally.{Tally}
+use Rattle.mtrace_reader.specs.Script.{IsWellFormed}
 use Rattle.trace_player.specs.Fit.{IsTallied}
-use Rattle.pass_players.specs.Playing.{Course}
+use Rattle.block_pool.specs.Passing.{Passed, Pooled}
+use Rattle.pass_players.specs.Playing.{Course, MayPlay}
 
 -- the entries of the course fit the script, with refusals that they determine; the tally is that of these; and each call made a step at
 -- least, and a quantum and one at most
@@ -11,3 +13,7 @@ pub record IsTraced (course : Course) (script : Script) (tally : Tally) : Type 0
   pub tallied : IsTallied course.process script course.entries tally
   pub some : course.before + length course.entries ≤ course.after
   pub few : course.after ≤ course.before + length course.entries * (course.quantum + 1)
+
+-- the pass may play the script: it is of the pool, and has begun so few transfers that each call may begin one more
+abbrev pub MayPlayTrace : Pooled → Passed → Script → Type 0
+MayPlayTrace = MayPlay (λ sizes script. IsWellFormed script) (λ script. length script.steps)

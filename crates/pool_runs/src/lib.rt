@@ -9,4 +9,5 @@ pub mod laws;
 mod play;
 
 pub use drill::drill_scripts;
-pub use play::{Played, play_on_pool};
+pub use play::play_on_pool;
+pub use pool_player::Played;

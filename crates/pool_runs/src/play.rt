@@ -5,25 +5,14 @@ ghost use Rattle.pool_runs.specs.Playable.{IsPlayable};
 ghost use Rattle.pass_players.specs.Settled.{WasToldOfAll};
 ghost use Rattle.pool_runs.specs.Settled.{IsSettledBy};
 
-use block_pool::Settled;
 use mtrace_reader::Script;
 use pass_players::play_over;
 use pool_io::Gate;
 use pool_model::NoMemory;
-use pool_player::TracePlayer;
+use pool_player::{Played, TracePlayer};
 use std::alloc::Global;
 use std::thread::Threads;
-use trace_player::Tally;
 use word_layout::Shape;
-
-/// What a pool leaves whose processes played a script each.
-#[derive(Drop)]
-pub struct Played {
-    /// The tally of each script.
-    pub tallies: Vec<Tally>,
-    /// The pool as it was closed.
-    pub settled: Settled,
-}
 
 /// Opens a pool of this shape, plays each script by the process of its place, in a thread of its own where one can be
 /// had, and closes the pool. The tallies are those of the one history that closing gives; with more blocks than the

@@ -7,7 +7,8 @@ use Rattle.store_script.specs.declared.quad.Quad.{Quad}
 use Rattle.store_script.specs.Script.{IsWellFormed}
 use Rattle.store_script.specs.Fit.{IsAnswered}
 use Rattle.object_store.specs.Objects.{ObjectView}
-use Rattle.pass_players.specs.Playing.{Course}
+use Rattle.block_pool.specs.Passing.{Passed, Pooled}
+use Rattle.pass_players.specs.Playing.{Course, MayPlay}
 use Rattle.store_player.specs.Playing.{uses_words}
 
 -- the script is well formed, and the blocks of the pool have room for a record
@@ -25,3 +26,8 @@ pub record HasPlaces (script : StoreScript) (slots : List (Option (ObjectView Qu
 pub record IsServed (course : Course) (script : StoreScript) (answers : List Answered) : Type 0 where
   pub answered : IsAnswered course.process script course.entries answers
   pub moved : course.before + 4 * count_by uses_words answers ≤ course.after
+
+-- the pass may play the script: it is of the pool, whose blocks have room for a record, and has begun so few transfers that each call may
+-- begin one more
+abbrev pub MayPlayStore : Pooled → Passed → StoreScript → Type 0
+MayPlayStore = MayPlay Suits (λ script. length script.commands)

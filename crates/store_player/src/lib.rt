@@ -2,14 +2,16 @@
 //!
 //! [`play_store`] plays one script with one pass, while other passes of the pool may be used in other threads. A gate is told of
 //! each call that gets or frees a block, before it. [`StorePlayer`] does so for the calls of [`pass_players`], which play the
-//! scripts of all processes.
+//! scripts of all processes; [`play_stores`] is the one that closes the pool then.
 #![tactic(auto)]
 
+mod all;
 mod answer_list;
 mod calls;
 mod one;
 mod player;
 
+pub use all::{Replied, play_stores};
 pub use answer_list::AnswerList;
 pub use one::play_store;
 pub use player::StorePlayer;

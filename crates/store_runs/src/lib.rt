@@ -5,4 +5,5 @@
 
 mod play;
 
-pub use play::{Replied, play_stores_on_pool};
+pub use play::play_stores_on_pool;
+pub use store_player::Replied;

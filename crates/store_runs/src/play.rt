@@ -5,24 +5,14 @@ ghost use Rattle.store_runs.specs.Playable.{IsPlayable};
 ghost use Rattle.pass_players.specs.Settled.{WasToldOfAll};
 ghost use Rattle.store_runs.specs.Settled.{IsSettledBy};
 
-use block_pool::Settled;
 use pass_players::play_over;
 use pool_io::Gate;
 use pool_model::NoMemory;
 use std::alloc::Global;
 use std::thread::Threads;
-use store_player::{AnswerList, StorePlayer};
+use store_player::{Replied, StorePlayer};
 use store_script::StoreScript;
 use word_layout::Shape;
-
-/// What a pool leaves whose processes played a store script each.
-#[derive(Drop)]
-pub struct Replied {
-    /// The answers to each script.
-    pub answers: Vec<AnswerList>,
-    /// The pool as it was closed.
-    pub settled: Settled,
-}
 
 /// Opens a pool of this shape, plays each script by the process of its place, in a thread of its own where one can be
 /// had, and closes the pool. The answers are those that the one history of the closed pool gives; each command that is
