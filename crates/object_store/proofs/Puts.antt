@@ -20,7 +20,7 @@ use Rattle.object_store.proofs.Known.{written_here, written_there, forgotten_the
 -- ---- writes after a call
 
 pub counted_after : (quantum count before middle after : ℕ) (old between new : Passed) → Counted quantum before middle old between
-    → after ≡ middle + count → new.moves ≡ between.moves + count → CountedWithin (count + 1) (quantum + 1 + count) before after old new
+    → after ≡ middle + count → new.moves ≡ between.moves + count → CountedWithin (count + 1) (quantum + (count + 1)) before after old new
 counted_after quantum count before middle after old between new counted steps moves = record {
   made = counted.moved + 1 + count;
   least = omega arith;
@@ -30,9 +30,9 @@ counted_after quantum count before middle after old between new counted steps mo
 }
 
 -- nothing was written
-pub counted_alone : (quantum count before after : ℕ) (old new : Passed) → Counted quantum before after old new
-    → CountedWithin 1 (quantum + 1 + count) before after old new
-counted_alone quantum count before after old new counted = record {
+pub counted_alone : (quantum before after : ℕ) (old new : Passed) → Counted quantum before after old new
+    → CountedWithin 1 (quantum + 1) before after old new
+counted_alone quantum before after old new counted = record {
   made = counted.moved + 1;
   least = omega arith;
   most = omega (arith, counted.few);

@@ -58,7 +58,7 @@ impl<'a, R: Record + Drop> Store<'a, R> {
         requires young { pass.old.age < most_age }
         requires room { steps.old + pass.old.sizes.quantum + 1 + R.WORDS < 2 ^ 64 }
         ensures pass { SamePass pass.old pass.new }
-        ensures steps { CountedWithin (least_of_put R.WORDS result) (pass.old.sizes.quantum + 1 + R.WORDS)
+        ensures steps { CountedWithin (least_of_put R.WORDS result) (pass.old.sizes.quantum + least_of_put R.WORDS result)
             steps.old steps.new pass.old pass.new }
         ensures entry { Entered (entry_of pass.old.number (answer_of result)) pass.old pass.new }
         ensures allocate { AllocatedFirst (answer_of result) pass.old pass.new }

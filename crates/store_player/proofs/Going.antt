@@ -17,10 +17,10 @@ use Rattle.store_script.proofs.Following.{eqb-sym, kept-present_but}
 use Rattle.block_pool.specs.Passing.{Passed}
 use Rattle.object_store.specs.Calls.{KeepsOthers}
 use Rattle.object_store.specs.Objects.{HoldsWords, ObjectView}
-use Rattle.store_player.specs.Playing.{AreHeld, BlockIs, Does, GoesOn, object_in, quad_words, uses_words}
+use Rattle.store_player.specs.Playing.{AreHeld, BlockIs, Does, GoesOn, TakesSteps, object_in, quad_words, uses_words}
 use Rattle.object_store.specs.Putting.{IsRefused, IsStored}
 use Rattle.pass_players.proofs.Growing.{grows_more}
-use Rattle.store_player.proofs.Playing.{so_far_step, block_behind, grows_still, kept_filled, kept_empty}
+use Rattle.store_player.proofs.Playing.{so_far_step, block_behind, call_steps, grows_still, kept_filled, kept_empty}
 use Rattle.store_player.proofs.Written.{present_written, blocks_written, held_written, apart_written}
 
 -- what a pass holds and knows it does where only its moves differ
@@ -34,7 +34,8 @@ held_still slots old new held known are slot object is =
 
 -- a command that changes nothing is answered
 module _ (command : Command) (answer : Answered) (old new : Passed) (slots : List (Option (ObjectView Quad))) (made : ℕ)
-    (is : new ≡ record old { moves = new.moves }) (moved : old.moves + 4 * cond (uses_words answer) 1 0 ≤ new.moves)
+    (is : new ≡ record old { moves = new.moves })
+    (moved : (quantum : ℕ) → TakesSteps quantum 0 (cond (uses_words answer) 1 0) old.moves new.moves)
     (says : (walk : Walk) (refused : List Bool)
     → option_map (λ object. object.value) (object_in slots (slot_of command)) ≡ option_map (λ before. before.value) (kept walk (key_of command))
     → after refused walk command ≡ answering walk answer)
@@ -50,13 +51,17 @@ module _ (command : Command) (answer : Answered) (old new : Passed) (slots : Lis
       (omega arith) refl (omega arith) (omega arith) refl p.present
       (held_still slots old new (ap (λ (q : Passed). q.held) is) (ap (λ (q : Passed). q.known) is) p.held) p.apart
       (λ key slot at. block_behind p.blocks [] (kept p.walk key) (object_in slots slot) (p.block_of key slot at))
-      (grows_still p.entries start old new (is ∙ sym (ap (λ (q : Passed). record old { moves = new.moves; known = q.known }) is)) p.grown) moved
+      (grows_still p.entries start old new (is ∙ sym (ap (λ (q : Passed). record old { moves = new.moves; known = q.known }) is)) p.grown) (moved start.sizes.quantum)
+
+-- no step was made
+no_steps : (moves quantum : ℕ) → TakesSteps quantum 0 0 moves moves
+no_steps moves quantum = record { some = omega arith; few = omega arith }
 
 -- a put of a present key
 pub goes_there : (key slot : ℕ) (value : Quad) (pass : Passed) (slots : List (Option (ObjectView Quad))) (made : ℕ) (object : ObjectView Quad)
     → object_in slots slot ≡ Some object → GoesOn (Put key slot value) There pass pass slots slots made made
 goes_there key slot value pass slots made object has =
-    goes_still (Put key slot value) There pass pass slots made refl (omega arith)
+    goes_still (Put key slot value) There pass pass slots made refl (no_steps pass.moves)
     (λ walk refused same. ap (after_put refused walk key value) (kept_filled (object_in slots slot) (kept walk key) object same has).1)
     (λ i walk refused blocks same. ap (calls_of_put i refused blocks walk) (kept_filled (object_in slots slot) (kept walk key) object same has).1)
 
@@ -64,21 +69,21 @@ goes_there key slot value pass slots made object has =
 pub goes_get_absent : (key slot : ℕ) (pass : Passed) (slots : List (Option (ObjectView Quad))) (made : ℕ)
     → object_in slots slot ≡ None → GoesOn (Get key slot) Absent pass pass slots slots made made
 goes_get_absent key slot pass slots made has =
-    goes_still (Get key slot) Absent pass pass slots made refl (omega arith)
+    goes_still (Get key slot) Absent pass pass slots made refl (no_steps pass.moves)
     (λ walk refused same. ap (after_get walk key) (kept_empty (object_in slots slot) (kept walk key) same has))
     (λ i walk refused blocks same. refl)
 
 pub goes_set_absent : (key slot index number : ℕ) (pass : Passed) (slots : List (Option (ObjectView Quad))) (made : ℕ)
     → object_in slots slot ≡ None → GoesOn (Set key slot index number) Absent pass pass slots slots made made
 goes_set_absent key slot index number pass slots made has =
-    goes_still (Set key slot index number) Absent pass pass slots made refl (omega arith)
+    goes_still (Set key slot index number) Absent pass pass slots made refl (no_steps pass.moves)
     (λ walk refused same. ap (after_set walk key index number) (kept_empty (object_in slots slot) (kept walk key) same has))
     (λ i walk refused blocks same. refl)
 
 pub goes_del_absent : (key slot : ℕ) (pass : Passed) (slots : List (Option (ObjectView Quad))) (made : ℕ)
     → object_in slots slot ≡ None → GoesOn (Del key slot) Absent pass pass slots slots made made
 goes_del_absent key slot pass slots made has =
-    goes_still (Del key slot) Absent pass pass slots made refl (omega arith)
+    goes_still (Del key slot) Absent pass pass slots made refl (no_steps pass.moves)
     (λ walk refused same. ap (after_del walk key) (kept_empty (object_in slots slot) (kept walk key) same has))
     (λ i walk refused blocks same. ap (calls_of_del i blocks) (kept_empty (object_in slots slot) (kept walk key) same has))
 
@@ -88,7 +93,8 @@ pub goes_value : (key slot : ℕ) (old new : Passed) (slots : List (Option (Obje
     → GoesOn (Get key slot) (Value key object.value) old new slots slots made made
 goes_value key slot old new slots made object has is =
     let moves : new.moves ≡ old.moves + 4 = ap (λ (q : Passed). q.moves) is in
-    goes_still (Get key slot) (Value key object.value) old new slots made (is ∙ sym (ap (λ (n : ℕ). record old { moves = n }) moves)) (omega arith)
+    goes_still (Get key slot) (Value key object.value) old new slots made (is ∙ sym (ap (λ (n : ℕ). record old { moves = n }) moves))
+    (λ quantum. record { some = omega (arith, moves); few = omega (arith, moves) })
     (λ walk refused same.
     let before = kept_filled (object_in slots slot) (kept walk key) object same has in
     ap (after_get walk key) before.1 ∙ ap (λ v. answering walk (Value key v)) (sym before.2))
@@ -128,7 +134,7 @@ goes_full key slot value old new slots made given has call refused keys done sta
     ∙ ap (λ b. (if b then entry.Dry start.number else entry.Got start.number (slice_index (p.blocks ++ (0 ∷ [] ++ others)) p.walk.puts)) ∷ []) (dry more))
     refl refl (omega arith) refl refl p.present (held_still slots old new refused.held refused.known p.held) p.apart
     (λ key slot at. block_behind p.blocks (0 ∷ []) (kept p.walk key) (object_in slots slot) (p.block_of key slot at))
-    (grows_more p.entries (entry.Dry start.number) start old new p.grown made_it.made) (omega (arith, call.moved))
+    (grows_more p.entries (entry.Dry start.number) start old new p.grown made_it.made) (call_steps 0 start old new p.grown.same.sizes call refl)
 
 -- a put that is stored
 pub goes_got : (key slot : ℕ) (value : Quad) (old new : Passed) (slots : List (Option (ObjectView Quad))) (made : ℕ) (object : ObjectView Quad)
@@ -158,7 +164,7 @@ goes_got key slot value old new slots made object within has call stored keys do
     (blocks_written slots slot (Some object) within keys key (Some found) p.walk (with_put p.walk key value) p.blocks (block ∷ []) placed (λ q. refl)
     (λ others. ap (λ bs. slice_index bs p.walk.puts) (append_assoc p.blocks (block ∷ []) others) ∙ mine others)
     (λ key slot at. block_behind p.blocks (block ∷ []) (kept p.walk key) (object_in slots slot) (p.block_of key slot at)))
-    (grows_more p.entries (entry.Got start.number block) start old new p.grown made_it.made) (omega (arith, call.moved))
+    (grows_more p.entries (entry.Got start.number block) start old new p.grown made_it.made) (call_steps 1 start old new p.grown.same.sizes call refl)
 
 -- a set keeps other numbers for its key
 changed_keeps : (walk : Walk) (key : ℕ) (next : Kept) (q : ℕ)
@@ -201,7 +207,7 @@ goes_changed key slot index number old new slots made object given within has wr
     (subst (λ (k : Option Kept). BlockIs p.blocks k (object_in slots slot)) before.1 (p.block_of key slot placed))) others ∙ sym block)
     (λ key slot at. block_behind p.blocks [] (kept p.walk key) (object_in slots slot) (p.block_of key slot at)))
     (grows_still p.entries start old new (is ∙ ap (λ (n : ℕ). record old { moves = n; known = new.known }) (sym moves)) p.grown)
-    (omega arith)
+    (record { some = omega (arith, moves); few = omega (arith, moves) })
 
 -- a del keeps nothing for its key
 removed_keeps : (walk : Walk) (key q : ℕ) → lookup (eqb q) (present_but walk key) ≡ cond (eqb q key) None (kept walk q)
@@ -228,4 +234,4 @@ goes_deleted key slot old new slots made object within has call keeps keys done 
     (apart_written slots slot None within (λ one other place e differs at same. none-some one e) p.apart)
     (blocks_written slots slot None within keys key None p.walk later p.blocks [] placed (removed_keeps p.walk key) tt
     (λ key slot at. block_behind p.blocks [] (kept p.walk key) (object_in slots slot) (p.block_of key slot at)))
-    (grows_more p.entries (entry.Back start.number object.block) start old new p.grown made_it.made) (omega (arith, call.moved))
+    (grows_more p.entries (entry.Back start.number object.block) start old new p.grown made_it.made) (call_steps 1 start old new p.grown.same.sizes call refl)

@@ -12,7 +12,7 @@ use Rattle.store_script.specs.Script.{place_of}
 use Rattle.block_pool.specs.Passing.{Passed}
 use Rattle.pass_players.specs.Growing.{Grows}
 use Rattle.object_store.specs.Objects.{ObjectView}
-use Rattle.store_player.specs.Playing.{AreApart, AreHeld, BlockIs, HasPresent, PlaysSoFar, object_in, uses_words}
+use Rattle.store_player.specs.Playing.{AreApart, AreHeld, BlockIs, Does, HasPresent, PlaysSoFar, TakesSteps, object_in, uses_words}
 
 -- ---- one command more
 
@@ -30,10 +30,17 @@ walked-push : (refused : List Bool) (done : List Command) (command : Command)
     → walked refused (done ++ command ∷ []) ≡ after refused (walked refused done) command
 walked-push refused done command = fold-append (after refused) begun done (command ∷ [])
 
-used_more : (answers : List Answered) (answer : Answered) (start old new : ℕ) → start + 4 * count_by uses_words answers ≤ old
-    → old + 4 * cond (uses_words answer) 1 0 ≤ new → start + 4 * count_by uses_words (answers ++ answer ∷ []) ≤ new
-used_more answers answer start old new before more =
-    omega (arith, sum_by-append (λ a. cond (uses_words a) 1 0) answers (answer ∷ []))
+-- the steps of some commands, and those of one more
+steps_more : (quantum : ℕ) (entries es : List Entry) (answers : List Answered) (answer : Answered) (start old new : ℕ)
+    → TakesSteps quantum (length entries) (count_by uses_words answers) start old
+    → TakesSteps quantum (length es) (cond (uses_words answer) 1 0) old new
+    → TakesSteps quantum (length (entries ++ es)) (count_by uses_words (answers ++ answer ∷ [])) start new
+steps_more quantum entries es answers answer start old new before more =
+    let used = sum_by-append (λ a. cond (uses_words a) 1 0) answers (answer ∷ []) in
+    record {
+      some = omega (arith, used, before.some, more.some);
+      few = rw (length-append entries es) (omega (arith, used, before.few, more.few));
+    }
 
 -- what a block is known as, it is behind more blocks
 pub block_behind : (blocks more : List ℕ) (k : Option Kept) (o : Option (ObjectView Quad)) → BlockIs blocks k o → BlockIs (blocks ++ more) k o
@@ -51,7 +58,7 @@ module _ (keys : List ℕ) (done : List Command) (command : Command) (start old 
       → walk.answers ≡ p.walk.answers ++ answer ∷ []
       → HasPresent keys walk later → AreHeld later new → AreApart later
       → ((key slot : ℕ) → place_of key keys ≡ Some slot → BlockIs (p.blocks ++ bs) (kept walk key) (object_in later slot))
-      → Grows (p.entries ++ es) start new → old.moves + 4 * cond (uses_words answer) 1 0 ≤ new.moves
+      → Grows (p.entries ++ es) start new → TakesSteps start.sizes.quantum (length es) (cond (uses_words answer) 1 0) old.moves new.moves
       → PlaysSoFar keys (done ++ command ∷ []) start new later (answers ++ answer ∷ []) number
   so_far_step p walk_is calls_are puts same one count said present held apart block_of grown moved = record {
     refused = p.refused ++ rs;
@@ -79,10 +86,17 @@ module _ (keys : List ℕ) (done : List Command) (command : Command) (start old 
     apart = apart;
     block_of = block_of;
     grown = grown;
-    moved = used_more answers answer start.moves old.moves new.moves p.moved moved;
+    moved = steps_more start.sizes.quantum p.entries es answers answer start.moves old.moves new.moves p.moved moved;
     count = count ∙ ap (λ n. n + length es) p.count ∙ sym (length-append p.entries es);
     few = omega (arith, one, p.few, length-append p.entries es, length-append done (command ∷ []));
   }
+
+-- one call, after which nothing or one answer more used words
+pub call_steps : {entry : Entry} {least : ℕ} (used : ℕ) (start old new : Passed) → old.sizes ≡ start.sizes → Does entry least old new
+    → least ≡ 1 + 4 * used → TakesSteps start.sizes.quantum 1 used old.moves new.moves
+call_steps used start old new same call is =
+    let quantum : old.sizes.quantum ≡ start.sizes.quantum = ap (λ sizes. sizes.quantum) same in
+    record { some = omega (arith, is, call.some); few = omega (arith, is, quantum, call.few) }
 
 -- ---- how the pass grows
 

@@ -37,7 +37,7 @@ so_far_none keys pass n = record {
   block_of = λ key slot at. tt;
   apart = λ a b one other has also same. absurd (none-some one (sym (nothing_in n a) ∙ has));
   grown = grows_none pass;
-  moved = omega arith;
+  moved = record { some = omega arith; few = omega arith };
   count = refl;
   few = omega arith;
 }

@@ -9,7 +9,7 @@ use Rattle.store_script.specs.Fit.{IsAnswered}
 use Rattle.object_store.specs.Objects.{ObjectView}
 use Rattle.block_pool.specs.Passing.{Passed, Pooled}
 use Rattle.pass_players.specs.Playing.{Course, MayPlay}
-use Rattle.store_player.specs.Playing.{uses_words}
+use Rattle.store_player.specs.Playing.{TakesSteps, uses_words}
 
 -- the script is well formed, and the blocks of the pool have room for a record
 pub record Suits (sizes : Sizes) (script : StoreScript) : Type 0 where
@@ -21,11 +21,11 @@ pub record HasPlaces (script : StoreScript) (slots : List (Option (ObjectView Qu
   pub empty : slots ≡ replicate script.slots None
   pub places : length answers ≡ length script.commands
 
--- the entries of the course fit the script, with refusals that they determine; the answers are those with these; and each command that
--- used words made four steps at least
+-- the entries of the course fit the script, with refusals that they determine; the answers are those with these; each command that used
+-- words made four steps at least, and each call and each such command made few
 pub record IsServed (course : Course) (script : StoreScript) (answers : List Answered) : Type 0 where
   pub answered : IsAnswered course.process script course.entries answers
-  pub moved : course.before + 4 * count_by uses_words answers ≤ course.after
+  pub moved : TakesSteps course.quantum (length course.entries) (count_by uses_words answers) course.before course.after
 
 -- the pass may play the script: it is of the pool, whose blocks have room for a record, and has begun so few transfers that each call may
 -- begin one more

@@ -29,10 +29,17 @@ uses_words Absent = false
 uses_words There = false
 uses_words (Value key value) = true
 
--- one call made this entry alone, and so many steps at least
+-- one call made this entry alone, so many steps at least, and at most a quantum of others
 pub record Does (entry : Entry) (least : ℕ) (old new : Passed) : Type 0 where
   pub made : Calls entry old new
-  pub moved : old.moves + least ≤ new.moves
+  pub some : old.moves + least ≤ new.moves
+  pub few : new.moves ≤ old.moves + old.sizes.quantum + least
+
+-- in so many calls, and for so many answers for which the words of a block were used, a process made these steps: four at least for each
+-- such answer; and at most a quantum and one for each call, and eight for each such answer
+pub record TakesSteps (quantum calls used before after : ℕ) : Type 0 where
+  pub some : before + 4 * used ≤ after
+  pub few : after ≤ before + calls * (quantum + 1) + 8 * used
 
 -- each key has its slot: that has an object with the numbers that are kept for the key, or else nothing
 abbrev pub HasPresent : List ℕ → Walk → List (Option (ObjectView Quad)) → Type 0
@@ -50,7 +57,8 @@ AreApart slots = (a b : ℕ) (one other : ObjectView Quad) → object_in slots a
     → one.block ≡ other.block → a ≡ b
 
 -- the pass played the script: its own list grew by entries that fit the script, with refusals that they determine; the answers are those
--- to the script with these; the slots have the objects of the present keys; and each command that used words made four steps at least
+-- to the script with these; the slots have the objects of the present keys; and each command that used words made four steps at least,
+-- and each call and each such command made few
 pub record IsStorePlayed (script : StoreScript) (old new : Passed) (slots : List (Option (ObjectView Quad))) (answers : List Answered)
     : Type 0 where
   pub entries : List Entry
@@ -59,7 +67,7 @@ pub record IsStorePlayed (script : StoreScript) (old new : Passed) (slots : List
   pub present : HasPresent (keys_of script.commands) (walked answered.refused script.commands) slots
   pub held : AreHeld slots new
   pub apart : AreApart slots
-  pub moved : old.moves + 4 * count_by uses_words answers ≤ new.moves
+  pub moved : TakesSteps old.sizes.quantum (length entries) (count_by uses_words answers) old.moves new.moves
 
 -- the block of a put is the one that its object has
 abbrev pub BlockIs : List ℕ → Option Kept → Option (ObjectView Quad) → Type 0
@@ -84,7 +92,7 @@ pub record PlaysSoFar (keys : List ℕ) (done : List Command) (start pass : Pass
   pub block_of : (key slot : ℕ) → place_of key keys ≡ Some slot → BlockIs blocks (kept walk key) (object_in slots slot)
   pub apart : AreApart slots
   pub grown : Grows entries start pass
-  pub moved : start.moves + 4 * count_by uses_words answers ≤ pass.moves
+  pub moved : TakesSteps start.sizes.quantum (length entries) (count_by uses_words answers) start.moves pass.moves
   pub count : made ≡ length entries
   pub few : length entries ≤ length done
 

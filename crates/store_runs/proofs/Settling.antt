@@ -17,5 +17,5 @@ settles sizes scripts lists settled all = record {
   one_each = all.one_each;
   each = λ k script answers at answers_at.
       let its = all.each k script answers at answers_at in
-      record { answered = its.fitted.answered; moves = its.moves; made = its.made; some = omega (arith, its.fitted.moved) };
+      record { answered = its.fitted.answered; moves = its.moves; made = its.made; took = its.fitted.moved };
 }

@@ -8,15 +8,16 @@ use Rattle.block_pool.specs.Closing.{Settlement}
 use Rattle.store_script.specs.declared.command.StoreScript.{StoreScript}
 use Rattle.store_script.specs.declared.answered.Answered.{Answered}
 use Rattle.store_script.specs.Fit.{IsAnswered}
-use Rattle.store_player.specs.Playing.{uses_words}
+use Rattle.store_player.specs.Playing.{TakesSteps, uses_words}
 
 -- the entries of process k in the history fit its script, with refusals that they determine; the answers are those with these; and the
--- process made four steps at least for each answer for which the words of a block were used
+-- process made four steps at least for each answer for which the words of a block were used, and at most eight, besides a quantum and one
+-- for each of its calls
 pub record HasAnswers (settled : Settlement) (k : ℕ) (script : StoreScript) (answers : List Answered) : Type 0 where
   pub answered : IsAnswered k script (own settled.history k) answers
   pub moves : ℕ
   pub made : slice_get settled.moves k ≡ Some moves
-  pub some : 4 * count_by uses_words answers ≤ moves
+  pub took : TakesSteps settled.sizes.quantum (length (own settled.history k)) (count_by uses_words answers) 0 moves
 
 -- the pool had this shape and was closed with one legal history, which has the answers to each script
 pub record IsSettledBy (sizes : Sizes) (scripts : List StoreScript) (lists : List (List Answered)) (settled : Settlement) : Type 0 where

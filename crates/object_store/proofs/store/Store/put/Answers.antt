@@ -18,4 +18,4 @@ returns-in-Got-clause-put g c =
     (rw (c.WORDS.ensures, c.to_words.ensures) at c.write_words.ensures.pass) c.of-value.ensures
 
 pub returns-in-Dry-clause-steps : goal.returns-in-Dry-clause-steps
-returns-in-Dry-clause-steps g c = counted_alone _ _ _ _ _ _ c.in-Dry.ensures.steps
+returns-in-Dry-clause-steps g c = counted_alone _ _ _ _ _ c.in-Dry.ensures.steps
