@@ -1,39 +1,21 @@
 -- Players that are gathered, one more.
-use Rattle.std.proofs.Common.{◌≡◌, ℕ, ◌<◌, ⊎_elim, Some, List, [], ◌∷◌, ◌++◌, length, map, get_or, refl, sym, ap, ◌∙◌, subst, arith, append_assoc, append-nil, length-append}
+use Rattle.std.proofs.Common.{◌≡◌, ◌<◌, ⊎_elim, Some, List, [], ◌∷◌, ◌++◌, length}
+use Rattle.std.proofs.Common.{map, get_or, sym, ap, ◌∙◌, subst, append_assoc}
 use Rattle.std.specs.Prelude.{slice_get}
-use Rattle.std.proofs.lemmas.List.{length-map, map-append}
-use Rattle.std.proofs.lemmas.Option.{get_or_from_slice_get, slice_get_within}
+use Rattle.std.proofs.lemmas.List.{map-append}
+use Rattle.std.proofs.lemmas.Option.{get_or_from_slice_get}
 use Rattle.pool_model.proofs.Places.{slice_get-push_cases}
 use Rattle.block_pool.specs.Passing.{Passed}
 use Rattle.pass_players.specs.declared.players.PassPlayer.{PassPlayer}
-use Rattle.pass_players.specs.Gathered.{AreGathered, AreReady}
+use Rattle.pass_players.specs.Gathered.{AreReady}
 
 -- the passes but the rest have their players
-pub record Gathering {S P : Type 0} (is_ready : S → P → Type 0) (passes rest : List Passed) (scripts : List S) (players : List (PassPlayer P))
-    : Type 0 where
+pub record Gathering {S P : Type 0} (is_ready : S → P → Type 0) (passes rest : List Passed) (scripts : List S)
+    (players : List (PassPlayer P)) : Type 0 where
   pub passes_are : map (λ one. one.pass) players ++ rest ≡ passes
   pub ready : AreReady is_ready scripts players
 
 module _ {S P : Type 0} (is_ready : S → P → Type 0) (passes : List Passed) (scripts : List S) where
-  pub gathering_none : Gathering is_ready passes passes scripts []
-  gathering_none = record {
-    passes_are = refl;
-    ready = λ k one script at. absurd (omega (arith, slice_get_within [] k one at));
-  }
-
-  -- there is a script for the next pass
-  pub next_within : (rest next : List Passed) (pass : Passed) (players : List (PassPlayer P)) → Gathering is_ready passes rest scripts players
-      → length passes ≡ length scripts → rest ≡ pass ∷ next → length players < length scripts
-  next_within rest next pass players g same is =
-      omega (
-        arith,
-        same,
-        ap length g.passes_are,
-        ap length is,
-        length-append (map (λ (one : PassPlayer P). one.pass) players) rest,
-        length-map players (λ (one : PassPlayer P). one.pass),
-      )
-
   -- one more pass has its player
   pub gathering_more : (rest next : List Passed) (pass : Passed) (players : List (PassPlayer P)) (one : PassPlayer P) (d : S)
       → Gathering is_ready passes rest scripts players → rest ≡ pass ∷ next → one.pass ≡ pass
@@ -51,15 +33,4 @@ module _ {S P : Type 0} (is_ready : S → P → Type 0) (passes : List Passed) (
             let found = ap (λ n. get_or scripts n d) (sym last.0) ∙ get_or_from_slice_get scripts k script d script_at in
             subst (λ (p : PassPlayer P). is_ready script p.player) last.1 (subst (λ (s : S). is_ready s one.player) found its_script))
             (slice_get-push_cases players one other k at);
-      }
-
-  pub gathered : (rest : List Passed) (players : List (PassPlayer P)) → Gathering is_ready passes rest scripts players
-      → length passes ≡ length scripts → rest ≡ [] → AreGathered is_ready passes scripts players
-  gathered rest players g same none =
-      let all : map (λ (one : PassPlayer P). one.pass) players ≡ passes
-      = sym (append-nil _) ∙ ap (λ rest. map (λ (one : PassPlayer P). one.pass) players ++ rest) (sym none) ∙ g.passes_are in
-      record {
-        passes_are = all;
-        many = sym (length-map players (λ (one : PassPlayer P). one.pass)) ∙ ap length all ∙ same;
-        ready = g.ready;
       }

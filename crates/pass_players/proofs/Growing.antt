@@ -1,5 +1,6 @@
 -- What a pass has after one call more.
-use Rattle.std.proofs.Common.{◌≡◌, ℕ, ◌+◌, ◌-◌, ◌≤◌, ◌∙◌, List, [], ◌∷◌, ◌++◌, length, take, refl, sym, ap, arith, append_assoc, append-nil, length-append}
+use Rattle.std.proofs.Common.{◌≡◌, ℕ, ◌-◌, ◌≤◌, ◌∙◌, List, [], ◌∷◌}
+use Rattle.std.proofs.Common.{◌++◌, length, take, refl, sym, ap, arith, append_assoc, append-nil, length-append}
 use Rattle.std.proofs.Math.Seq.{take-length}
 use Rattle.std.proofs.lemmas.List.{take-append-le, take-take, length-take}
 use Rattle.pool_model.specs.declared.entry.Entry.{Entry}
@@ -31,7 +32,8 @@ begins_so first second third past entries one two ends =
     ∙ ap (take (length first)) two ∙ one
 
 -- one call more
-pub grows_more : (entries : List Entry) (entry : Entry) (start old new : Passed) → Grows entries start old → Calls entry old new → Grows (entries ++ entry ∷ []) start new
+pub grows_more : (entries : List Entry) (entry : Entry) (start old new : Passed) → Grows entries start old → Calls entry old new
+    → Grows (entries ++ entry ∷ []) start new
 grows_more entries entry start old new grown call = record {
   same = record {
     table = call.same.table ∙ grown.same.table;
@@ -39,7 +41,9 @@ grows_more entries entry start old new grown call = record {
     number = call.same.number ∙ grown.same.number;
   };
   own = call.entered.own ∙ ap (λ es. es ++ entry ∷ []) grown.own ∙ append_assoc start.own entries (entry ∷ []);
-  seen = begins_so start.seen old.seen new.seen call.entered.seen.past (entry ∷ []) grown.seen call.entered.seen.begins call.entered.seen.ends;
+  seen =
+      let more = call.entered.seen in
+      begins_so start.seen old.seen new.seen more.past (entry ∷ []) grown.seen more.begins more.ends;
   age = omega (arith, length-append entries (entry ∷ []), grown.age, call.age);
 }
 

@@ -1,5 +1,6 @@
 -- Players that have played, and what is left of them.
-use Rattle.std.proofs.Common.{◌≡◌, ℕ, ◌<◌, Option, Some, None, List, [], ◌∷◌, ◌++◌, length, map, get_or, take, refl, sym, ap, ◌∙◌, subst, arith, append_assoc, append-nil, length-append}
+use Rattle.std.proofs.Common.{◌≡◌, ℕ, ◌<◌, Option, Some, None, List, ◌∷◌, ◌++◌, length}
+use Rattle.std.proofs.Common.{map, get_or, take, refl, sym, ap, ◌∙◌, subst, arith, length-append}
 use Rattle.std.specs.Prelude.{option_map, slice_get}
 use Rattle.std.proofs.lemmas.List.{length-map, take-append-le, take_all}
 use Rattle.std.proofs.lemmas.Option.{same_Some, none-some, slice_get-map, slice_get-get_or, slice_get_within, get_or_from_slice_get}
@@ -11,7 +12,8 @@ use Rattle.pass_players.specs.Playing.{Course, MayPlay, PlayedOnce}
 use Rattle.pass_players.specs.Together.{PlayedTogether}
 
 -- the item behind what a list of mapped items has at a place
-mapped_at : {A B : Type 0} (f : A → B) (xs : List A) (k : ℕ) (y : B) → slice_get (map f xs) k ≡ Some y → (x : A) × (slice_get xs k ≡ Some x) × (f x ≡ y)
+mapped_at : {A B : Type 0} (f : A → B) (xs : List A) (k : ℕ) (y : B) → slice_get (map f xs) k ≡ Some y
+    → (x : A) × (slice_get xs k ≡ Some x) × (f x ≡ y)
 mapped_at {A} {B} f xs k y at = go (slice_get xs k) refl
   where
     go : (o : Option A) → slice_get xs k ≡ o → (x : A) × (slice_get xs k ≡ Some x) × (f x ≡ y)
@@ -29,12 +31,16 @@ can_play_all {P = P} suits most_calls is_ready pool passes scripts players g may
     let at : slice_get players k ≡ Some one = slice_get-get_or players k d within in
     let its_pass : slice_get passes k ≡ Some one.pass
     = ap (λ all. slice_get all k) (sym g.passes_are) ∙ slice_get-map pass_of players k ∙ ap (option_map pass_of) at in
-    record { may = λ script script_at. may k one.pass script its_pass script_at; ready = λ script script_at. g.ready k one script at script_at }
+    record {
+      may = λ script script_at. may k one.pass script its_pass script_at;
+      ready = λ script script_at. g.ready k one script at script_at;
+    }
 
 module _ {S P O : Type 0} (fits : Course → S → O → Type 0) (outcome : P → O) (told : ℕ → ℕ → Type 0) where
   -- players that have all played
-  pub played_together : (is_ready : S → P → Type 0) (before after : List Passed) (scripts : List S) (outcomes : List O) (old new : List (PassPlayer P))
-      → AreGathered is_ready before scripts old → length new ≡ length old → HavePlayed fits outcome told scripts old new
+  pub played_together : (is_ready : S → P → Type 0) (before after : List Passed) (scripts : List S) (outcomes : List O)
+      (old new : List (PassPlayer P)) → AreGathered is_ready before scripts old → length new ≡ length old
+      → HavePlayed fits outcome told scripts old new
       → after ≡ map (λ one. one.pass) new → outcomes ≡ map (λ one. outcome one.player) new
       → PlayedTogether fits told before scripts after outcomes
   played_together is_ready before after scripts outcomes old new g same all passes leaves =
@@ -47,7 +53,8 @@ module _ {S P O : Type 0} (fits : Course → S → O → Type 0) (outcome : P �
             let begun = mapped_at pass_of old k first (ap (λ list. slice_get list k) g.passes_are ∙ at_first) in
             let ended = mapped_at pass_of new k last (ap (λ list. slice_get list k) (sym passes) ∙ at_last) in
             let its_outcome : outcome ended.0.player ≡ left = same_Some (outcome ended.0.player) left
-            (sym (slice_get-map outcome_of new k ∙ ap (option_map outcome_of) ended.1) ∙ ap (λ list. slice_get list k) (sym leaves) ∙ at_left) in
+            (sym (slice_get-map outcome_of new k ∙ ap (option_map outcome_of) ended.1) ∙ ap (λ list. slice_get list k) (sym leaves)
+            ∙ at_left) in
             subst (λ (x : O). PlayedOnce fits told script first last x) its_outcome
             (subst (λ (x : Passed). PlayedOnce fits told script first x (outcome ended.0.player)) ended.2
             (subst (λ (x : Passed). PlayedOnce fits told script x ended.0.pass (outcome ended.0.player)) begun.2
@@ -57,51 +64,24 @@ module _ {S P O : Type 0} (fits : Course → S → O → Type 0) (outcome : P �
       here : (k : ℕ) (one other : PassPlayer P) (script : S) → slice_get old k ≡ Some one → slice_get new k ≡ Some other
           → slice_get scripts k ≡ Some script → PlayedOnce fits told script one.pass other.pass (outcome other.player)
       here k one other script at ends script_at =
-          subst (λ (x : PassPlayer P). PlayedOnce fits told script x.pass other.pass (outcome other.player)) (get_or_from_slice_get old k one one at)
+          subst (λ (x : PassPlayer P). PlayedOnce fits told script x.pass other.pass (outcome other.player))
+          (get_or_from_slice_get old k one one at)
           (subst (λ (x : PassPlayer P). PlayedOnce fits told script (get_or old k one).pass x.pass (outcome x.player))
           (get_or_from_slice_get new k other one ends) (all k one (slice_get_within old k one at) script script_at))
 
 -- what a list that was lent as a slice has once as many items were written to it
-pub written_back : {P : Type 0} (count : ℕ) (new rest old : List (PassPlayer P)) → count ≡ length old → length new ≡ length old → take count (new ++ rest) ≡ new
+pub written_back : {P : Type 0} (count : ℕ) (new rest old : List (PassPlayer P)) → count ≡ length old → length new ≡ length old
+    → take count (new ++ rest) ≡ new
 written_back count new rest old all same = take-append-le count new rest (omega arith) ∙ take_all count new (omega arith)
 
 -- ---- parting
 
--- the players but the rest were parted
-pub record Parting {P O : Type 0} (outcome : P → O) (players rest : List (PassPlayer P)) (passes : List Passed) (outcomes : List O) : Type 0 where
-  pub passes_are : passes ++ map (λ one. one.pass) rest ≡ map (λ one. one.pass) players
-  pub outcomes_are : outcomes ++ map (λ one. outcome one.player) rest ≡ map (λ one. outcome one.player) players
+-- of the items but the rest something was put into a list
+pub record MappedSoFar {A B : Type 0} (f : A → B) (all rest : List A) (done : List B) : Type 0 where
+  pub so_far : done ++ map f rest ≡ map f all
 
-module _ {P O : Type 0} (outcome : P → O) (players : List (PassPlayer P)) where
-  pub parting_none : (passes : List Passed) (outcomes : List O) → passes ≡ [] → outcomes ≡ [] → Parting outcome players players passes outcomes
-  parting_none passes outcomes none no_outcome = record {
-    passes_are = ap (λ xs. xs ++ map (λ (one : PassPlayer P). one.pass) players) none;
-    outcomes_are = ap (λ xs. xs ++ map (λ (one : PassPlayer P). outcome one.player) players) no_outcome;
-  }
-
-  pub parting_more : (rest next : List (PassPlayer P)) (one : PassPlayer P) (passes : List Passed) (outcomes : List O)
-      → Parting outcome players rest passes outcomes → rest ≡ one ∷ next
-      → Parting outcome players next (passes ++ one.pass ∷ []) (outcomes ++ outcome one.player ∷ [])
-  parting_more rest next one passes outcomes p is = record {
-    passes_are = append_assoc passes (one.pass ∷ []) (map (λ (q : PassPlayer P). q.pass) next)
-        ∙ ap (λ all. passes ++ map (λ (q : PassPlayer P). q.pass) all) (sym is) ∙ p.passes_are;
-    outcomes_are = append_assoc outcomes (outcome one.player ∷ []) (map (λ (q : PassPlayer P). outcome q.player) next)
-        ∙ ap (λ all. outcomes ++ map (λ (q : PassPlayer P). outcome q.player) all) (sym is) ∙ p.outcomes_are;
-  }
-
-  -- fewer were parted than there are
-  pub parted_few : (rest next : List (PassPlayer P)) (one : PassPlayer P) (passes : List Passed) (outcomes : List O)
-      → Parting outcome players rest passes outcomes → rest ≡ one ∷ next → (length passes < length players) × (length outcomes < length players)
-  parted_few rest next one passes outcomes p is =
-      let pass_of : PassPlayer P → Passed = λ q. q.pass in
-      let outcome_of : PassPlayer P → O = λ q. outcome q.player in (
-        omega (arith, ap length is, ap length p.passes_are, length-append passes (map pass_of rest), length-map rest pass_of, length-map players pass_of),
-        omega (arith, ap length is, ap length p.outcomes_are, length-append outcomes (map outcome_of rest), length-map rest outcome_of, length-map players outcome_of),
-      )
-
-  pub parted : (rest : List (PassPlayer P)) (passes : List Passed) (outcomes : List O) → Parting outcome players rest passes outcomes → rest ≡ []
-      → (passes ≡ map (λ one. one.pass) players) × (outcomes ≡ map (λ one. outcome one.player) players)
-  parted rest passes outcomes p none = (
-    sym (append-nil passes) ∙ ap (λ all. passes ++ map (λ (q : PassPlayer P). q.pass) all) (sym none) ∙ p.passes_are,
-    sym (append-nil outcomes) ∙ ap (λ all. outcomes ++ map (λ (q : PassPlayer P). outcome q.player) all) (sym none) ∙ p.outcomes_are,
-  )
+-- it was put of fewer than there are
+pub mapped_few : {A B : Type 0} (f : A → B) (all rest next : List A) (one : A) (done : List B) → MappedSoFar f all rest done
+    → rest ≡ one ∷ next → length done < length all
+mapped_few f all rest next one done p is =
+    omega (arith, ap length is, ap length p.so_far, length-append done (map f rest), length-map rest f, length-map all f)

@@ -11,20 +11,21 @@ AreReady {S} {P} is_ready scripts players = (k : ℕ) (one : PassPlayer P) (scri
     → slice_get scripts k ≡ Some script → is_ready script one.player
 
 -- there is a player for each pass, which is ready for the script of the same place
-pub record AreGathered {S P : Type 0} (is_ready : S → P → Type 0) (passes : List Passed) (scripts : List S) (players : List (PassPlayer P)) : Type 0 where
+pub record AreGathered {S P : Type 0} (is_ready : S → P → Type 0) (passes : List Passed) (scripts : List S)
+    (players : List (PassPlayer P)) : Type 0 where
   pub passes_are : map (λ one. one.pass) players ≡ passes
   pub many : length players ≡ length scripts
   pub ready : AreReady is_ready scripts players
 
 -- a player may play the script of this place
-pub record CanPlayAt {S P : Type 0} (suits : Sizes → S → Type 0) (most_calls : S → ℕ) (is_ready : S → P → Type 0) (pool : Pooled) (scripts : List S)
-    (k : ℕ) (one : PassPlayer P) : Type 0 where
+pub record CanPlayAt {S P : Type 0} (suits : Sizes → S → Type 0) (most_calls : S → ℕ) (is_ready : S → P → Type 0) (pool : Pooled)
+    (scripts : List S) (k : ℕ) (one : PassPlayer P) : Type 0 where
   pub may : (script : S) → slice_get scripts k ≡ Some script → MayPlay suits most_calls pool one.pass script
   pub ready : (script : S) → slice_get scripts k ≡ Some script → is_ready script one.player
 
 -- a player played the script of this place
-abbrev pub HasPlayedAt : {S P O : Type 0} → (Course → S → O → Type 0) → (P → O) → (ℕ → ℕ → Type 0) → List S → ℕ → PassPlayer P → PassPlayer P
-    → Type 0
+abbrev pub HasPlayedAt : {S P O : Type 0} → (Course → S → O → Type 0) → (P → O) → (ℕ → ℕ → Type 0) → List S → ℕ → PassPlayer P
+    → PassPlayer P → Type 0
 HasPlayedAt {S} fits outcome told scripts k old new = (script : S) → slice_get scripts k ≡ Some script
     → PlayedOnce fits told script old.pass new.pass (outcome new.player)
 

@@ -1,5 +1,5 @@
 -- What calls do to a pass, whatever they are for.
-use Rattle.std.specs.Prelude.{◌≡◌, ℕ, ◌+◌, ◌≤◌, List, ◌++◌, length, take}
+use Rattle.std.specs.Prelude.{◌≡◌, ◌+◌, ◌≤◌, List, ◌++◌, length, take}
 use Rattle.pool_model.specs.declared.entry.Entry.{Entry}
 use Rattle.block_pool.specs.Calls.{Entered, SamePass}
 use Rattle.block_pool.specs.Passing.{Passed}

@@ -1,7 +1,7 @@
--- A script that a process plays with its pass. What is said of scripts and outcomes of its kind is the player's: `suits sizes script` where a
--- pool of these sizes has what the script needs, `most_calls script` for the most calls that it makes, and `fits course script outcome` where a
--- process that plays the script may take this course and leave this.
-use Rattle.std.specs.Prelude.{◌≡◌, ℕ, ◌+◌, ◌^◌, ◌≤◌, List, length}
+-- A script that a process plays with its pass. What is said of scripts and outcomes of its kind is the player's: `suits sizes script` where
+-- a pool of these sizes has what the script needs, `most_calls script` for the most calls that it makes, and `fits course script outcome`
+-- where a process that plays the script may take this course and leave this.
+use Rattle.std.specs.Prelude.{ℕ, ◌+◌, ◌^◌, ◌≤◌, List, length}
 use Rattle.word_layout.specs.Sizes.{Sizes}
 use Rattle.pool_model.specs.declared.entry.Entry.{Entry}
 use Rattle.pool_io.specs.Gates.{ToldBefore}
@@ -27,7 +27,8 @@ course_of entries old new = record {
 }
 
 -- the pass may play the script: it is of the pool, which suits the script, and has begun so few transfers that each call may begin one more
-pub record MayPlay {S : Type 0} (suits : Sizes → S → Type 0) (most_calls : S → ℕ) (pool : Pooled) (pass : Passed) (script : S) : Type 0 where
+pub record MayPlay {S : Type 0} (suits : Sizes → S → Type 0) (most_calls : S → ℕ) (pool : Pooled) (pass : Passed) (script : S)
+    : Type 0 where
   pub of_pool : IsOf pool pass
   pub suited : suits pool.sizes script
   pub young : pass.age + most_calls script ≤ 2 ^ 32

@@ -1,11 +1,9 @@
 // Scripts that are played side by side, over a pool that is then closed, or is opened before.
-ghost use Rattle.std.specs.Prelude.{◌≡◌, ℕ, Some, IfOk, length, slice_get};
+ghost use Rattle.std.specs.Prelude.{◌≡◌, IfOk, length};
 ghost use Rattle.std.specs.List.{All};
 ghost use Rattle.block_pool.specs.Closing.{AreInOrder};
-ghost use Rattle.block_pool.specs.Passing.{Passed};
-ghost use Rattle.pass_players.specs.Playing.{MayPlay};
 ghost use Rattle.pass_players.specs.Settled.{IsPlayable, IsSettledBy, PlayedAll, WasToldOfAll};
-ghost use Rattle.pass_players.specs.Together.{PlayedTogether};
+ghost use Rattle.pass_players.specs.Together.{MayPlayTogether, PlayedTogether};
 
 use crate::Player;
 use crate::players::{gather, part, play_each};
@@ -50,9 +48,7 @@ pub fn play_together<R: Threads + Sync, P: Player + Send, G: Gate + Sync>(
 where
     P::Script: Sync,
     P::Outcome: Drop,
-    requires one_each { length passes.items ≡ length scripts.now }
-    requires may { (k : ℕ) (pass : Passed) (script : P.Script) → slice_get passes.items k ≡ Some pass → slice_get scripts.now k ≡ Some script
-        → MayPlay P.suits P.most_calls pool.now pass script }
+    requires { MayPlayTogether P.suits P.most_calls pool.now passes.items scripts.now }
     ensures { IfOk result (λ together.
         PlayedTogether P.fits (G.told gate.now) passes.items scripts.now together.passes.items together.outcomes.items) }
 {
@@ -81,9 +77,7 @@ where
     P::Script: Sync,
     P::Outcome: Drop,
     requires passes { AreInOrder pool passes.items }
-    requires one_each { length passes.items ≡ length scripts.now }
-    requires may { (k : ℕ) (pass : Passed) (script : P.Script) → slice_get passes.items k ≡ Some pass → slice_get scripts.now k ≡ Some script
-        → MayPlay P.suits P.most_calls pool pass script }
+    requires may { MayPlayTogether P.suits P.most_calls pool passes.items scripts.now }
     ensures { IfOk result (λ played.
         PlayedAll P.fits (G.told gate.now) pool passes.items scripts.now played.outcomes.items played.settled) }
 {

@@ -1,5 +1,5 @@
 -- How far the process of a pass has played a script, one step on.
-use Rattle.std.proofs.Common.{◌≡◌, ℕ, ◌+◌, ◌-◌, ◌<◌, ◌≤◌, ◌==◌, Bool, true, false, not, filter, if◌then◌else◌, Option, Some, None, is_some, List, [], ◌∷◌, ◌++◌, length, set, replicate, max, refl, sym, ap, ◌∙◌, subst, arith, length-append}
+use Rattle.std.proofs.Common.{◌≡◌, ℕ, ◌+◌, ◌-◌, ◌<◌, ◌≤◌, ◌==◌, Bool, true, false, not, filter, if◌then◌else◌, Option, Some, None, is_some, List, [], ◌∷◌, ◌++◌, length, set, replicate, max, refl, sym, ap, subst, arith, length-append}
 use Rattle.std.specs.List.{Contains, flat_map, slice_index}
 use Rattle.pool_model.specs.declared.entry.Entry.{Entry}
 use Rattle.pool_model.specs.declared.entry.Entry.TheVariants.{Got, Back, Dry}

@@ -1,5 +1,5 @@
 -- What a player of a trace's script leaves.
-use Rattle.std.specs.Prelude.{ℕ, ◌+◌, ◌*◌, ◌≤◌, length}
+use Rattle.std.specs.Prelude.{◌+◌, ◌*◌, ◌≤◌, length}
 use Rattle.mtrace_reader.specs.declared.steps.Script.{Script}
 use Rattle.trace_player.specs.declared.tally.Tally.{Tally}
 use Rattle.mtrace_reader.specs.Script.{IsWellFormed}

@@ -1,8 +1,7 @@
 -- A store script that is played from its first command to its last.
-use Rattle.std.proofs.Common.{◌≡◌, ℕ, ◌-◌, Option, None, option_map, List, [], ◌++◌, length, replicate, refl, sym, ap, ◌∙◌, arith, append-nil, length-append, zero, suc}
+use Rattle.std.proofs.Common.{◌≡◌, ℕ, Option, None, option_map, List, [], ◌++◌, replicate, refl, sym, ap, ◌∙◌, arith, append-nil, zero, suc}
 use Rattle.std.proofs.lemmas.Option.{none-some}
 use Rattle.store_script.specs.declared.quad.Quad.{Quad}
-use Rattle.store_script.specs.declared.command.Command.{Command}
 use Rattle.store_script.specs.declared.command.StoreScript.{StoreScript}
 use Rattle.store_script.specs.declared.answered.Answered.{Answered}
 use Rattle.store_script.specs.Fit.{Fits, calls_from}

@@ -1,7 +1,6 @@
 -- What playing store scripts over a pool of their own leaves.
 use Rattle.std.specs.Prelude.{◌≡◌, ℕ, ◌*◌, ◌≤◌, Some, List, length, count_by, slice_get}
 use Rattle.word_layout.specs.Sizes.{Sizes, limits_of}
-use Rattle.pool_model.specs.declared.entry.Entry.{Entry}
 use Rattle.pool_model.specs.History.{own}
 use Rattle.pool_model.specs.Legal.{IsLegal}
 use Rattle.block_pool.specs.Closing.{Settlement}

@@ -1,4 +1,3 @@
-use Rattle.std.proofs.Common.{◌∙◌, ℕ, sym, ap, arith, subst}
 use Rattle.pool_player.proofs.Calling.{short_call}
 use Rattle.pool_player.proofs.calls.allocate_told.Goals as goal
 

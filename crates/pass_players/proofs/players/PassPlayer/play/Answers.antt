@@ -6,11 +6,13 @@ use Rattle.pass_players.proofs.players.PassPlayer.play.Goals as goal
 
 pub play-requires-clause-may : goal.play-requires-clause-may
 play-requires-clause-may g c =
-    c.requires.can.may c.index-scripts-place.result (slice_get_read c.args.scripts.now _ c.args.place _ refl c.requires.place c.index-scripts-place.is)
+    c.requires.can.may c.index-scripts-place.result
+    (slice_get_read c.args.scripts.now _ c.args.place _ refl c.requires.place c.index-scripts-place.is)
 
 pub play-requires-clause-ready : goal.play-requires-clause-ready
 play-requires-clause-ready g c =
-    c.requires.can.ready c.index-scripts-place.result (slice_get_read c.args.scripts.now _ c.args.place _ refl c.requires.place c.index-scripts-place.is)
+    c.requires.can.ready c.index-scripts-place.result
+    (slice_get_read c.args.scripts.now _ c.args.place _ refl c.requires.place c.index-scripts-place.is)
 
 pub returns : goal.returns
 returns g c = λ script at.
