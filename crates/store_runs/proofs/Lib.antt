@@ -1,1 +1,3 @@
+mod Enough
 pub mod Settling
+mod Unrefused
