@@ -12,7 +12,8 @@ use Rattle.store_script.specs.declared.answered.Answered.{Answered}
 use Rattle.store_script.specs.Fit.{IsAnswered}
 use Rattle.store_script.specs.Replies.{Walk, answers_to, begun}
 use Rattle.store_runs.specs.Enough.{EnoughBlocksRefuseNoPut, no_refusals, peak_without_refusals, present_after}
-use Rattle.store_runs.proofs.Unrefused.{counts_keys, none_at_first, walks_alike}
+use Rattle.store_runs.proofs.Present.{none_at_first}
+use Rattle.store_runs.proofs.Unrefused.{counts_keys, walks_alike}
 
 -- while none of its entries is a refusal, a process holds no more blocks than keys of its script are present at most
 holds-at-most-peak : (k : ℕ) (script : StoreScript) (entries : List Entry) (answers : List Answered) → IsAnswered k script entries answers
@@ -32,7 +33,8 @@ answers_are k script entries answers one none =
 
 pub enough_blocks : EnoughBlocksRefuseNoPut
 enough_blocks limits history scripts lists legal each answered enough =
-    let few : (k : ℕ) (script : StoreScript) → slice_get scripts k ≡ Some script → HoldsAtMost (peak_without_refusals script) (own history k)
+    let few : (k : ℕ) (script : StoreScript) → slice_get scripts k ≡ Some script
+    → HoldsAtMost (peak_without_refusals script) (own history k)
     = λ k script at.
     let answers = slice_get_as_long lists scripts k script (sym answered.one_each) at in
     holds-at-most-peak k script (own history k) answers.0 (answered.each k script answers.0 at answers.1) in
