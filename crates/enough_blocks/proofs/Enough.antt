@@ -1,12 +1,12 @@
 -- With enough blocks nothing is refused.
-use Rattle.std.proofs.Common.{◌≡◌, ℕ, ◌+◌, ◌<◌, ◌≤◌, ◌==◌, zero, suc, Bool, true, false, cond, List, [], ◌∷◌, ◌++◌, length, take, drop}
-use Rattle.std.proofs.Common.{filter, map, get_or, refl, sym, ap, ◌∙◌, subst, inl, inr, arith, append_assoc, Some}
+use Rattle.std.proofs.Common.{◌≡◌, ℕ, ◌+◌, ◌<◌, ◌≤◌, ◌==◌, zero, suc, List, [], ◌∷◌, ◌++◌, length, take, drop, get_or, refl, sym, ap, ◌∙◌}
+use Rattle.std.proofs.Common.{subst, inl, inr, arith, append_assoc, Some}
 use Rattle.std.specs.Prelude.{Option, sum_by, slice_get, IfSome}
 use Rattle.std.specs.List.{Contains}
 use Rattle.std.proofs.lemmas.Option.{slice_get-get_or, slice_get_within}
 use Rattle.std.proofs.lemmas.List.{take_more, take-append-drop, take_all}
 use Rattle.std.proofs.lemmas.List.Sums.{sum_by-cons}
-use Rattle.std.proofs.lemmas.List.Elements.{filter-append, Contains-append_left, Contains-append_right, Contains-append_cases}
+use Rattle.std.proofs.lemmas.List.Elements.{filter-append, Contains-append_cases}
 use Rattle.process_sums.specs.Sums.{total}
 use Rattle.process_sums.proofs.Sums.{total_more, total_parts}
 use Rattle.pool_model.specs.declared.entry.Entry.{Entry}
@@ -17,31 +17,7 @@ use Rattle.pool_model.specs.Legal.{IsLegal, MayFollow, HadFew}
 use Rattle.pool_model.proofs.Histories.{legal_take, slack_at_most}
 use Rattle.history_invariant.proofs.Shared.{legal_shared}
 use Rattle.enough_blocks.specs.Enough.{EnoughBlocksAreNotRefused, HoldsAtMost, NoneIsDry}
-
--- what a list keeps of another
-contains_filter : (p : Entry → Bool) (xs : List Entry) (x : Entry) → Contains (filter p xs) x → Contains xs x
-contains_filter p [] x has = has
-contains_filter p (y ∷ xs) x has =
-    by_test (λ within. Contains-append_right (y ∷ []) xs x (contains_filter p xs x within)) (p y) has
-  where
-    by_test : (Contains (filter p xs) x → Contains (y ∷ xs) x) → (t : Bool)
-        → Contains (cond t (y ∷ filter p xs) (filter p xs)) x → Contains (y ∷ xs) x
-    by_test rest true within = elim (Contains-append_cases (y ∷ []) (filter p xs) x within) [
-      | inl first ↦ Contains-append_left (y ∷ []) xs x first
-      | inr later ↦ rest later
-    ]
-    by_test rest false within = rest within
-
--- entries of a process are among all entries
-pub none_of_own : (history : List Entry) (i : ℕ) → NoneIsDry history → NoneIsDry (own history i)
-none_of_own history i none by has = none by (contains_filter _ history (Dry by) has)
-
--- where no entry is a refusal, none of the first is, and none of those behind them
-pub none_first : (first rest : List Entry) → NoneIsDry (first ++ rest) → NoneIsDry first
-none_first first rest none by has = none by (Contains-append_left first rest (Dry by) has)
-
-pub none_rest : (first rest : List Entry) → NoneIsDry (first ++ rest) → NoneIsDry rest
-none_rest first rest none by has = none by (Contains-append_right first rest (Dry by) has)
+use Rattle.enough_blocks.proofs.Refusals.{none_first, none_of_own}
 
 total_none : (g : ℕ → ℕ) → total 0 g ≡ 0
 unfolding total
@@ -49,19 +25,6 @@ total_none g = refl
 
 total_first : (g : ℕ → ℕ) → total 1 g ≡ g 0
 total_first g = omega (arith, total_more 0 g, total_none g)
-
--- a list whose items are those of another by a function
-pub same_as_mapped : {S R : Type 0} (f : S → R) (scripts : List S) (results : List R) → length results ≡ length scripts
-    → ((k : ℕ) (script : S) (result : R) → slice_get scripts k ≡ Some script → slice_get results k ≡ Some result → result ≡ f script)
-    → results ≡ map f scripts
-same_as_mapped f [] [] long each = refl
-same_as_mapped f [] (result ∷ results) long each = absurd (omega (arith, long))
-same_as_mapped f (script ∷ scripts) [] long each = absurd (omega (arith, long))
-same_as_mapped f (script ∷ scripts) (result ∷ results) long each =
-    let first : result ≡ f script = each 0 script result refl refl in
-    let rest : results ≡ map f scripts
-    = same_as_mapped f scripts results (omega (arith, long)) (λ k other found at also. each (suc k) other found at also) in
-    cc
 
 module _ {S : Type 0} (peak : S → ℕ) where
   -- a sum over processes is at most that over their scripts

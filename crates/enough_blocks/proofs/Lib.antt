@@ -1,2 +1,3 @@
 pub mod Enough
-pub mod Greatest
+pub mod Lists
+pub mod Refusals

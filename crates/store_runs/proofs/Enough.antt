@@ -5,8 +5,9 @@ use Rattle.pool_model.specs.declared.entry.Entry.{Entry}
 use Rattle.pool_model.specs.History.{own}
 use Rattle.pool_model.proofs.Places.{slice_get_as_long}
 use Rattle.enough_blocks.specs.Enough.{HoldsAtMost, NoneIsDry}
-use Rattle.enough_blocks.proofs.Enough.{none_of_own, nothing_is_refused, same_as_mapped}
-use Rattle.enough_blocks.proofs.Greatest.{at-le-greatest}
+use Rattle.enough_blocks.proofs.Enough.{nothing_is_refused}
+use Rattle.enough_blocks.proofs.Lists.{at-le-greatest, same_as_mapped}
+use Rattle.enough_blocks.proofs.Refusals.{none_of_own}
 use Rattle.store_script.specs.declared.command.StoreScript.{StoreScript}
 use Rattle.store_script.specs.declared.answered.Answered.{Answered}
 use Rattle.store_script.specs.Fit.{IsAnswered}

@@ -1,14 +1,14 @@
 -- What entries without a refusal tell of the store script that they fit.
 use Rattle.std.proofs.Common.{◌≡◌, ℕ, ◌+◌, ◌≤◌, zero, suc, Bool, true, false, cond, Option, Some, None, List, [], ◌∷◌, ◌++◌}
 use Rattle.std.proofs.Common.{length, take, fold, refl, sym, ap, ◌∙◌, subst, arith}
-use Rattle.std.specs.List.{Contains, count_by, slice_index}
+use Rattle.std.specs.List.{count_by, slice_index}
 use Rattle.std.proofs.lemmas.List.Sums.{sum_by-append}
 use Rattle.pool_model.specs.declared.entry.Entry.{Entry}
 use Rattle.pool_model.specs.declared.entry.Entry.TheVariants.{Got, Dry}
 use Rattle.pool_model.specs.History.{is_got, is_back}
 use Rattle.history_invariant.specs.Grips.{times}
 use Rattle.enough_blocks.specs.Enough.{NoneIsDry}
-use Rattle.enough_blocks.proofs.Enough.{none_first, none_rest}
+use Rattle.enough_blocks.proofs.Refusals.{front_is_not_dry, none_first, none_rest}
 use Rattle.store_script.specs.declared.quad.Quad.{Quad}
 use Rattle.store_script.specs.declared.command.Command.{Command}
 use Rattle.store_script.specs.declared.command.Command.TheVariants.{Put, Get, Set, Del}
@@ -32,9 +32,6 @@ pub record CountsKeys (walk : Walk) (commands : List Command) (entries : List En
   pub within : count ≤ length commands
   pub counted : count_by is_got entries + length walk.present
       ≡ count_by is_back entries + length (fold (after no_refusals) walk (take count commands)).present
-
-first_is_in : (entry : Entry) (entries : List Entry) → Contains (entry ∷ entries) entry
-first_is_in entry entries = (0, omega arith, refl)
 
 -- some entries that begin with one call at most, and are some at least, begin with that call
 begin_with_call : (calls : List Entry) (entry : Entry) (entries rest more : List Entry) → length calls ≤ 1
@@ -62,7 +59,7 @@ module _ (i : ℕ) (refused : List Bool) (blocks : List ℕ) where
       by_answer : (dry free : Bool) → free ≡ false → NoneIsDry (cond dry (Dry i) got ∷ [])
           → Counts (cond dry (Dry i) got ∷ []) walk (cond dry (with_full walk) (with_put walk key value))
           (cond free (with_full walk) (with_put walk key value))
-      by_answer true free is none_dry = absurd (none_dry i (first_is_in (Dry i) []))
+      by_answer true free is none_dry = absurd (front_is_not_dry i (Dry i) [] none_dry refl)
       by_answer false true is none_dry = absurd cc
       by_answer false false is none_dry = record {
         alike = refl;
