@@ -1,5 +1,6 @@
 -- With enough blocks nothing is refused.
-use Rattle.std.proofs.Common.{◌≡◌, ℕ, ◌+◌, ◌≤◌, zero, suc, Bool, false, List, [], length, take, replicate, refl, sym, ap, ◌∙◌, subst, arith, Some}
+use Rattle.std.proofs.Common.{◌≡◌, ℕ, ◌+◌, ◌≤◌, zero, suc, Bool, false, List, [], length, take, replicate, refl, sym, ap, ◌∙◌, subst}
+use Rattle.std.proofs.Common.{arith, Some}
 use Rattle.std.specs.Prelude.{All, slice_get}
 use Rattle.std.specs.List.{flat_map}
 use Rattle.std.proofs.lemmas.Option.{get_or_from_slice_get, slice_get_within}
@@ -21,7 +22,8 @@ use Rattle.pool_runs.specs.Enough.{EnoughBlocksRefuseNothing}
 use Rattle.pool_runs.proofs.Unrefused.{calls_without_refusals, counts_steps}
 
 -- what is held after some of the steps is at most the peak
-held-le-peak : (refused : List Bool) (steps : List Step) (count : ℕ) → count ≤ length steps → holding refused (take count steps) ≤ peak_of refused steps
+held-le-peak : (refused : List Bool) (steps : List Step) (count : ℕ) → count ≤ length steps
+    → holding refused (take count steps) ≤ peak_of refused steps
 held-le-peak refused steps count low =
     at-le-greatest (λ place. holding refused (take place steps)) (length steps + 1) count (omega (arith, low))
 
@@ -32,8 +34,8 @@ none_refused (suc n) zero = refl
 none_refused (suc n) (suc slot) = none_refused n slot
 
 -- while none of its entries is a refusal, a process holds no more blocks than its script at most
-holds-at-most-peak : (k : ℕ) (script : Script) (entries : List Entry) (tally : Tally) → IsWellFormed script → IsTallied k script entries tally
-    → HoldsAtMost (peak_of (no_refusals script) script.steps) entries
+holds-at-most-peak : (k : ℕ) (script : Script) (entries : List Entry) (tally : Tally) → IsWellFormed script
+    → IsTallied k script entries tally → HoldsAtMost (peak_of (no_refusals script) script.steps) entries
 holds-at-most-peak k script entries tally formed one first rest parts none =
     let counted = counts_steps k one.refused (no_refusals script) one.fits.blocks (none_refused script.news) [] script.steps first rest
     formed.leaves (λ slot has. absurd (omega (arith, has.1))) none (parts ∙ one.fits.step_by_step) in
@@ -44,17 +46,18 @@ tally_is : (k : ℕ) (script : Script) (entries : List Entry) (tally : Tally) �
     → NoneIsDry entries → tally ≡ tally_of script (no_refusals script)
 tally_is k script entries tally formed one none =
     let calls : NoneIsDry (flat_map (calls_of k one.refused one.fits.blocks) script.steps) = subst NoneIsDry one.fits.step_by_step none in
+    let alike = calls_without_refusals k one.refused (no_refusals script) one.fits.blocks (none_refused script.news) [] script.steps
+    formed.leaves (λ slot has. absurd (omega (arith, has.1))) calls in
     let fits : Fits k script (no_refusals script) entries = record {
       one_each = length-replicate script.news false;
       blocks = one.fits.blocks;
-      step_by_step = one.fits.step_by_step
-          ∙ calls_without_refusals k one.refused (no_refusals script) one.fits.blocks (none_refused script.news) [] script.steps formed.leaves
-          (λ slot has. absurd (omega (arith, has.1))) calls;
+      step_by_step = one.fits.step_by_step ∙ alike;
     } in
     one.tallied ∙ ap (tally_of script) (sym (one.only (no_refusals script) fits))
 
 -- a script is well formed where all are
-formed_at : (scripts : List Script) (k : ℕ) (script : Script) → All IsWellFormed scripts → slice_get scripts k ≡ Some script → IsWellFormed script
+formed_at : (scripts : List Script) (k : ℕ) (script : Script) → All IsWellFormed scripts → slice_get scripts k ≡ Some script
+    → IsWellFormed script
 formed_at scripts k script formed at =
     subst IsWellFormed (get_or_from_slice_get scripts k script script at) (formed k script (slice_get_within scripts k script at))
 

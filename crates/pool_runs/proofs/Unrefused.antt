@@ -135,8 +135,9 @@ module _ (i : ℕ) (refused free : List Bool) (blocks : List ℕ) (frees : (slot
           → flat_map (calls_of i refused blocks) steps ≡ flat_map (calls_of i free blocks) steps) → (dry : Bool) → is_refused refused slot ≡ dry
           → flat_map (calls_of i refused blocks) (Place slot ∷ steps) ≡ flat_map (calls_of i free blocks) (Place slot ∷ steps)
       by_answer on true answered =
-          absurd (front_is_not_dry i (cond (is_refused refused slot) (Dry i) (Got i (slice_index blocks slot))) (flat_map (calls_of i refused blocks) steps)
-          none (ap (λ dry. cond dry (Dry i) (Got i (slice_index blocks slot))) answered))
+          let call : Entry = cond (is_refused refused slot) (Dry i) (Got i (slice_index blocks slot)) in
+          let is : call ≡ Dry i = ap (λ dry. cond dry (Dry i) (Got i (slice_index blocks slot))) answered in
+          absurd (front_is_not_dry i call (flat_map (calls_of i refused blocks) steps) none is)
       by_answer on false answered =
           let more = on (place_more refused before slot answered so_far)
           (none_rest (calls_at (Place slot) (is_refused refused slot)) (flat_map (calls_of i refused blocks) steps) none) in
