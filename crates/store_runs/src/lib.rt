@@ -8,3 +8,6 @@ mod play;
 
 pub use play::play_stores_on_pool;
 pub use store_player::Replied;
+
+#[cfg(test)]
+mod tests;
