@@ -1,5 +1,5 @@
 -- How far the process of a pass has played a script, one step on.
-use Rattle.std.proofs.Common.{◌≡◌, ℕ, ◌+◌, ◌-◌, ◌<◌, ◌≤◌, ◌==◌, Bool, true, false, not, filter, if◌then◌else◌, Option, Some, None, is_some, List, [], ◌∷◌, ◌++◌, length, set, replicate, max, refl, sym, ap, ◌∙◌, subst, arith, length-append}
+use Rattle.std.proofs.Common.{◌≡◌, ℕ, ◌+◌, ◌-◌, ◌<◌, ◌≤◌, ◌==◌, Bool, true, false, not, filter, if◌then◌else◌, Option, Some, None, is_some, List, [], ◌∷◌, ◌++◌, length, set, replicate, max, refl, sym, ap, subst, arith, length-append}
 use Rattle.std.specs.List.{Contains, flat_map, slice_index}
 use Rattle.pool_model.specs.declared.entry.Entry.{Entry}
 use Rattle.pool_model.specs.declared.entry.Entry.TheVariants.{Got, Back, Dry}
@@ -18,9 +18,10 @@ use Rattle.trace_player.proofs.Naming.{next_slot}
 use Rattle.trace_player.proofs.Plays.{plays_none, plays_got, plays_dry, plays_back, plays_passed}
 use Rattle.trace_player.proofs.Whole.{plays_whole}
 use Rattle.block_pool.specs.Passing.{Passed}
-use Rattle.pool_player.specs.Calling.{Calls, Grows}
+use Rattle.pass_players.proofs.Growing.{grows_none, grows_more}
+use Rattle.pool_player.specs.Calling.{ShortCall}
 use Rattle.pool_player.specs.Playing.{IsPlayedBy, PlaysSoFar}
-use Rattle.pool_player.proofs.Growing.{grows_none, grows_more}
+use Rattle.pool_player.proofs.Calling.{no_steps, steps_more}
 use Rattle.pool_player.proofs.Slots.{leaves_none, leaves_got, leaves_back, leaves_passed}
 
 -- ---- how many calls there were
@@ -66,19 +67,20 @@ so_far_none script pass n = record {
   entries = [];
   plays = plays_none pass.number script (Contains pass.held) n;
   grown = grows_none pass;
+  steps = no_steps pass;
   left = leaves_none pass.held n;
   count = refl;
 }
 
 -- a Place that was given a block
 pub so_far_got : (script : Script) (done : List Step) (start pass new : Passed) (slots : List (Option ℕ)) (tally later : Tally) (made slot block : ℕ)
-    → slot ≡ length (placed_slots done) → slot < length slots → Calls (Got pass.number block) pass new → (Contains pass.held block → ⊥)
+    → slot ≡ length (placed_slots done) → slot < length slots → ShortCall (Got pass.number block) pass new → (Contains pass.held block → ⊥)
     → later ≡ record tally { left = tally.left + 1; peak = max tally.peak (tally.left + 1) }
     → PlaysSoFar script done start pass slots tally made
     → PlaysSoFar script (done ++ Place slot ∷ []) start new (set slots slot (Some block)) later (made + 1)
 so_far_got script done start pass new slots tally later made slot block at within call free is p =
-    let call : Calls (Got start.number block) pass new = subst (λ (i : ℕ). Calls (Got i block) pass new) p.grown.same.number call in
-    let held : new.held ≡ block ∷ pass.held = call.entered.held in
+    let call : ShortCall (Got start.number block) pass new = subst (λ (i : ℕ). ShortCall (Got i block) pass new) p.grown.same.number call in
+    let held : new.held ≡ block ∷ pass.held = call.made.entered.held in
     let empty = next_is_empty p.refused p.blocks done (Contains pass.held) slots slot p.plays.holds (next_slot p.refused p.blocks done slot p.plays.names at) in
     let Has : ℕ → List ℕ → Type 0 = λ b bs. Contains bs b in
     record {
@@ -88,44 +90,47 @@ so_far_got script done start pass new slots tally later made slot block at withi
       plays = plays_got start.number script p.refused p.blocks done p.entries (Contains pass.held) (Contains new.held) slots tally later slot block at within free
           (subst (Has block) (sym held) (contains_head block pass.held))
           (λ other was. subst (Has other) (sym held) (contains_tail other block pass.held was)) is p.plays;
-      grown = grows_more p.entries (Got start.number block) start pass new p.grown call;
+      grown = grows_more p.entries (Got start.number block) start pass new p.grown call.made;
+      steps = steps_more p.entries (Got start.number block) start pass new p.grown.same.sizes p.steps call.steps;
       left = rw held (leaves_got start.held pass.held slots slot block within empty free p.left);
       count = omega (arith, p.count, length-append p.entries (Got start.number block ∷ []));
     }
 
 -- a Place that was refused
 pub so_far_dry : (script : Script) (done : List Step) (start pass new : Passed) (slots : List (Option ℕ)) (tally later : Tally) (made slot : ℕ)
-    → slot ≡ length (placed_slots done) → Calls (Dry pass.number) pass new → later ≡ record tally { refused = tally.refused + 1 }
+    → slot ≡ length (placed_slots done) → ShortCall (Dry pass.number) pass new → later ≡ record tally { refused = tally.refused + 1 }
     → PlaysSoFar script done start pass slots tally made → PlaysSoFar script (done ++ Place slot ∷ []) start new slots later (made + 1)
 so_far_dry script done start pass new slots tally later made slot at call is p =
-    let call : Calls (Dry start.number) pass new = subst (λ (i : ℕ). Calls (Dry i) pass new) p.grown.same.number call in
-    let held : new.held ≡ pass.held = call.entered.held in
+    let call : ShortCall (Dry start.number) pass new = subst (λ (i : ℕ). ShortCall (Dry i) pass new) p.grown.same.number call in
+    let held : new.held ≡ pass.held = call.made.entered.held in
     record {
       refused = p.refused ++ true ∷ [];
       blocks = p.blocks ++ 0 ∷ [];
       entries = p.entries ++ Dry start.number ∷ [];
       plays = plays_dry start.number script p.refused p.blocks done p.entries (Contains pass.held) (Contains new.held) slots tally later slot at
           (λ other was. subst (λ (bs : List ℕ). Contains bs other) (sym held) was) is p.plays;
-      grown = grows_more p.entries (Dry start.number) start pass new p.grown call;
+      grown = grows_more p.entries (Dry start.number) start pass new p.grown call.made;
+      steps = steps_more p.entries (Dry start.number) start pass new p.grown.same.sizes p.steps call.steps;
       left = rw held p.left;
       count = omega (arith, p.count, length-append p.entries (Dry start.number ∷ []));
     }
 
 -- a Leave of a slot that has a block
 pub so_far_back : (script : Script) (done : List Step) (start pass new : Passed) (slots : List (Option ℕ)) (tally later : Tally) (made slot block : ℕ)
-    → Contains done (Place slot) → slot < length slots → block_in slots slot ≡ Some block → Calls (Back pass.number block) pass new
+    → Contains done (Place slot) → slot < length slots → block_in slots slot ≡ Some block → ShortCall (Back pass.number block) pass new
     → later ≡ record tally { frees = tally.frees + 1; left = tally.left - 1 }
     → PlaysSoFar script done start pass slots tally made → PlaysSoFar script (done ++ Leave slot ∷ []) start new (set slots slot None) later (made + 1)
 so_far_back script done start pass new slots tally later made slot block placed within has call is p =
-    let call : Calls (Back start.number block) pass new = subst (λ (i : ℕ). Calls (Back i block) pass new) p.grown.same.number call in
-    let held : new.held ≡ filter (λ other. not (other == block)) pass.held = call.entered.held in
+    let call : ShortCall (Back start.number block) pass new = subst (λ (i : ℕ). ShortCall (Back i block) pass new) p.grown.same.number call in
+    let held : new.held ≡ filter (λ other. not (other == block)) pass.held = call.made.entered.held in
     record {
       refused = p.refused;
       blocks = p.blocks;
       entries = p.entries ++ Back start.number block ∷ [];
       plays = plays_back start.number script p.refused p.blocks done p.entries (Contains pass.held) (Contains new.held) slots tally later slot block placed within has
           (λ other differs was. subst (λ (bs : List ℕ). Contains bs other) (sym held) (without_contains block other pass.held was differs)) is p.plays;
-      grown = grows_more p.entries (Back start.number block) start pass new p.grown call;
+      grown = grows_more p.entries (Back start.number block) start pass new p.grown call.made;
+      steps = steps_more p.entries (Back start.number block) start pass new p.grown.same.sizes p.steps call.steps;
       left = rw held (leaves_back start.held pass.held slots slot block within has p.plays.holds.apart p.left);
       count = omega (arith, p.count, length-append p.entries (Back start.number block ∷ []));
     }
@@ -140,6 +145,7 @@ so_far_passed script done start pass slots tally made slot placed stays within f
   entries = p.entries;
   plays = plays_passed start.number script p.refused p.blocks done p.entries (Contains pass.held) slots tally slot placed stays within free p.plays;
   grown = p.grown;
+  steps = p.steps;
   left = leaves_passed start.held pass.held slots slot within free p.left;
   count = p.count;
 }
@@ -151,12 +157,8 @@ pub played_all : (script : Script) (start pass : Passed) (slots : List (Option �
 played_all script start pass slots tally made formed p = record {
   entries = p.entries;
   grown = p.grown;
+  steps = p.steps;
   tallied = plays_whole start.number script p.refused p.blocks p.entries (Contains pass.held) slots tally formed p.plays;
   left = p.left;
   apart = p.plays.holds.apart;
 }
-
--- the pass's own list grew by as many entries as calls were made
-pub made_by : {script : Script} {done : List Step} {start pass : Passed} {slots : List (Option ℕ)} {tally : Tally} {made : ℕ}
-    → PlaysSoFar script done start pass slots tally made → length pass.own - length start.own ≡ made
-made_by {start = start} p = omega (arith, p.count, ap length p.grown.own, length-append start.own p.entries)

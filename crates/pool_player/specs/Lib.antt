@@ -1,5 +1,3 @@
 pub mod Calling
 pub mod Playing
-pub mod Players
-pub mod Together
-pub mod All
+pub mod Player

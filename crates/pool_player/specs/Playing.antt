@@ -8,7 +8,8 @@ use Rattle.trace_player.specs.declared.tally.Tally.{Tally}
 use Rattle.trace_player.specs.Fit.{IsTallied}
 use Rattle.trace_player.specs.Playing.{block_in, MayCome, PlaysSteps}
 use Rattle.block_pool.specs.Passing.{IsOf, Passed, Pooled}
-use Rattle.pool_player.specs.Calling.{Grows}
+use Rattle.pass_players.specs.Growing.{Grows}
+use Rattle.pool_player.specs.Calling.{Steps}
 
 -- some slot has the block
 abbrev pub InSlots : List (Option ℕ) → ℕ → Type 0
@@ -19,11 +20,12 @@ pub record LeavesInSlots (before : List ℕ) (slots : List (Option ℕ)) (now : 
   pub held : (block : ℕ) → Contains now block ↔ (Contains before block ⊎ InSlots slots block)
   pub new : (block : ℕ) → InSlots slots block → ¬ Contains before block
 
--- the pass played the script: its own list grew by entries that fit the script, with refusals that they determine; the tally is that of
--- these; and the slots have the blocks that are left, no two the same
+-- the pass played the script: its own list grew by entries that fit the script, with refusals that they determine, in so few steps; the
+-- tally is that of these; and the slots have the blocks that are left, no two the same
 pub record IsPlayedBy (script : Script) (old new : Passed) (slots : List (Option ℕ)) (tally : Tally) : Type 0 where
   pub entries : List Entry
   pub grown : Grows entries old new
+  pub steps : Steps (length entries) old new
   pub tallied : IsTallied old.number script entries tally
   pub left : LeavesInSlots old.held slots new.held
   pub apart : (a b block : ℕ) → block_in slots a ≡ Some block → block_in slots b ≡ Some block → a ≡ b
@@ -36,6 +38,7 @@ pub record PlaysSoFar (script : Script) (done : List Step) (start pass : Passed)
   pub entries : List Entry
   pub plays : PlaysSteps start.number script refused blocks done entries (Contains pass.held) slots tally
   pub grown : Grows entries start pass
+  pub steps : Steps (length entries) start pass
   pub left : LeavesInSlots start.held slots pass.held
   pub count : made ≡ length entries
 

@@ -5,26 +5,19 @@ ghost use Rattle.pool_model.specs.declared.entry.Entry.TheVariants.{Back};
 ghost use Rattle.block_pool.specs.Calls.{entry_of};
 ghost use Rattle.block_pool.specs.Passing.{IsOf};
 ghost use Rattle.block_pool.specs.declared.pool.Answer.TheVariants.{Got};
-ghost use Rattle.pool_player.specs.Calling.{Calls};
+ghost use Rattle.pool_player.specs.Calling.{ShortCall};
 
 use block_pool::{Answer, Block, Pass, Pool};
+use pass_players::tell;
 use pool_io::Gate;
 use step_counter::{Quiet, Steps};
-
-/// Tells the gate of a process's next call, so many of which were made.
-fn tell<G: Gate>(gate: &G, pass: &Pass, made: u64)
-    requires { ToldBefore (G.told gate.now) pass.now.number made }
-    ensures { G.told gate.now pass.now.number made }
-{
-    gate.pass(pass.number(), made);
-}
 
 /// An allocate, this call of its process. The gate was told of it.
 fn allocate_told<G: Gate>(pool: &Pool, pass: &mut Pass, gate: &G, call: u64) -> Answer
     requires told { G.told gate.now pass.old.number call }
     requires pool { IsOf pool.now pass.old }
     requires age { pass.old.age < 2 ^ 32 }
-    ensures calls { Calls (entry_of pass.old.number result) pass.old pass.new }
+    ensures calls { ShortCall (entry_of pass.old.number result) pass.old pass.new }
     ensures free { (block : ℕ) → result ≡ Got block → Contains pass.old.held block → ⊥ }
 {
     let _ = gate;
@@ -39,7 +32,7 @@ fn free_told<G: Gate>(pool: &Pool, pass: &mut Pass, block: Block, gate: &G, call
     requires pool { IsOf pool.now pass.old }
     requires age { pass.old.age < 2 ^ 32 }
     requires held { Contains pass.old.held block }
-    ensures { Calls (Back pass.old.number block) pass.old pass.new }
+    ensures { ShortCall (Back pass.old.number block) pass.old pass.new }
 {
     let _ = gate;
     let _ = call;
@@ -53,7 +46,7 @@ pub(crate) fn allocate<G: Gate>(pool: &Pool, pass: &mut Pass, gate: &G, made: &m
     requires pool { IsOf pool.now pass.old }
     requires age { pass.old.age < 2 ^ 32 }
     requires few { made.old + 1 < 2 ^ 64 }
-    ensures calls { Calls (entry_of pass.old.number result) pass.old pass.new }
+    ensures calls { ShortCall (entry_of pass.old.number result) pass.old pass.new }
     ensures free { (block : ℕ) → result ≡ Got block → Contains pass.old.held block → ⊥ }
     ensures told { ToldBefore (G.told gate.now) pass.new.number made.new }
     ensures made { made.new ≡ made.old + 1 }
@@ -72,7 +65,7 @@ pub(crate) fn free<G: Gate>(pool: &Pool, pass: &mut Pass, block: Block, gate: &G
     requires age { pass.old.age < 2 ^ 32 }
     requires held { Contains pass.old.held block }
     requires few { made.old + 1 < 2 ^ 64 }
-    ensures calls { Calls (Back pass.old.number block) pass.old pass.new }
+    ensures calls { ShortCall (Back pass.old.number block) pass.old pass.new }
     ensures told { ToldBefore (G.told gate.now) pass.new.number made.new }
     ensures made { made.new ≡ made.old + 1 }
 {

@@ -1,15 +1,12 @@
-//! Players over a pool: the process of a pass plays a script, and tells a gate of each call before it makes it.
+//! Players of traces: the process of a pass plays a script, and tells a gate of each call before it makes it.
 //!
 //! [`play_one`] plays one script with one pass, while other passes of the pool may be used in other threads.
-//! [`play_together`] plays scripts with a pass each, in threads of their own, and [`play_all`] closes the pool then.
+//! [`TracePlayer`] does so for the calls of [`pass_players`], which play the scripts of all processes.
 #![tactic(auto)]
 
-mod all;
 mod calls;
 mod one;
-mod players;
-mod together;
+mod player;
 
-pub use all::{Played, play_all};
 pub use one::play_one;
-pub use together::{Together, play_together};
+pub use player::TracePlayer;

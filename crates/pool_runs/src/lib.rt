@@ -9,5 +9,4 @@ pub mod laws;
 mod play;
 
 pub use drill::drill_scripts;
-pub use play::play_on_pool;
-pub use pool_player::Played;
+pub use play::{Played, play_on_pool};

@@ -2,16 +2,28 @@
 ghost use Rattle.std.specs.Prelude.{◌≡◌, length, IfOk};
 ghost use Rattle.std.specs.List.{All};
 ghost use Rattle.pool_runs.specs.Playable.{IsPlayable};
-ghost use Rattle.pool_runs.specs.Settled.{IsSettledBy, WasToldOfAll};
+ghost use Rattle.pass_players.specs.Settled.{WasToldOfAll};
+ghost use Rattle.pool_runs.specs.Settled.{IsSettledBy};
 
-use block_pool::Pool;
+use block_pool::Settled;
 use mtrace_reader::Script;
+use pass_players::play_over;
 use pool_io::Gate;
 use pool_model::NoMemory;
-use pool_player::{Played, play_all};
+use pool_player::TracePlayer;
 use std::alloc::Global;
 use std::thread::Threads;
+use trace_player::Tally;
 use word_layout::Shape;
+
+/// What a pool leaves whose processes played a script each.
+#[derive(Drop)]
+pub struct Played {
+    /// The tally of each script.
+    pub tallies: Vec<Tally>,
+    /// The pool as it was closed.
+    pub settled: Settled,
+}
 
 /// Opens a pool of this shape, plays each script by the process of its place, in a thread of its own where one can be
 /// had, and closes the pool. The tallies are those of the one history that closing gives; with more blocks than the
@@ -31,6 +43,9 @@ pub fn play_on_pool<R: Threads + Sync, G: Gate + Sync>(
     ensures settled { IfOk result (λ played. IsSettledBy shape.now scripts.now played.tallies.items played.settled) }
     ensures told { IfOk result (λ played. WasToldOfAll (G.told gate.now) shape.now.processes played.settled.history) }
 {
-    let (pool, passes) = Pool::open(alloc, shape)?;
-    play_all(rt, alloc, pool, passes, scripts, gate)
+    let played = play_over::<R, TracePlayer, G>(rt, alloc, shape, scripts, gate)?;
+    Ok(Played {
+        tallies: played.outcomes,
+        settled: played.settled,
+    })
 }

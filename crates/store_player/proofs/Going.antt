@@ -19,7 +19,8 @@ use Rattle.object_store.specs.Calls.{KeepsOthers}
 use Rattle.object_store.specs.Objects.{HoldsWords, ObjectView}
 use Rattle.store_player.specs.Playing.{AreHeld, BlockIs, Does, GoesOn, object_in, quad_words, uses_words}
 use Rattle.object_store.specs.Putting.{IsRefused, IsStored}
-use Rattle.store_player.proofs.Playing.{so_far_step, block_behind, grows_still, grows_more, kept_filled, kept_empty}
+use Rattle.pass_players.proofs.Growing.{grows_more}
+use Rattle.store_player.proofs.Playing.{so_far_step, block_behind, grows_still, kept_filled, kept_empty}
 use Rattle.store_player.proofs.Written.{present_written, blocks_written, held_written, apart_written}
 
 -- what a pass holds and knows it does where only its moves differ
@@ -127,7 +128,7 @@ goes_full key slot value old new slots made given has call refused keys done sta
     ∙ ap (λ b. (if b then entry.Dry start.number else entry.Got start.number (slice_index (p.blocks ++ (0 ∷ [] ++ others)) p.walk.puts)) ∷ []) (dry more))
     refl refl (omega arith) refl refl p.present (held_still slots old new refused.held refused.known p.held) p.apart
     (λ key slot at. block_behind p.blocks (0 ∷ []) (kept p.walk key) (object_in slots slot) (p.block_of key slot at))
-    (grows_more p.entries (entry.Dry start.number) 1 start old new p.grown made_it) (omega (arith, call.moved))
+    (grows_more p.entries (entry.Dry start.number) start old new p.grown made_it.made) (omega (arith, call.moved))
 
 -- a put that is stored
 pub goes_got : (key slot : ℕ) (value : Quad) (old new : Passed) (slots : List (Option (ObjectView Quad))) (made : ℕ) (object : ObjectView Quad)
@@ -157,7 +158,7 @@ goes_got key slot value old new slots made object within has call stored keys do
     (blocks_written slots slot (Some object) within keys key (Some found) p.walk (with_put p.walk key value) p.blocks (block ∷ []) placed (λ q. refl)
     (λ others. ap (λ bs. slice_index bs p.walk.puts) (append_assoc p.blocks (block ∷ []) others) ∙ mine others)
     (λ key slot at. block_behind p.blocks (block ∷ []) (kept p.walk key) (object_in slots slot) (p.block_of key slot at)))
-    (grows_more p.entries (entry.Got start.number block) 5 start old new p.grown made_it) (omega (arith, call.moved))
+    (grows_more p.entries (entry.Got start.number block) start old new p.grown made_it.made) (omega (arith, call.moved))
 
 -- a set keeps other numbers for its key
 changed_keeps : (walk : Walk) (key : ℕ) (next : Kept) (q : ℕ)
@@ -227,4 +228,4 @@ goes_deleted key slot old new slots made object within has call keeps keys done 
     (apart_written slots slot None within (λ one other place e differs at same. none-some one e) p.apart)
     (blocks_written slots slot None within keys key None p.walk later p.blocks [] placed (removed_keeps p.walk key) tt
     (λ key slot at. block_behind p.blocks [] (kept p.walk key) (object_in slots slot) (p.block_of key slot at)))
-    (grows_more p.entries (entry.Back start.number object.block) 5 start old new p.grown made_it) (omega (arith, call.moved))
+    (grows_more p.entries (entry.Back start.number object.block) start old new p.grown made_it.made) (omega (arith, call.moved))

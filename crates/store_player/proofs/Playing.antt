@@ -1,6 +1,5 @@
 -- How far the process of a pass has played a store script, one command on.
 use Rattle.std.proofs.Common.{◌≡◌, ℕ, ◌+◌, ◌*◌, ◌≤◌, Bool, cond, Option, Some, None, option_map, List, [], ◌∷◌, ◌++◌, length, refl, sym, ap, ◌∙◌, subst, arith, append_assoc, append-nil, length-append}
-use Rattle.std.proofs.Math.Seq.{take-length}
 use Rattle.std.specs.List.{count_by, fold, slice_index}
 use Rattle.std.proofs.lemmas.List.Sums.{fold-append, sum_by-append}
 use Rattle.pool_model.specs.declared.entry.Entry.{Entry}
@@ -11,9 +10,9 @@ use Rattle.store_script.specs.Fit.{calls_from, calls_of}
 use Rattle.store_script.specs.Replies.{Kept, Walk, after, begun, kept, walked}
 use Rattle.store_script.specs.Script.{place_of}
 use Rattle.block_pool.specs.Passing.{Passed}
-use Rattle.pool_player.proofs.Growing.{begins_so}
+use Rattle.pass_players.specs.Growing.{Grows}
 use Rattle.object_store.specs.Objects.{ObjectView}
-use Rattle.store_player.specs.Playing.{AreApart, AreHeld, BlockIs, Does, GrowsBy, HasPresent, PlaysSoFar, object_in, uses_words}
+use Rattle.store_player.specs.Playing.{AreApart, AreHeld, BlockIs, HasPresent, PlaysSoFar, object_in, uses_words}
 
 -- ---- one command more
 
@@ -52,7 +51,7 @@ module _ (keys : List ℕ) (done : List Command) (command : Command) (start old 
       → walk.answers ≡ p.walk.answers ++ answer ∷ []
       → HasPresent keys walk later → AreHeld later new → AreApart later
       → ((key slot : ℕ) → place_of key keys ≡ Some slot → BlockIs (p.blocks ++ bs) (kept walk key) (object_in later slot))
-      → GrowsBy (p.entries ++ es) start new → old.moves + 4 * cond (uses_words answer) 1 0 ≤ new.moves
+      → Grows (p.entries ++ es) start new → old.moves + 4 * cond (uses_words answer) 1 0 ≤ new.moves
       → PlaysSoFar keys (done ++ command ∷ []) start new later (answers ++ answer ∷ []) number
   so_far_step p walk_is calls_are puts same one count said present held apart block_of grown moved = record {
     refused = p.refused ++ rs;
@@ -87,41 +86,19 @@ module _ (keys : List ℕ) (done : List Command) (command : Command) (start old 
 
 -- ---- how the pass grows
 
-pub grows_none : (pass : Passed) → GrowsBy [] pass pass
-grows_none pass = record {
-  same = record { table = refl; sizes = refl; number = refl };
-  own = sym (append-nil pass.own);
-  seen = take-length pass.seen;
-  age = omega arith;
-}
-
 -- no call was made, and of what it makes of the pass only moves and known words differ
-pub grows_still : (entries : List Entry) (start old new : Passed) → new ≡ record old { moves = new.moves; known = new.known } → GrowsBy entries start old
-    → GrowsBy (entries ++ []) start new
+pub grows_still : (entries : List Entry) (start old new : Passed) → new ≡ record old { moves = new.moves; known = new.known } → Grows entries start old
+    → Grows (entries ++ []) start new
 grows_still entries start old new is grown =
     let none : entries ++ [] ≡ entries = append-nil entries in
-    subst (λ (es : List Entry). GrowsBy es start new) (sym none)
-    (subst (λ (p : Passed). GrowsBy entries start p) (sym is)
+    subst (λ (es : List Entry). Grows es start new) (sym none)
+    (subst (λ (p : Passed). Grows entries start p) (sym is)
     (record {
       same = record { table = grown.same.table; sizes = grown.same.sizes; number = grown.same.number };
       own = grown.own;
       seen = grown.seen;
       age = grown.age;
     }))
-
--- one call more
-pub grows_more : (entries : List Entry) (made : Entry) (least : ℕ) (start old new : Passed) → GrowsBy entries start old → Does made least old new
-    → GrowsBy (entries ++ made ∷ []) start new
-grows_more entries made least start old new grown call = record {
-  same = record {
-    table = call.same.table ∙ grown.same.table;
-    sizes = call.same.sizes ∙ grown.same.sizes;
-    number = call.same.number ∙ grown.same.number;
-  };
-  own = call.entered.own ∙ ap (λ es. es ++ made ∷ []) grown.own ∙ append_assoc start.own entries (made ∷ []);
-  seen = begins_so start.seen old.seen new.seen call.entered.seen.past (made ∷ []) grown.seen call.entered.seen.begins call.entered.seen.ends;
-  age = omega (arith, length-append entries (made ∷ []), grown.age, call.age);
-}
 
 -- ---- what a key keeps, by what its slot has
 

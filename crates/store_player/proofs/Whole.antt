@@ -1,8 +1,7 @@
 -- A store script that is played from its first command to its last.
-use Rattle.std.proofs.Common.{◌≡◌, ℕ, ◌-◌, Option, None, option_map, List, [], ◌++◌, length, replicate, refl, sym, ap, ◌∙◌, arith, append-nil, length-append, zero, suc}
+use Rattle.std.proofs.Common.{◌≡◌, ℕ, Option, None, option_map, List, [], ◌++◌, replicate, refl, sym, ap, ◌∙◌, arith, append-nil, zero, suc}
 use Rattle.std.proofs.lemmas.Option.{none-some}
 use Rattle.store_script.specs.declared.quad.Quad.{Quad}
-use Rattle.store_script.specs.declared.command.Command.{Command}
 use Rattle.store_script.specs.declared.command.StoreScript.{StoreScript}
 use Rattle.store_script.specs.declared.answered.Answered.{Answered}
 use Rattle.store_script.specs.Fit.{Fits, calls_from}
@@ -12,7 +11,7 @@ use Rattle.store_script.proofs.Determined.{only_refusals}
 use Rattle.block_pool.specs.Passing.{Passed}
 use Rattle.object_store.specs.Objects.{ObjectView}
 use Rattle.store_player.specs.Playing.{IsStorePlayed, PlaysSoFar, object_in}
-use Rattle.store_player.proofs.Playing.{grows_none}
+use Rattle.pass_players.proofs.Growing.{grows_none}
 
 -- slots that are all empty have nothing
 nothing_in : (n slot : ℕ) → object_in (replicate n None) slot ≡ None
@@ -69,8 +68,3 @@ played_all script start pass slots answers made p =
       apart = p.apart;
       moved = p.moved;
     }
-
--- the pass's own list grew by as many entries as calls were made
-pub made_by : {keys : List ℕ} {done : List Command} {start pass : Passed} {slots : List (Option (ObjectView Quad))} {answers : List Answered} {made : ℕ}
-    → PlaysSoFar keys done start pass slots answers made → length pass.own - length start.own ≡ made
-made_by {start = start} p = omega (arith, p.count, ap length p.grown.own, length-append start.own p.entries)

@@ -1,4 +1,2 @@
-pub mod All
-pub mod Players
+pub mod Player
 pub mod Playing
-pub mod Together

@@ -1,5 +1,5 @@
 -- A store script that the process of a pass plays.
-use Rattle.std.specs.Prelude.{◌≡◌, ℕ, ◌+◌, ◌*◌, ◌^◌, ◌<◌, ◌≤◌, Bool, true, false, Option, Some, None, List, [], ◌∷◌, ◌++◌, option_map, length, take, count_by, slice_index, slice_index_or}
+use Rattle.std.specs.Prelude.{◌≡◌, ℕ, ◌+◌, ◌*◌, ◌^◌, ◌<◌, ◌≤◌, Bool, true, false, Option, Some, None, List, [], ◌∷◌, ◌++◌, option_map, length, count_by, slice_index, slice_index_or}
 use Rattle.pool_model.specs.declared.entry.Entry.{Entry}
 use Rattle.store_script.specs.declared.quad.Quad.{Quad}
 use Rattle.store_script.specs.declared.command.Command.{Command}
@@ -9,9 +9,9 @@ use Rattle.store_script.specs.declared.answered.Answered.TheVariants.{Done, Full
 use Rattle.store_script.specs.Fit.{IsAnswered, calls_from}
 use Rattle.store_script.specs.Replies.{Kept, Walk, begun, kept, walked}
 use Rattle.store_script.specs.Script.{HasIndex, key_of, keys_of, place_of, slot_of}
-use Rattle.block_pool.specs.Calls.{Entered, SamePass}
 use Rattle.block_pool.specs.Passing.{IsOf, Passed, Pooled}
 use Rattle.object_store.specs.Objects.{HoldsWords, ObjectView}
+use Rattle.pass_players.specs.Growing.{Calls, Grows}
 
 -- the words of four numbers
 abbrev pub quad_words : Quad → List ℕ
@@ -29,19 +29,10 @@ uses_words Absent = false
 uses_words There = false
 uses_words (Value key value) = true
 
--- one call made this entry alone, began a transfer at most, and made so many steps at least
+-- one call made this entry alone, and so many steps at least
 pub record Does (entry : Entry) (least : ℕ) (old new : Passed) : Type 0 where
-  pub same : SamePass old new
-  pub entered : Entered entry old new
-  pub age : new.age ≤ old.age + 1
+  pub made : Calls entry old new
   pub moved : old.moves + least ≤ new.moves
-
--- the pass's own list grew by these entries, one a call; what it has seen begins with what it had; each call began a transfer at most
-pub record GrowsBy (entries : List Entry) (old new : Passed) : Type 0 where
-  pub same : SamePass old new
-  pub own : new.own ≡ old.own ++ entries
-  pub seen : take (length old.seen) new.seen ≡ old.seen
-  pub age : new.age ≤ old.age + length entries
 
 -- each key has its slot: that has an object with the numbers that are kept for the key, or else nothing
 abbrev pub HasPresent : List ℕ → Walk → List (Option (ObjectView Quad)) → Type 0
@@ -63,7 +54,7 @@ AreApart slots = (a b : ℕ) (one other : ObjectView Quad) → object_in slots a
 pub record IsStorePlayed (script : StoreScript) (old new : Passed) (slots : List (Option (ObjectView Quad))) (answers : List Answered)
     : Type 0 where
   pub entries : List Entry
-  pub grown : GrowsBy entries old new
+  pub grown : Grows entries old new
   pub answered : IsAnswered old.number script entries answers
   pub present : HasPresent (keys_of script.commands) (walked answered.refused script.commands) slots
   pub held : AreHeld slots new
@@ -92,7 +83,7 @@ pub record PlaysSoFar (keys : List ℕ) (done : List Command) (start pass : Pass
   pub held : AreHeld slots pass
   pub block_of : (key slot : ℕ) → place_of key keys ≡ Some slot → BlockIs blocks (kept walk key) (object_in slots slot)
   pub apart : AreApart slots
-  pub grown : GrowsBy entries start pass
+  pub grown : Grows entries start pass
   pub moved : start.moves + 4 * count_by uses_words answers ≤ pass.moves
   pub count : made ≡ length entries
   pub few : length entries ≤ length done

@@ -11,17 +11,10 @@ ghost use Rattle.object_store.specs.Putting.{IsPut, least_of_put};
 
 use block_pool::{Pass, Pool};
 use object_store::{Object, Put, Store};
+use pass_players::tell;
 use pool_io::Gate;
 use step_counter::{Quiet, Steps};
 use store_script::Quad;
-
-/// Tells the gate of a process's next call, so many of which were made.
-fn tell<G: Gate>(gate: &G, pass: &Pass, made: u64)
-    requires { ToldBefore (G.told gate.now) pass.now.number made }
-    ensures { G.told gate.now pass.now.number made }
-{
-    gate.pass(pass.number(), made);
-}
 
 /// A put, this call of its process. The gate was told of it.
 fn put_told<G: Gate>(pool: &Pool, pass: &mut Pass, value: Quad, gate: &G, call: u64) -> Put<Quad>

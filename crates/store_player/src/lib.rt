@@ -1,17 +1,15 @@
 //! Players of store scripts: the process of a pass keeps the records of a script in blocks of the pool.
 //!
 //! [`play_store`] plays one script with one pass, while other passes of the pool may be used in other threads. A gate is told of
-//! each call that gets or frees a block, before it. [`play_stores`]
-//! plays scripts with a pass each, in threads of their own, and closes the pool then.
+//! each call that gets or frees a block, before it. [`StorePlayer`] does so for the calls of [`pass_players`], which play the
+//! scripts of all processes.
 #![tactic(auto)]
 
-mod all;
 mod answer_list;
 mod calls;
 mod one;
-mod players;
-mod together;
+mod player;
 
-pub use all::{Replied, play_stores};
 pub use answer_list::AnswerList;
 pub use one::play_store;
+pub use player::StorePlayer;

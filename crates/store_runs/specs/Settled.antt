@@ -1,14 +1,12 @@
 -- What playing store scripts over a pool of their own leaves.
-use Rattle.std.specs.Prelude.{◌≡◌, ℕ, ◌*◌, ◌<◌, ◌≤◌, Some, List, length, count_by, slice_get}
+use Rattle.std.specs.Prelude.{◌≡◌, ℕ, ◌*◌, ◌≤◌, Some, List, length, count_by, slice_get}
 use Rattle.word_layout.specs.Sizes.{Sizes, limits_of}
-use Rattle.pool_model.specs.declared.entry.Entry.{Entry}
 use Rattle.pool_model.specs.History.{own}
 use Rattle.pool_model.specs.Legal.{IsLegal}
 use Rattle.block_pool.specs.Closing.{Settlement}
 use Rattle.store_script.specs.declared.command.StoreScript.{StoreScript}
 use Rattle.store_script.specs.declared.answered.Answered.{Answered}
 use Rattle.store_script.specs.Fit.{IsAnswered}
-use Rattle.pool_io.specs.Gates.{ToldBefore}
 use Rattle.store_player.specs.Playing.{uses_words}
 
 -- the entries of process k in the history fit its script, with refusals that they determine; the answers are those with these; and the
@@ -26,7 +24,3 @@ pub record IsSettledBy (sizes : Sizes) (scripts : List StoreScript) (lists : Lis
   pub one_each : length lists ≡ length scripts
   pub each : (k : ℕ) (script : StoreScript) (answers : List Answered) → slice_get scripts k ≡ Some script
       → slice_get lists k ≡ Some answers → HasAnswers settled k script answers
-
--- a gate was told of each call of these processes in the history
-abbrev pub WasToldOfAll : (ℕ → ℕ → Type 0) → ℕ → List Entry → Type 0
-WasToldOfAll told processes history = (k : ℕ) → k < processes → ToldBefore told k (length (own history k))

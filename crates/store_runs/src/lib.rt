@@ -6,8 +6,7 @@
 pub mod laws;
 mod play;
 
-pub use play::play_stores_on_pool;
-pub use store_player::Replied;
+pub use play::{Replied, play_stores_on_pool};
 
 #[cfg(test)]
 mod tests;

@@ -2,16 +2,27 @@
 ghost use Rattle.std.specs.Prelude.{◌≡◌, ◌≤◌, length, IfOk};
 ghost use Rattle.std.specs.List.{All};
 ghost use Rattle.store_runs.specs.Playable.{IsPlayable};
-ghost use Rattle.store_runs.specs.Settled.{IsSettledBy, WasToldOfAll};
+ghost use Rattle.pass_players.specs.Settled.{WasToldOfAll};
+ghost use Rattle.store_runs.specs.Settled.{IsSettledBy};
 
-use block_pool::Pool;
+use block_pool::Settled;
+use pass_players::play_over;
 use pool_io::Gate;
 use pool_model::NoMemory;
 use std::alloc::Global;
 use std::thread::Threads;
-use store_player::{Replied, play_stores};
+use store_player::{AnswerList, StorePlayer};
 use store_script::StoreScript;
 use word_layout::Shape;
+
+/// What a pool leaves whose processes played a store script each.
+#[derive(Drop)]
+pub struct Replied {
+    /// The answers to each script.
+    pub answers: Vec<AnswerList>,
+    /// The pool as it was closed.
+    pub settled: Settled,
+}
 
 /// Opens a pool of this shape, plays each script by the process of its place, in a thread of its own where one can be
 /// had, and closes the pool. The answers are those that the one history of the closed pool gives; each command that is
@@ -32,6 +43,9 @@ pub fn play_stores_on_pool<R: Threads + Sync, G: Gate + Sync>(
     ensures settled { IfOk result (λ replied. IsSettledBy shape.now scripts.now replied.answers.items replied.settled) }
     ensures told { IfOk result (λ replied. WasToldOfAll (G.told gate.now) shape.now.processes replied.settled.history) }
 {
-    let (pool, passes) = Pool::open(alloc, shape)?;
-    play_stores(rt, alloc, pool, passes, scripts, gate)
+    let played = play_over::<R, StorePlayer, G>(rt, alloc, shape, scripts, gate)?;
+    Ok(Replied {
+        answers: played.outcomes,
+        settled: played.settled,
+    })
 }

@@ -1,9 +1,9 @@
-use Rattle.std.proofs.Common.{◌≡◌, ℕ, length, take, arith, ap, ◌∙◌, subst, sym}
+use Rattle.std.proofs.Common.{◌≡◌, length, take, arith, ap, ◌∙◌, sym}
 use Rattle.std.proofs.lemmas.List.{take_more, take_all, length-take-le, length-replicate}
 use Rattle.mtrace_reader.specs.declared.steps.Step.TheVariants.{Place}
 use Rattle.trace_player.proofs.Ordered.{may_come, room_for}
-use Rattle.pool_io.specs.Gates.{ToldBefore}
-use Rattle.pool_player.proofs.Playing.{made_by, played_all, so_far_none}
+use Rattle.pass_players.proofs.Growing.{grown_by}
+use Rattle.pool_player.proofs.Playing.{played_all, so_far_none}
 use Rattle.pool_player.proofs.one.play_one.Goals as goal
 
 pub loop-step-init : goal.loop-step-init
@@ -16,10 +16,8 @@ pub play_step-requires-clause-next : goal.play_step-requires-clause-next
 play_step-requires-clause-next g c =
     let script = c.args.script.now in
     let place = c.loop-step.step-index in
-    let formed = c.requires.well_formed in
     let e = c.as_slice-step-items.ensures in
     let within = rw e at c.loop-step-test.true in
-    let size = length-take-le place script.steps (omega arith) in
     let slots : length c.loop-step.slots ≡ script.news = c.loop-step.auto.slots ∙ ap length c.requires.empty ∙ length-replicate script.news _ in
     let same = c.loop-step.invariant.played.grown.same in
     rw e (record {
@@ -27,9 +25,9 @@ play_step-requires-clause-next g c =
       done = take place script.steps;
       start = c.args.pass.now;
       of_pool = record { table = same.table ∙ c.requires.pool.table; sizes = same.sizes ∙ c.requires.pool.sizes };
-      young = omega arith;
-      room = rw slots (room_for script place (Place 0) formed within);
-      may_come = may_come script place (Place 0) formed within;
+      young = omega (arith, length-take-le place script.steps (omega arith));
+      room = rw slots (room_for script place (Place 0) c.requires.well_formed within);
+      may_come = may_come script place (Place 0) c.requires.well_formed within;
       played = rw e at c.loop-step.invariant.played;
     })
 
@@ -54,5 +52,5 @@ returns g c =
     let played = rw all at c.loop-step.invariant.played in
     record {
       played = played_all c.args.script.now _ _ c.loop-step.slots _ _ c.requires.well_formed played;
-      told = rw (made_by played, sym played.grown.same.number) c.loop-step.invariant.told;
+      told = rw (grown_by played.grown played.count, sym played.grown.same.number) c.loop-step.invariant.told;
     }

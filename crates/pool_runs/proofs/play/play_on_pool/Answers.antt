@@ -1,33 +1,11 @@
-use Rattle.std.proofs.Common.{◌∙◌, ap, subst, sym}
-use Rattle.std.proofs.lemmas.Result.{IfOk-weaker}
-use Rattle.word_layout.specs.Sizes.{Sizes}
-use Rattle.block_pool.proofs.Ordered.{opened_are_in_order}
-use Rattle.pool_runs.specs.Settled.{IsSettledBy, WasToldOfAll}
-use Rattle.pool_runs.proofs.Settling.{may_play, settles, told_of_all}
+use Rattle.pool_runs.proofs.Settling.{settles}
 use Rattle.pool_runs.proofs.play.play_on_pool.Goals as goal
 
-pub play_all-requires-clause-passes : goal.play_all-requires-clause-passes
-play_all-requires-clause-passes g c κs within = opened_are_in_order c.in_ok-pool.pool c.in_ok-pool.passes.items c.in_ok-pool.ensures.passes
-
-pub play_all-requires-clause-may : goal.play_all-requires-clause-may
-play_all-requires-clause-may g c κs within =
-    may_play c.in_ok-pool.pool c.in_ok-pool.passes.items c.args.scripts.now c.in_ok-pool.ensures.passes c.requires.playable
+pub play_over-requires-clause-playable : goal.play_over-requires-clause-playable
+play_over-requires-clause-playable g c κs within = λ k d low.
+    let may = c.requires.playable k d low in
+    record { suited = may.formed; few = may.few }
 
 pub returns-clause-settled : goal.returns-clause-settled
 returns-clause-settled g c =
-    let shape = c.in_ok-pool.ensures.shape in
-    let each = c.requires.one_each ∙ sym (ap (λ (sizes : Sizes). sizes.processes) shape) in
-    IfOk-weaker c.play_all.result _ _
-    (λ played all. subst (λ (sizes : Sizes). IsSettledBy sizes c.args.scripts.now played.tallies.items played.settled) shape
-    (settles c.in_ok-pool.pool c.in_ok-pool.passes.items c.args.scripts.now c.in_ok-pool.ensures.passes (g.G.Gate.told c.args.gate.now)
-    played.tallies.items played.settled each all c.requires.playable)) c.play_all.ensures
-
-pub returns-clause-told : goal.returns-clause-told
-returns-clause-told g c =
-    let shape = c.in_ok-pool.ensures.shape in
-    let told = g.G.Gate.told c.args.gate.now in
-    let each = c.requires.one_each ∙ sym (ap (λ (sizes : Sizes). sizes.processes) shape) in
-    IfOk-weaker c.play_all.result _ _
-    (λ played all. subst (λ (sizes : Sizes). WasToldOfAll told sizes.processes played.settled.history) shape
-    (told_of_all c.in_ok-pool.pool c.in_ok-pool.passes.items c.args.scripts.now c.in_ok-pool.ensures.passes told
-    played.tallies.items played.settled each all)) c.play_all.ensures
+    settles c.args.shape.now c.args.scripts.now _ _ c.requires.one_each c.in_ok-played.ensures.settled c.requires.playable

@@ -1,0 +1,5 @@
+pub mod Growing
+pub mod Gathering
+pub mod Parting
+pub mod Closed
+pub mod Settling

@@ -1,0 +1,27 @@
+use Rattle.std.proofs.lemmas.Result.{IfOk-weaker}
+use Rattle.block_pool.proofs.Ordered.{opened_are_in_order}
+use Rattle.pass_players.proofs.Settling.{may_play_together, settles, told_of_all}
+use Rattle.pass_players.proofs.play.play_over.Goals as goal
+
+pub play_all-requires-clause-passes : goal.play_all-requires-clause-passes
+play_all-requires-clause-passes g c κs within =
+    opened_are_in_order c.in_ok-pool.pool c.in_ok-pool.passes.items c.in_ok-pool.ensures.passes
+
+pub play_all-requires-clause-may : goal.play_all-requires-clause-may
+play_all-requires-clause-may g c κs within =
+    may_play_together c.in_ok-pool.pool c.in_ok-pool.passes.items c.args.scripts.now c.in_ok-pool.ensures.passes g.P.Player.suits
+    g.P.Player.most_calls c.args.shape.now c.in_ok-pool.ensures.shape c.requires.one_each c.requires.playable
+
+pub returns-clause-settled : goal.returns-clause-settled
+returns-clause-settled g c =
+    IfOk-weaker c.play_all.result _ _ (λ played all.
+    settles c.in_ok-pool.pool c.in_ok-pool.passes.items c.args.scripts.now c.in_ok-pool.ensures.passes g.P.Player.fits
+    (g.G.Gate.told c.args.gate.now) played.outcomes.items played.settled c.args.shape.now c.in_ok-pool.ensures.shape
+    c.requires.one_each all) c.play_all.ensures
+
+pub returns-clause-told : goal.returns-clause-told
+returns-clause-told g c =
+    IfOk-weaker c.play_all.result _ _ (λ played all.
+    told_of_all c.in_ok-pool.pool c.in_ok-pool.passes.items c.args.scripts.now c.in_ok-pool.ensures.passes g.P.Player.fits
+    (g.G.Gate.told c.args.gate.now) played.outcomes.items played.settled c.args.shape.now c.in_ok-pool.ensures.shape
+    c.requires.one_each all) c.play_all.ensures

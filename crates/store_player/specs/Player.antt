@@ -1,0 +1,27 @@
+-- What a player of a store script leaves.
+use Rattle.std.specs.Prelude.{◌≡◌, ◌+◌, ◌*◌, ◌≤◌, None, List, length, replicate, count_by, Option}
+use Rattle.word_layout.specs.Sizes.{Sizes}
+use Rattle.store_script.specs.declared.command.StoreScript.{StoreScript}
+use Rattle.store_script.specs.declared.answered.Answered.{Answered}
+use Rattle.store_script.specs.declared.quad.Quad.{Quad}
+use Rattle.store_script.specs.Script.{IsWellFormed}
+use Rattle.store_script.specs.Fit.{IsAnswered}
+use Rattle.object_store.specs.Objects.{ObjectView}
+use Rattle.pass_players.specs.Playing.{Course}
+use Rattle.store_player.specs.Playing.{uses_words}
+
+-- the script is well formed, and the blocks of the pool have room for a record
+pub record Suits (sizes : Sizes) (script : StoreScript) : Type 0 where
+  pub formed : IsWellFormed script
+  pub words : 4 ≤ sizes.words
+
+-- the slots are empty, one for each key of the script, and there is a place for each answer
+pub record HasPlaces (script : StoreScript) (slots : List (Option (ObjectView Quad))) (answers : List Answered) : Type 0 where
+  pub empty : slots ≡ replicate script.slots None
+  pub places : length answers ≡ length script.commands
+
+-- the entries of the course fit the script, with refusals that they determine; the answers are those with these; and each command that
+-- used words made four steps at least
+pub record IsServed (course : Course) (script : StoreScript) (answers : List Answered) : Type 0 where
+  pub answered : IsAnswered course.process script course.entries answers
+  pub moved : course.before + 4 * count_by uses_words answers ≤ course.after

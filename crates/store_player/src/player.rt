@@ -1,0 +1,70 @@
+// Who plays a store script.
+ghost use Rattle.std.specs.Prelude.{◌≡◌, IfOk, length, replicate};
+ghost use Rattle.store_script.specs.declared.answered.Answered.TheVariants.{Absent};
+ghost use Rattle.store_player.specs.Player.{HasPlaces, IsServed, Suits};
+
+use crate::answer_list::AnswerList;
+use crate::one::play_store;
+use block_pool::{Pass, Pool};
+use object_store::Object;
+use pass_players::{Player, empty_slots};
+use pool_io::Gate;
+use pool_model::NoMemory;
+use std::alloc::Global;
+use store_script::{Answered, Quad, StoreScript};
+
+/// Plays a store script: it has a slot for each key of the script, and a place for each answer. It leaves the answers.
+#[derive(Drop)]
+pub struct StorePlayer {
+    slots: Vec<Option<Object<Quad>>>,
+    answers: Vec<Answered>,
+}
+
+/// A place for each of so many answers.
+fn blank_answers(alloc: Global, count: usize) -> Result<Vec<Answered>, NoMemory>
+    ensures { IfOk result (λ answers. answers.items ≡ replicate count Absent) }
+{
+    let mut answers = Vec::with_capacity(alloc, count)?;
+    for _place in 0..count {
+        answers.push(Answered::Absent)?;
+    }
+    Ok(answers)
+}
+
+impl Player for StorePlayer {
+    type Script = StoreScript;
+
+    type Outcome = AnswerList;
+
+    ghost suits = { Suits };
+
+    ghost most_calls = { λ script. length script.commands };
+
+    ghost is_ready = { λ script player. HasPlaces script player.slots.items player.answers.items };
+
+    ghost outcome = { λ player. player.answers.items };
+
+    ghost fits = { IsServed };
+
+    fn new(alloc: Global, script: &StoreScript) -> Result<StorePlayer, NoMemory> {
+        Ok(StorePlayer {
+            slots: empty_slots(alloc, script.slots as usize)?,
+            answers: blank_answers(alloc, script.commands.as_slice().len())?,
+        })
+    }
+
+    fn play<G: Gate>(&mut self, pool: &Pool, pass: &mut Pass, script: &StoreScript, gate: &G) {
+        play_store(
+            pool,
+            pass,
+            script,
+            self.slots.as_mut_slice(),
+            self.answers.as_mut_slice(),
+            gate,
+        );
+    }
+
+    fn into_outcome(self) -> AnswerList {
+        AnswerList::new(self.answers)
+    }
+}
