@@ -18,8 +18,8 @@ pub record HasAnswers (settled : Settlement) (k : ℕ) (script : StoreScript) (a
   pub made : slice_get settled.moves k ≡ Some moves
   pub some : 4 * count_by uses_words answers ≤ moves
 
--- the pool had this shape and was closed with one legal history, which has the answers to each script; with enough blocks the answers follow
--- from the scripts alone
+-- the pool had this shape and was closed with one legal history, which has the answers to each script; with enough blocks the answers
+-- follow from the scripts alone
 pub record IsSettledBy (sizes : Sizes) (scripts : List StoreScript) (lists : List (List Answered)) (settled : Settlement) : Type 0 where
   pub shape : settled.sizes ≡ sizes
   pub legal : IsLegal (limits_of sizes) settled.history
