@@ -3,19 +3,17 @@ use Rattle.std.proofs.Common.{◌≡◌, ℕ, ◌+◌, ◌<◌, ◌≤◌, zero,
 use Rattle.std.specs.List.{Contains, flat_map, count_by, slice_get, slice_index}
 use Rattle.std.proofs.Math.Seq.{take-append_seam}
 use Rattle.std.proofs.lemmas.List.Sums.{sum_by-cons}
-use Rattle.std.proofs.lemmas.List.Elements.{Contains-append_right, Contains-append_cases}
+use Rattle.std.proofs.lemmas.List.Elements.{Contains-append_cases}
 use Rattle.pool_model.specs.declared.entry.Entry.{Entry}
 use Rattle.pool_model.specs.declared.entry.Entry.TheVariants.{Got, Back, Dry}
 use Rattle.pool_model.specs.History.{is_got, is_back}
+use Rattle.enough_blocks.specs.Enough.{NoneIsDry}
+use Rattle.enough_blocks.proofs.Refusals.{front_is_not_dry, none_rest}
 use Rattle.mtrace_reader.specs.declared.steps.Step.{Step}
 use Rattle.mtrace_reader.specs.declared.steps.Step.TheVariants.{Place, Leave}
 use Rattle.mtrace_reader.specs.Script.{LeavesPlaced}
 use Rattle.trace_player.specs.Tally.{is_refused, fills, empties}
 use Rattle.trace_player.specs.Fit.{calls_of}
-
--- no entry is a refusal
-abbrev pub NoneIsDry : List Entry → Type 0
-NoneIsDry entries = (by : ℕ) → Contains entries (Dry by) → ⊥
 
 -- the slots that these steps place were not refused
 abbrev pub Unrefused : List Bool → List Step → Type 0
@@ -33,13 +31,6 @@ one_if t = cond t 1 0
 
 count_cons : {A : Type 0} (p : A → Bool) (x : A) (xs : List A) (t : Bool) → p x ≡ t → count_by p (x ∷ xs) ≡ one_if t + count_by p xs
 count_cons p x xs t e = sum_by-cons (λ y. cond (p y) 1 0) x xs ∙ ap (λ u. one_if u + count_by p xs) e
-
-first_is_in : {A : Type 0} (x y : A) (xs : List A) → x ≡ y → Contains (x ∷ xs) y
-first_is_in x y xs e = (0, omega arith, e)
-
--- no entry but the first is a refusal either
-none_in_rest : (entry : Entry) (entries : List Entry) → NoneIsDry (entry ∷ entries) → NoneIsDry entries
-none_in_rest entry entries none by has = none by (Contains-append_right (entry ∷ []) entries (Dry by) has)
 
 slice_get_seam : (before rest : List Step) (step : Step) → slice_get (before ++ step ∷ rest) (length before) ≡ Some step
 slice_get_seam [] rest step = refl
@@ -106,7 +97,7 @@ module _ (i : ℕ) (refused free : List Bool) (blocks : List ℕ) (frees : (slot
   counts_steps before steps [] rest leaves so_far none made = record { count = 0; within = omega arith; gots = refl; backs = refl }
   counts_steps before [] (entry ∷ entries) rest leaves so_far none made = absurd cc
   counts_steps before (Place slot ∷ steps) (entry ∷ entries) rest leaves so_far none made =
-      by_answer (λ unrefused more. counts_steps (before ++ Place slot ∷ []) steps entries rest (one_on before steps (Place slot) leaves) unrefused (none_in_rest entry entries none) more)
+      by_answer (λ unrefused more. counts_steps (before ++ Place slot ∷ []) steps entries rest (one_on before steps (Place slot) leaves) unrefused (none_rest (entry ∷ []) entries none) more)
       (is_refused refused slot) refl
     where
       by_answer : (Unrefused refused (before ++ Place slot ∷ []) → entries ++ rest ≡ flat_map (calls_of i refused blocks) steps → CountsSteps free steps entries)
@@ -115,7 +106,7 @@ module _ (i : ℕ) (refused free : List Bool) (blocks : List ℕ) (frees : (slot
           let first : entry ∷ (entries ++ rest) ≡ Dry i ∷ flat_map (calls_of i refused blocks) steps
           = made ∙ ap (λ dry. calls_at (Place slot) dry ++ flat_map (calls_of i refused blocks) steps) answered in
           let is : entry ≡ Dry i = cc in
-          absurd (none i (first_is_in entry (Dry i) entries is))
+          absurd (front_is_not_dry i entry entries none is)
       by_answer on false answered =
           let first : entry ∷ (entries ++ rest) ≡ Got i (slice_index blocks slot) ∷ flat_map (calls_of i refused blocks) steps
           = made ∙ ap (λ dry. calls_at (Place slot) dry ++ flat_map (calls_of i refused blocks) steps) answered in
@@ -130,7 +121,7 @@ module _ (i : ℕ) (refused free : List Bool) (blocks : List ℕ) (frees : (slot
       let more : entries ++ rest ≡ flat_map (calls_of i refused blocks) steps = cc in
       leave_counted slot steps entry entries is
       (counts_steps (before ++ Leave slot ∷ []) steps entries rest (one_on before steps (Leave slot) leaves) (leave_more refused before slot so_far)
-      (none_in_rest entry entries none) more)
+      (none_rest (entry ∷ []) entries none) more)
 
   -- all calls for steps, where none is a refusal, are those where nothing is refused
   pub calls_without_refusals : (before steps : List Step) → LeavesPlaced (before ++ steps) → Unrefused refused before → NoneIsDry (flat_map (calls_of i refused blocks) steps)
@@ -144,17 +135,17 @@ module _ (i : ℕ) (refused free : List Bool) (blocks : List ℕ) (frees : (slot
           → flat_map (calls_of i refused blocks) steps ≡ flat_map (calls_of i free blocks) steps) → (dry : Bool) → is_refused refused slot ≡ dry
           → flat_map (calls_of i refused blocks) (Place slot ∷ steps) ≡ flat_map (calls_of i free blocks) (Place slot ∷ steps)
       by_answer on true answered =
-          absurd (none i (first_is_in (cond (is_refused refused slot) (Dry i) (Got i (slice_index blocks slot))) (Dry i) (flat_map (calls_of i refused blocks) steps)
-          (ap (λ dry. cond dry (Dry i) (Got i (slice_index blocks slot))) answered)))
+          let call : Entry = cond (is_refused refused slot) (Dry i) (Got i (slice_index blocks slot)) in
+          let is : call ≡ Dry i = ap (λ dry. cond dry (Dry i) (Got i (slice_index blocks slot))) answered in
+          absurd (front_is_not_dry i call (flat_map (calls_of i refused blocks) steps) none is)
       by_answer on false answered =
           let more = on (place_more refused before slot answered so_far)
-          (none_in_rest (cond (is_refused refused slot) (Dry i) (Got i (slice_index blocks slot))) (flat_map (calls_of i refused blocks) steps) none) in
+          (none_rest (calls_at (Place slot) (is_refused refused slot)) (flat_map (calls_of i refused blocks) steps) none) in
           ap (λ dry. calls_at (Place slot) dry ++ flat_map (calls_of i refused blocks) steps) (answered ∙ sym (frees slot))
           ∙ ap (λ calls. calls_at (Place slot) (is_refused free slot) ++ calls) more
   calls_without_refusals before (Leave slot ∷ steps) leaves so_far none =
       let given = left_unrefused refused before steps slot leaves so_far in
-      let rest_none : NoneIsDry (flat_map (calls_of i refused blocks) steps)
-      = λ by has. none by (Contains-append_right (calls_at (Leave slot) (is_refused refused slot)) (flat_map (calls_of i refused blocks) steps) (Dry by) has) in
+      let rest_none = none_rest (calls_at (Leave slot) (is_refused refused slot)) (flat_map (calls_of i refused blocks) steps) none in
       let more = calls_without_refusals (before ++ Leave slot ∷ []) steps (one_on before steps (Leave slot) leaves) (leave_more refused before slot so_far) rest_none in
       ap (λ dry. calls_at (Leave slot) dry ++ flat_map (calls_of i refused blocks) steps) (given ∙ sym (frees slot))
       ∙ ap (λ calls. calls_at (Leave slot) (is_refused free slot) ++ calls) more

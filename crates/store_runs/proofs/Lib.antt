@@ -1,1 +1,4 @@
+mod Enough
+mod Present
 pub mod Settling
+mod Unrefused

@@ -15,7 +15,8 @@ use store_script::StoreScript;
 use word_layout::Shape;
 
 /// Opens a pool of this shape, plays each script by the process of its place, in a thread of its own where one can be
-/// had, and closes the pool. The answers are those that the one history of the closed pool gives; each command that is
+/// had, and closes the pool. The answers are those that the one history of the closed pool gives; with more blocks than
+/// the processes may withhold and keys are present at most, they follow from the scripts alone. Each command that is
 /// answered by Done or by numbers made its process four steps at least. The gate is told of each call that gets or frees
 /// a block before it.
 ///

@@ -7,4 +7,4 @@ play_over-requires-clause-playable g c κs within = λ k d low.
     record { suited = record { formed = may.formed; words = c.requires.words }; few = may.few }
 
 pub returns-clause-settled : goal.returns-clause-settled
-returns-clause-settled g c = settles c.args.shape.now c.args.scripts.now _ _ c.in_ok-played.ensures.settled
+returns-clause-settled g c = settles c.args.shape.now c.args.scripts.now _ _ c.in_ok-played.ensures.settled c.requires.one_each
