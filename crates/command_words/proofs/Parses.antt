@@ -1,21 +1,22 @@
 -- What a parse of a simple command says of its words.
-use Rattle.std.proofs.Common.{◌≡◌, ◌∙◌, inl, inr, ℕ, true, List, [], ◌∷◌, Option, Some, None, Result, Ok, Err, refl, sym, ap, subst}
-use Rattle.std.specs.Prelude.{IfErr, IsErrAnd, option_and_then, option_map}
+use Rattle.std.proofs.Common.{◌≡◌, ◌∙◌, inl, inr, ℕ, true, List, [], ◌∷◌, Option, Some, None, Result, Ok, Err, refl, map, sym, ap, subst}
+use Rattle.std.specs.Prelude.{IfOk, IsErrAnd, option_and_then, option_map}
 use Rattle.std.specs.Borrow.{Bor}
 use Rattle.clap.specs.Kinds.{HasKind, IsAmong, Kinds}
-use Rattle.clap.specs.Matches.{first_value}
+use Rattle.clap.specs.Matches.{first_value, matched_of, raw_values}
 use Rattle.clap.specs.Simple.{App, app_of, app_of_fields, matches_of}
 use Rattle.clap.specs.Faults.{fault_of}
 use Rattle.clap.specs.Values.{kind_of}
-use Rattle.clap.specs.Walk.{Row, rows_of}
+use Rattle.clap.specs.Walk.{Row, all_of, rows_of}
 use Rattle.clap.specs.declared.builder.command.Command.{Command}
 use Rattle.clap.specs.declared.builder.command.Command.TheViews.{out-Command}
 use Rattle.clap.specs.declared.error.Error.{Error}
 use Rattle.clap.specs.declared.error.kind.ErrorKind.TheVariants.{OutOfMemory}
 use Rattle.clap.specs.declared.parser.matches.Found.{Found}
-use Rattle.clap.proofs.WalkLemmas.{first_value-rows}
+use Rattle.clap.proofs.WalkLemmas.{first_value-rows, raw_values-rows}
 use Rattle.command_words.specs.Number.{number_of}
 use Rattle.command_words.specs.Options.{IsMatchedBy, IsRefused, asked_of, if_faultless, number_at, without_help}
+use Rattle.command_words.specs.Reads.{Reads}
 use Rattle.command_words.specs.declared.fault.WordsFault.{WordsFault}
 use Rattle.command_words.specs.declared.fault.WordsFault.TheVariants.{Faulty}
 
@@ -23,6 +24,12 @@ use Rattle.command_words.specs.declared.fault.WordsFault.TheVariants.{Faulty}
 pub app_of-without_help : (old new : Command) → out-Command new ≡ record (out-Command old) { disable_help_flag = true }
     → app_of new ≡ without_help (app_of old)
 app_of-without_help old new is = ap app_of_fields is
+
+-- the values that the matches have for an id
+pub all_of-values : (found : Found) (id : List ℕ) (values : Option (Bor (List (Bor (List ℕ)))))
+    → option_map (λ s. map (λ v. v.now) s.now) values ≡ option_map raw_values (matched_of found id)
+    → option_map (λ s. map (λ v. v.now) s.now) values ≡ all_of id (rows_of found)
+all_of-values found id values is = is ∙ raw_values-rows found id
 
 -- the text that the matches have for an option, if any, is what its number is read from
 pub number_at-text : (bits : ℕ) (found : Found) (name : List ℕ) (text : Option (Bor (List ℕ)))
@@ -54,14 +61,14 @@ pub has_fault : (kinds : Kinds) (error : Error) → HasKind kinds error → ¬ (
 has_fault kinds error (inl out) memory none = memory out
 has_fault kinds error (inr among) memory none = subst (IsAmong (kind_of error)) none among
 
--- a fault that is handed on comes where it came before
-pub handed_on : {Asked : Type 0} (answer : Result Asked WordsFault) (first : WordsFault) (Cause : Type 0)
-    → IsErrAnd answer (λ fault. fault ≡ first) → (first ≡ Faulty → Cause) → IfErr answer (λ fault. fault ≡ Faulty → Cause)
-handed_on (Ok asked) first Cause same came = tt
-handed_on (Err last) first Cause same came = λ is. came (sym same ∙ is)
+-- a fault that is handed on is read as it was before
+pub handed_on : {Asked : Type 0} (meaning : Option Asked) (answer : Result Asked WordsFault) (first : WordsFault)
+    → IsErrAnd answer (λ fault. fault ≡ first) → (first ≡ Faulty → meaning ≡ None) → Reads meaning answer
+handed_on meaning (Ok asked) first same none = absurd same
+handed_on meaning (Err last) first same none = λ is. none (sym same ∙ is)
 
--- an answer that may be faulty where nothing is asked for
-pub may_be_faulty : {Asked : Type 0} (meaning : Option Asked) (answer : Result Asked WordsFault) → meaning ≡ None
-    → IfErr answer (λ fault. fault ≡ Faulty → meaning ≡ None)
-may_be_faulty meaning (Ok play) none = tt
-may_be_faulty meaning (Err _) none = λ _. none
+-- what holds of all that is meant holds of what is read
+pub read_ok : {Asked : Type 0} (meaning : Option Asked) (Holds : Asked → Type 0) (answer : Result Asked WordsFault)
+    → ((asked : Asked) → meaning ≡ Some asked → Holds asked) → Reads meaning answer → IfOk answer Holds
+read_ok meaning Holds (Ok asked) holds read = holds asked read
+read_ok meaning Holds (Err _) holds read = tt

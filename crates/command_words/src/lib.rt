@@ -5,6 +5,7 @@
 //! [`read_words`] answers exactly that.
 #![tactic(auto)]
 
+mod asked;
 mod command;
 mod drill_words;
 mod fault;

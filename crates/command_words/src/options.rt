@@ -1,7 +1,8 @@
 // The options of a command, its files, and the matches of its words.
-ghost use Rattle.std.specs.Prelude.{◌≡◌, [], false, IfOk, IfErr, map, string_bytes};
-ghost use Rattle.clap.specs.Words.{app_of, found_of, rows_of, rule_of};
+ghost use Rattle.std.specs.Prelude.{◌≡◌, [], false, IfOk, IfErr, codes, map, string_bytes};
+ghost use Rattle.clap.specs.Words.{all_of, app_of, found_of, rows_of, rule_of};
 ghost use Rattle.command_words.specs.Options.{IsMatchedBy, IsReadable, IsRefused, command_of, files_rule, number_at, option_rule};
+ghost use Rattle.command_words.specs.Reads.{Reads};
 ghost use Rattle.command_words.specs.declared.fault.WordsFault.TheVariants.{Faulty};
 
 use crate::number::read_number;
@@ -65,8 +66,16 @@ pub(crate) fn number_of_option(matches: &ArgMatches<'_>, name: &str) -> Option<u
     u32::try_from(long_number_of_option(matches, name)?).ok()
 }
 
+/// The file names that the matches have.
+pub(crate) fn files_of(alloc: Global, matches: &ArgMatches<'_>) -> Result<FileNames, WordsFault>
+    ensures { Reads (all_of (codes "files") (rows_of (found_of matches.now))) result }
+{
+    let names = matches.get_raw("files").ok_or(WordsFault::Faulty)?;
+    Ok(file_names(alloc, names)?)
+}
+
 /// Owned copies of the names.
-pub(crate) fn file_names(alloc: Global, names: &[&str]) -> Result<FileNames, AllocError>
+fn file_names(alloc: Global, names: &[&str]) -> Result<FileNames, AllocError>
     ensures { IfOk result (λ files. files ≡ map (λ name. name.now) names.now) }
 {
     let mut owned = Vec::with_capacity(alloc, names.len())?;

@@ -1,11 +1,9 @@
 // The whole command line.
-ghost use Rattle.std.specs.Prelude.{◌≡◌, Some, None, IfOk, IfErr, map, string_bytes};
-ghost use Rattle.command_words.specs.Meant.{HasFewCalls, meant};
-ghost use Rattle.command_words.specs.declared.fault.WordsFault.TheVariants.{Faulty};
+ghost use Rattle.std.specs.Prelude.{IfOk, map, string_bytes};
+ghost use Rattle.command_words.specs.Meant.{HasFewCalls, command_meant, meant};
+ghost use Rattle.command_words.specs.Reads.{Reads};
 
-use crate::drill_words::read_drill;
-use crate::play_words::read_play;
-use crate::store_words::read_store;
+use crate::asked::read_asked;
 use crate::{Command, WordsFault};
 use std::alloc::Global;
 
@@ -13,17 +11,23 @@ use std::alloc::Global;
 ///
 /// `Faulty` exactly where the words mean no command; `NoMemory` for want of memory.
 pub fn read_words(alloc: Global, words: &[String]) -> Result<Command, WordsFault>
-    ensures ok { IfOk result (λ command. meant (map string_bytes words.now) ≡ Some command) }
+    ensures read { Reads (meant (map string_bytes words.now)) result }
     ensures few { IfOk result HasFewCalls }
-    ensures faulty { IfErr result (λ fault. fault ≡ Faulty → meant (map string_bytes words.now) ≡ None) }
 {
     let Some(name) = words.get(1) else {
         return Err(WordsFault::Faulty);
     };
-    match name.as_str() {
-        "play" => Ok(Command::Play(read_play(alloc, &words[1..])?)),
-        "drill" => Ok(Command::Drill(read_drill(alloc, &words[1..])?)),
-        "store" => Ok(Command::Store(read_store(alloc, &words[1..])?)),
+    read_command(alloc, name.as_str(), &words[1..])
+}
+
+/// Reads the words of the command of this name, which is the first of them.
+fn read_command(alloc: Global, name: &str, words: &[String]) -> Result<Command, WordsFault>
+    ensures { Reads (command_meant name.now (map string_bytes words.now)) result }
+{
+    match name {
+        "play" => read_asked(alloc, words).map(Command::Play),
+        "drill" => read_asked(alloc, words).map(Command::Drill),
+        "store" => read_asked(alloc, words).map(Command::Store),
         _ => Err(WordsFault::Faulty),
     }
 }

@@ -1,5 +1,6 @@
 -- Why a run ends as it does.
-use Rattle.std.proofs.Common.{◌≡◌, ℕ, ◌+◌, ◌-◌, ◌^◌, ◌<◌, ◌≤◌, ◌⊎◌, min, suc, List, [], ◌∷◌, length, refl, sym, ap, ◌∙◌, subst, inl, inr, arith, Some, None}
+use Rattle.std.proofs.Common.{◌≡◌, ℕ, ◌+◌, ◌-◌, ◌^◌, ◌<◌, ◌≤◌, ◌⊎◌, min, suc, List, [], ◌∷◌, length, refl, sym, ap, ◌∙◌, subst, inl, inr}
+use Rattle.std.proofs.Common.{arith, Some, None}
 use Rattle.std.specs.Prelude.{Bool, Option, Result, Ok, Err, IfOk, IfErr, OnErr, fold, slice_get}
 use Rattle.std.proofs.lemmas.Bool.{cases_lt}
 use Rattle.std.proofs.lemmas.Option.{get_or_from_slice_get, slice_get_within}
@@ -41,9 +42,14 @@ use Rattle.pool_cli.specs.declared.ending.Ending.{Ending}
 use Rattle.pool_cli.specs.declared.ending.Ending.TheVariants.{Done, Words, Shape, Read, Long, Line, Write, Memory}
 use Rattle.pool_cli.specs.Asked.{IsScriptFor, IsScriptOf, bad_line_of, batches_of, files_of, processes_of, quantum_of, words_of}
 use Rattle.pool_cli.specs.declared.ending.Worked.{Worked}
+use Rattle.pool_cli.specs.declared.scripts.Scripts.{Scripts}
+use Rattle.pool_cli.specs.declared.scripts.Scripts.TheVariants.{Traces, Stores}
 use Rattle.pool_cli.specs.Ending.{ending_after, ending_of, settled_of, status_of}
-use Rattle.pool_cli.specs.Causes.{AreScriptsFor, CauseOf, Ends, EndsAtFile, EndsAtShape, EndsPlayed, FilesAreFine, GivesText, HasEnoughBlocks, Hold, IsAccepted, IsAmple, IsPlayable, IsPlayed, IsSure, IsUnhindered, IsWithin, Prints, taken}
+use Rattle.pool_cli.specs.Causes.{AreScriptsFor, CauseOf, Ends, EndsAtFile, EndsAtShape, EndsPlayed, FilesAreFine, GivesText}
+use Rattle.pool_cli.specs.Causes.{HasEnoughBlocks, Hold, IsAccepted, IsAmple, IsPlayable, IsPlayed, IsSure, IsUnhindered, IsWithin}
+use Rattle.pool_cli.specs.Causes.{Prints, PrintsReport, taken}
 use Rattle.pool_cli.specs.Outside.{Outside, TakesText, outside}
+use Rattle.pool_cli.specs.Playing.{AreScriptsOf, Fit, IsTextOf}
 use Rattle.pool_cli.specs.Printed.{AreRepliesOf, HasPrinted, IsReportOf}
 use Rattle.pool_cli.specs.Scripts.{ReadsAll, StopsReading, StopsWith, ending_for}
 use Rattle.pool_cli.specs.Shapes.{IsShapeOf}
@@ -153,7 +159,7 @@ read_scripts told play scripts reads = record {
 }
 
 -- a drill has a made script for each process
-pub made_count : (drill : DrillWords) (scripts : List Script) → scripts ≡ drill_scripts drill.seed drill.calls drill.processes
+made_count : (drill : DrillWords) (scripts : List Script) → scripts ≡ drill_scripts drill.seed drill.calls drill.processes
     → length scripts ≡ drill.processes
 made_count drill scripts is = ap length is ∙ length-map-range_with_len (drill_script drill.seed drill.calls) 0 drill.processes
 
@@ -177,28 +183,18 @@ made_scripts told drill scripts is =
         ∙ get_or-map-range_with_len (drill_script drill.seed drill.calls) 0 drill.processes j j script
         (omega (arith, low, length-map-range_with_len (drill_script drill.seed drill.calls) 0 drill.processes)) (omega arith)
 
--- over a pool that is closed with this history, a play prints the report of the scripts of its files
-pub play_prints : (told : List ℕ → Option (List ℕ)) (play : PlayWords) (sizes : Sizes) (scripts : List Script)
-    → ReadsAll trace.bad_line (IsScriptOf play.size) told play.files scripts → (settled : Settlement) (text : List ℕ)
-    → IsReportOf sizes scripts settled text → Prints told (Play play) sizes settled text
-play_prints told play sizes scripts reads settled text is = record {
+-- over a pool that is closed with this history, a command prints the report of its scripts of traces
+report_prints : (told : List ℕ → Option (List ℕ)) (command : Command) (sizes : Sizes) (scripts : List Script)
+    → HasScripts told command scripts → (settled : Settlement) (text : List ℕ) → IsReportOf sizes scripts settled text
+    → PrintsReport told command sizes settled text
+report_prints told command sizes scripts has settled text is = record {
   tallies = is.0;
-  played = played_all told (Play play) sizes scripts settled is.0 (read_scripts told play scripts reads) is.1;
-  is = is.2;
-}
-
--- a drill that of the made ones
-pub drill_prints : (told : List ℕ → Option (List ℕ)) (drill : DrillWords) (sizes : Sizes) (scripts : List Script)
-    → scripts ≡ drill_scripts drill.seed drill.calls drill.processes → (settled : Settlement) (text : List ℕ)
-    → IsReportOf sizes scripts settled text → Prints told (Drill drill) sizes settled text
-drill_prints told drill sizes scripts made settled text is = record {
-  tallies = is.0;
-  played = played_all told (Drill drill) sizes scripts settled is.0 (made_scripts told drill scripts made) is.1;
+  played = played_all told command sizes scripts settled is.0 has is.1;
   is = is.2;
 }
 
 -- and a store the replies to the scripts of its files
-pub store_prints : (told : List ℕ → Option (List ℕ)) (words : StoreWords) (sizes : Sizes) (scripts : List StoreScript)
+store_prints : (told : List ℕ → Option (List ℕ)) (words : StoreWords) (sizes : Sizes) (scripts : List StoreScript)
     → ReadsAll store.bad_line store.IsReading told words.files scripts → (settled : Settlement) (text : List ℕ)
     → AreRepliesOf sizes scripts settled text → Prints told (Store words) sizes settled text
 store_prints told words sizes scripts reads settled text is = record {
@@ -217,9 +213,49 @@ store_prints told words sizes scripts reads settled text is = record {
   is = is.2;
 }
 
+-- each command prints what is printed of its scripts
+pub scripts_print : (told : List ℕ → Option (List ℕ)) (command : Command) (sizes : Sizes) (scripts : Scripts)
+    → AreScriptsOf told command scripts → (settled : Settlement) (text : List ℕ) → IsTextOf sizes scripts settled text
+    → Prints told command sizes settled text
+scripts_print told (Play play) sizes (Traces scripts) are =
+    report_prints told (Play play) sizes scripts.items (read_scripts told play scripts.items are)
+scripts_print told (Play play) sizes (Stores scripts) are = absurd are
+scripts_print told (Drill drill) sizes (Traces scripts) are =
+    report_prints told (Drill drill) sizes scripts.items (made_scripts told drill scripts.items are)
+scripts_print told (Drill drill) sizes (Stores scripts) are = absurd are
+scripts_print told (Store words) sizes (Traces scripts) are = absurd are
+scripts_print told (Store words) sizes (Stores scripts) are = store_prints told words sizes scripts.items are
+
+-- the scripts of a command fit the pool that it asks for
+pub scripts_fit : (told : List ℕ → Option (List ℕ)) (command : Command) (sizes : Sizes) (scripts : Scripts)
+    → AreScriptsOf told command scripts → IsShapeOf command sizes → Fit sizes scripts
+scripts_fit told (Play play) sizes (Traces scripts) are asked = are.1.one_each ∙ sym asked.processes
+scripts_fit told (Play play) sizes (Stores scripts) are asked = absurd are
+scripts_fit told (Drill drill) sizes (Traces scripts) are asked = made_count drill scripts.items are ∙ sym asked.processes
+scripts_fit told (Drill drill) sizes (Stores scripts) are asked = absurd are
+scripts_fit told (Store words) sizes (Traces scripts) are asked = absurd are
+scripts_fit told (Store words) sizes (Stores scripts) are asked =
+    (are.1.one_each ∙ sym asked.processes, let four : sizes.words ≡ 4 = asked.words in omega arith)
+
+-- work that played has printed the text of its history, as far as the output took it
+pub has_printed : {K : Type 0} (sink : sink_trait.Ghosts K) (out out_now : K) (IsText : Settlement → List ℕ → Type 0) (worked : Worked)
+    (settled : Settlement) (text : List ℕ) (written : Result (Unit {0}) Failed)
+    → worked.settled ≡ Some settled → worked.ending ≡ ending_after written → IsText settled text → Writes sink text out out_now written
+    → HasPrinted sink out out_now IsText worked
+has_printed sink out out_now IsText worked settled text written is_closed ends is_text writes = record {
+  settled = settled;
+  is_closed = is_closed;
+  text = text;
+  is_text = is_text;
+  written = written;
+  writes = writes;
+  ends = ends;
+}
+
 -- a run that played, or for which memory was wanting before
 pub ends_worked : {F S K : Type 0} (of_files : files_trait.Ghosts F S) (files files_now : F) (of_sink : sink_trait.Ghosts K)
-    (out out_now : K) (meaning : Option Command) (command : Command) (sizes : Sizes) (IsText : Settlement → List ℕ → Type 0) (result : Result Worked Ending)
+    (out out_now : K) (meaning : Option Command) (command : Command) (sizes : Sizes) (IsText : Settlement → List ℕ → Type 0)
+    (result : Result Worked Ending)
     → IsAccepted meaning command sizes → of_files.opens files_now ≡ of_files.opens files + length (files_of command)
     → ((settled : Settlement) (text : List ℕ) → IsText settled text → Prints (of_files.told files) command sizes settled text)
     → IfOk result (HasPrinted of_sink out out_now IsText) → IfErr result (λ ending. ending ≡ Memory) → OnErr result (out_now ≡ out)

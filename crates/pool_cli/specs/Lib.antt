@@ -2,6 +2,7 @@ pub mod Asked
 pub mod Causes
 pub mod Ending
 pub mod Outside
+pub mod Playing
 pub mod Printed
 pub mod Replies
 pub mod Scripts

@@ -10,6 +10,7 @@ mod program;
 mod reading;
 mod replies;
 mod report;
+mod scripts;
 mod shape;
 mod tell;
 

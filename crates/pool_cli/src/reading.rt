@@ -1,6 +1,6 @@
 // The files of a command: each is opened, read and made a script, in turn.
-ghost use Rattle.std.specs.Prelude.{◌≡◌, ◌≢◌, ℕ, ◌+◌, ◌-◌, ◌^◌, ◌<◌, ◌≤◌, List, Option, length, map, min, All, IfOk, IfErr, IfSome, OnOk, Some, Err};
-ghost use Rattle.std.specs.Prelude.{string_bytes};
+ghost use Rattle.std.specs.Prelude.{◌≡◌, ℕ, ◌+◌, ◌-◌, ◌^◌, ◌<◌, ◌≤◌, List, Option, length, map, string_bytes, All, IfOk, IfErr};
+ghost use Rattle.std.specs.Prelude.{IfSome, OnOk, Some, Err};
 ghost use Rattle.pool_io.specs.Counts.{HasRisen};
 ghost use Rattle.pool_cli.specs.Scripts.{FileAnswers, ReadsAll, StopsReading, ending_for};
 

@@ -1,10 +1,10 @@
 // The numbers of the pool that a command asks for.
-ghost use Rattle.std.specs.Prelude.{◌≡◌, ◌-◌, ◌^◌, length, min, IfOk, IfErr};
-ghost use Rattle.command_words.specs.declared.command.Command.{Command};
+ghost use Rattle.std.specs.Prelude.{◌≡◌, ◌-◌, ◌^◌, min, IfOk, IfErr};
+ghost use Rattle.pool_cli.specs.Asked.{batches_of, processes_of, quantum_of, words_of};
 ghost use Rattle.pool_cli.specs.Shapes.{IsShapeOf, IsRefused};
 
 use crate::Ending;
-use command_words::{Command, Drill, FileNames, Play, Store};
+use command_words::Command;
 use word_layout::Shape;
 
 /// How many batches the pool of a drill has.
@@ -13,46 +13,49 @@ const DRILL_BATCHES: u32 = 1024;
 /// How many data words a block of a store's pool has: the numbers of a record.
 const RECORD_WORDS: u32 = 4;
 
-/// A process for each file, as far as they can be counted.
-fn process_count(files: &FileNames) -> u32
-    ensures { result ≡ min (length files.now) (2 ^ 32 - 1) }
-{
-    files.len().min(u32::MAX as usize) as u32
+/// The numbers of a pool, which may have faults.
+#[derive(Drop)]
+struct Numbers {
+    processes: usize,
+    batches: u32,
+    words: u32,
+    quantum: u32,
 }
 
-/// The numbers of a play's pool: a process for each file.
-fn play_shape(play: &Play) -> Result<Shape, Ending>
-    ensures ok { IfOk result (IsShapeOf (Command.Play play.now)) }
-    ensures refused { IfErr result (IsRefused (Command.Play play.now)) }
+/// The numbers that a command asks for: a process for each file, or as many as it says.
+fn numbers_of(command: &Command) -> Numbers
+    ensures processes { result.processes ≡ processes_of command.now }
+    ensures batches { result.batches ≡ batches_of command.now }
+    ensures words { result.words ≡ words_of command.now }
+    ensures quantum { result.quantum ≡ quantum_of command.now }
 {
-    let processes = process_count(&play.files);
-    match Shape::with_quantum(processes, play.batches, 0, play.quantum) {
-        Ok(shape) => Ok(shape),
-        Err(fault) => Err(Ending::Shape(fault)),
+    match command {
+        Command::Play(play) => Numbers {
+            processes: play.files.len(),
+            batches: play.batches,
+            words: 0,
+            quantum: play.quantum,
+        },
+        Command::Drill(drill) => Numbers {
+            processes: drill.processes as usize,
+            batches: DRILL_BATCHES,
+            words: 0,
+            quantum: drill.quantum,
+        },
+        Command::Store(store) => Numbers {
+            processes: store.files.len(),
+            batches: store.batches,
+            words: RECORD_WORDS,
+            quantum: store.quantum,
+        },
     }
 }
 
-/// The numbers of a store's pool: a process for each file, and in each block the words of a record.
-fn store_shape(store: &Store) -> Result<Shape, Ending>
-    ensures ok { IfOk result (IsShapeOf (Command.Store store.now)) }
-    ensures refused { IfErr result (IsRefused (Command.Store store.now)) }
+/// A number of processes, as far as they can be counted.
+fn counted(processes: usize) -> u32
+    ensures { result ≡ min processes (2 ^ 32 - 1) }
 {
-    let processes = process_count(&store.files);
-    match Shape::with_quantum(processes, store.batches, RECORD_WORDS, store.quantum) {
-        Ok(shape) => Ok(shape),
-        Err(fault) => Err(Ending::Shape(fault)),
-    }
-}
-
-/// The numbers of a drill's pool.
-fn drill_shape(drill: &Drill) -> Result<Shape, Ending>
-    ensures ok { IfOk result (IsShapeOf (Command.Drill drill.now)) }
-    ensures refused { IfErr result (IsRefused (Command.Drill drill.now)) }
-{
-    match Shape::with_quantum(drill.processes, DRILL_BATCHES, 0, drill.quantum) {
-        Ok(shape) => Ok(shape),
-        Err(fault) => Err(Ending::Shape(fault)),
-    }
+    processes.min(u32::MAX as usize) as u32
 }
 
 /// The numbers of the pool that a command asks for.
@@ -60,9 +63,10 @@ pub(crate) fn shape_of(command: &Command) -> Result<Shape, Ending>
     ensures ok { IfOk result (IsShapeOf command.now) }
     ensures refused { IfErr result (IsRefused command.now) }
 {
-    match command {
-        Command::Play(play) => play_shape(play),
-        Command::Drill(drill) => drill_shape(drill),
-        Command::Store(store) => store_shape(store),
+    let asked = numbers_of(command);
+    let processes = counted(asked.processes);
+    match Shape::with_quantum(processes, asked.batches, asked.words, asked.quantum) {
+        Ok(shape) => Ok(shape),
+        Err(fault) => Err(Ending::Shape(fault)),
     }
 }

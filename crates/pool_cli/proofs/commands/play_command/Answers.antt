@@ -1,11 +1,31 @@
-use Rattle.std.proofs.Common.{◌∙◌, Some, ap}
+use Rattle.std.proofs.Common.{None, subst, sym}
+use Rattle.std.proofs.lemmas.Result.{err_from_is_err_and}
+use Rattle.pool_cli.specs.declared.ending.Ending.{Ending}
+use Rattle.pool_cli.specs.Causes.{CauseOf}
+use Rattle.pool_cli.specs.Outside.{outside}
+use Rattle.pool_cli.specs.Playing.{IsTextOf}
+use Rattle.pool_cli.proofs.Endings.{ends_at_file, ends_worked, scripts_fit, scripts_print}
 use Rattle.pool_cli.proofs.commands.play_command.Goals as goal
 
-pub returns-in-Play : goal.returns-in-Play
-returns-in-Play g c meaning meant = c.play_traces.ensures meaning (meant ∙ ap Some c.in-Play.is)
+pub print-requires-clause-fit : goal.print-requires-clause-fit
+print-requires-clause-fit g c κs within =
+    scripts_fit (g.F.Files.told c.args.files.now) c.args.command.now c.in_ok-shape.shape c.in_ok-scripts.scripts
+    c.in_ok-scripts.ensures.read c.in_ok-shape.ensures.ok
 
-pub returns-in-Drill : goal.returns-in-Drill
-returns-in-Drill g c meaning meant = c.play_drill.ensures meaning (meant ∙ ap Some c.in-Drill.is)
+pub returns-in_err-scripts : goal.returns-in_err-scripts
+returns-in_err-scripts g c meaning meant =
+    let Cause : Ending → Type 0 = CauseOf meaning (outside g.F.Files c.args.files.now g.K.Sink c.args.out.now)
+    (outside g.F.Files c.scripts_of.new.files g.K.Sink c.args.out.now) None in
+    let here : Cause c.in_err-scripts.field-0.0 = ends_at_file g.F.Files _ _ g.K.Sink _ meaning c.args.command.now c.in_ok-shape.shape _
+    (record { meant = meant; asked = c.in_ok-shape.ensures.ok }) c.in_err-scripts.ensures.stopped in
+    let handed_on = err_from_is_err_and c.from_residual-in_err-scripts.result c.from_residual-in_err-scripts.ensures.1 in
+    rw (handed_on.1) (subst Cause (sym handed_on.2) here)
 
-pub returns-in-Store : goal.returns-in-Store
-returns-in-Store g c meaning meant = c.play_stores.ensures meaning (meant ∙ ap Some c.in-Store.is)
+pub returns : goal.returns
+returns g c meaning meant =
+    ends_worked g.F.Files c.args.files.now c.scripts_of.new.files g.K.Sink c.args.out.now c.print.new.out meaning c.args.command.now
+    c.in_ok-shape.shape (IsTextOf c.in_ok-shape.shape c.in_ok-scripts.scripts) c.print.result
+    (record { meant = meant; asked = c.in_ok-shape.ensures.ok }) c.in_ok-scripts.ensures.opened
+    (scripts_print (g.F.Files.told c.args.files.now) c.args.command.now c.in_ok-shape.shape c.in_ok-scripts.scripts
+    c.in_ok-scripts.ensures.read)
+    c.print.ensures.printed c.print.ensures.early c.print.ensures.unwritten

@@ -2,7 +2,7 @@ use Rattle.std.proofs.Common.{◌∙◌, ap₂}
 use Rattle.std.proofs.lemmas.Result.{IfOk-weaker}
 use Rattle.clap.specs.Words.{with_rule}
 use Rattle.command_words.specs.Play.{play_app}
-use Rattle.command_words.proofs.play_words.play_command.Goals as goal
+use Rattle.command_words.proofs.play_words.PlayAsked.command.Goals as goal
 
 pub returns : goal.returns
 unfolding play_app

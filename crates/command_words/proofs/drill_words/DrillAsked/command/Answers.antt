@@ -2,7 +2,7 @@ use Rattle.std.proofs.Common.{◌∙◌, ap₂}
 use Rattle.std.proofs.lemmas.Result.{IfOk-weaker}
 use Rattle.clap.specs.Words.{with_rule}
 use Rattle.command_words.specs.Drill.{drill_app}
-use Rattle.command_words.proofs.drill_words.drill_command.Goals as goal
+use Rattle.command_words.proofs.drill_words.DrillAsked.command.Goals as goal
 
 pub returns : goal.returns
 unfolding drill_app
