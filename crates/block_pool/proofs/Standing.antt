@@ -1,24 +1,29 @@
 -- what holds of every pass between two calls
-use Rattle.std.proofs.Common.{◌≡◌, ◌≢◌, ◌*◌, ◌≤◌, length, refl, sym, ap, ◌∙◌, subst, arith}
-use Rattle.std.specs.Prelude.{Contains}
+use Rattle.std.proofs.Common.{◌≡◌, ◌≢◌, ℕ, ◌*◌, ◌≤◌, true, length, refl, sym, ap, ◌∙◌, subst, arith}
+use Rattle.std.specs.Prelude.{Contains, if◌then◌else◌, nat_eq}
+use Rattle.std.proofs.lemmas.Bool.{false≢true}
+use Rattle.std.proofs.lemmas.Bool.Decides.{nat_tests}
 use Rattle.word_layout.specs.Sizes.{Sizes, limits_of, transfer_bound}
 use Rattle.word_layout.specs.Names.{word_at}
 use Rattle.pool_model.specs.History.{own, grip}
 use Rattle.pool_model.specs.Legal.{IsLegal}
 use Rattle.pool_model.proofs.Histories.{legal_take}
-use Rattle.transfer_schedule.specs.Numbers.{Numbers, kept, withheld}
+use Rattle.transfer_schedule.specs.Numbers.{Numbers, is_idle, after_begin, after_choice, kept, withheld}
+use Rattle.transfer_schedule.specs.Beginning.{due_with}
+use Rattle.transfer_schedule.specs.Table.{InTable}
 use Rattle.transfer_schedule.specs.Account as schedule
 use Rattle.transfer_schedule.specs.declared.pending.Pending.{Pending}
 use Rattle.transfer_schedule.specs.declared.pending.Pending.TheVariants.{Idle, Taking, Giving}
-use Rattle.transfer_schedule.proofs.Reaching.{reached_sizes, reached_stands, stands_sound}
+use Rattle.transfer_schedule.proofs.Reaching.{reached_sizes, reached_stands, stands_sound, stands_table}
 use Rattle.pool_machine.specs.declared.call.CallStage.TheVariants.{Between}
 use Rattle.pool_machine.specs.Conditions.{may_use_calls}
 use Rattle.pool_machine.specs.declared.call.Way.TheVariants.{Alone}
+use Rattle.pool_machine.specs.declared.view.PoolView.{PoolView}
 use Rattle.pool_machine.specs.declared.view.ProcessView.{ProcessView}
 use Rattle.history_invariant.specs.Fits.{CountsEntries}
 use Rattle.call_invariant.specs.InCalls.{InCalls, Scheduled}
 use Rattle.call_invariant.specs.Phases.{call_phase}
-use Rattle.call_invariant.proofs.Standing.{withholds_five}
+use Rattle.call_invariant.proofs.Standing.{shape_fits, withholds_five}
 use Rattle.call_invariant.proofs.Uses.{calls_used}
 use Rattle.interleaving_core.specs.Invariant.{DataHolds}
 use Rattle.interleaving_core.proofs.Joins.{scheduled}
@@ -98,3 +103,42 @@ plan_quantum sizes x f =
     let (l, b, q) = reached_sizes v.sizes.length (transfer_bound v.sizes) v.sizes.quantum s.account s.accounted.reached in
     sym (ap (λ z. z.plan.quantum) f.pool)
     ∙ (sym (ap (λ (z : Numbers). z.quantum) s.accounted.plan) ∙ (q ∙ ap (λ (z : Sizes). z.quantum) f.shape))
+
+-- its plan is in the table of spares
+plan_in_table : (sizes : Sizes) (x : Process) → BetweenCalls sizes x → InTable x.pool.plan
+plan_in_table sizes x f =
+    let s = stands sizes x f in
+    let v = x.seat.view in
+    let fit = shape_fits v.sizes (seat_at sizes x f).holds.shape in
+    let table = stands_table s.account
+    (reached_stands v.sizes.length (transfer_bound v.sizes) v.sizes.quantum s.account fit s.accounted.reached) in
+    subst InTable (s.accounted.plan ∙ ap (λ (z : PoolView). z.plan) f.pool) table
+
+-- of at most three spares just two leave no transfer due
+due_but_with_two : (spares : ℕ) → spares ≤ 3 → nat_eq spares 2 ≡ is_idle (due_with spares)
+due_but_with_two spares low = grind (arith, nat_tests)
+
+begun_pending : (p : Pending) (plan : Numbers) → is_idle plan.pending ≡ true → is_idle (after_begin p plan).pending ≡ is_idle p
+begun_pending Idle plan idle = idle
+begun_pending Taking plan idle = refl
+begun_pending Giving plan idle = refl
+
+is_rest : (p : Pending) → is_idle p ≡ true → p ≡ Idle
+is_rest Idle e = refl
+is_rest Taking e = absurd (false≢true e)
+is_rest Giving e = absurd (false≢true e)
+
+quiet_with_two : (plan : Numbers) → InTable plan → is_idle plan.pending ≡ true
+    → nat_eq plan.spares 2 ≡ is_idle (after_choice plan).pending
+quiet_with_two plan table idle =
+    due_but_with_two plan.spares (table.idle (is_rest plan.pending idle))
+    ∙ (sym (begun_pending (due_with plan.spares) plan idle)
+    ∙ ap (λ b. is_idle (after_begin (if b then due_with plan.spares else Idle) plan).pending) (sym idle))
+
+-- a pass with nothing pending begins a call with no transfer exactly where it has two spares
+pub quiet_so : (sizes : Sizes) (x : Process) (spares : ℕ) → BetweenCalls sizes x → is_idle x.pool.plan.pending ≡ true
+    → spares ≡ x.pool.plan.spares → nat_eq spares 2 ≡ is_idle (after_choice (pass_of x.seat).plan).pending
+quiet_so sizes x spares f idle is =
+    ap (λ n. nat_eq n 2) is
+    ∙ (quiet_with_two x.pool.plan (plan_in_table sizes x f) idle
+    ∙ ap (λ (z : PoolView). is_idle (after_choice z.plan).pending) (sym f.pool))

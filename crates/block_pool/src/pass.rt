@@ -1,9 +1,11 @@
 // The pass of a process, and the blocks that it holds.
 ghost use Rattle.std.specs.Prelude.{◌≡◌, length, Contains};
+ghost use Rattle.transfer_schedule.specs.Numbers.{after_choice, is_idle};
 ghost use Rattle.block_pool.specs.Standing.{StandsWell};
 
 use crate::process::Process;
 use std::marker::Model;
+use transfer_schedule::Pending;
 use word_layout::Shape;
 
 /// The token of one block. It can't be copied; a block whose token is dropped stays held for good.
@@ -55,6 +57,9 @@ impl Model for Pass {
 }
 
 impl Pass {
+    /// With so many spares, neither more nor fewer, no transfer is due.
+    const RESTING_SPARES: u32 = 2;
+
     /// The number of its process.
     pub fn number(&self) -> u32
         ensures { result ≡ self.now.number }
@@ -74,6 +79,16 @@ impl Pass {
         ensures { result ≡ length self.now.held }
     {
         self.holding
+    }
+
+    /// Whether an allocate or a free that the pass made now would begin with no transfer: none is pending, and none is due. It
+    /// takes two loads.
+    #[inline]
+    pub fn is_quiet(&self) -> bool
+        ensures { result ≡ is_idle (after_choice self.now.plan).pending }
+    {
+        let plan = &self.process.pool.plan;
+        plan.pending() == Pending::Idle && plan.spares() == Pass::RESTING_SPARES
     }
 
     /// The token of a block that the pass holds, by its number.

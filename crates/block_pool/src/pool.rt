@@ -60,6 +60,7 @@ impl Pool {
     /// cases the pass has one entry more, which stands at the end of what it has seen; that is a legal history, so few
     /// blocks were unheld at a moment before a `Dry`. A block that is got was held neither by the pass nor, in that history
     /// right before, by anybody else. What the pass held and knew stays.
+    #[inline(always)]
     pub fn allocate<L: Ledger>(&self, pass: &mut Pass, steps: &mut Steps<L>) -> Answer
         requires pass { IsOf self.now pass.old }
         requires young { pass.old.age < most_age }
@@ -87,6 +88,7 @@ impl Pool {
     /// It makes at most a quantum of steps of the pass's pending transfer and one of its own. The pass has one entry more,
     /// which stands at the end of what it has seen; it holds the block no more, and forgets its data words. All else that
     /// it held and knew stays.
+    #[inline(always)]
     pub fn free<L: Ledger>(&self, pass: &mut Pass, block: Block, steps: &mut Steps<L>)
         requires pass { IsOf self.now pass.old }
         requires young { pass.old.age < most_age }

@@ -5,9 +5,8 @@ ghost use Rattle.loskebri_c.specs.Answers.{AllocateAnswered, FreeAnswered, ReadA
 
 use crate::handle::LoskebriPass;
 use crate::status::{CLOSED, DONE, DRY, NO_WORD, NOT_HELD, SPENT};
-use pool_member::{Freeing, Getting, WordFault};
+use pool_member::{Freeing, Getting, Member, WordFault};
 use std::alloc::Global;
-use std::mem;
 
 /// How an allocate was answered, and the block where one was got.
 #[repr(C)]
@@ -64,14 +63,27 @@ pub extern "C" fn loskebri_allocate(alloc: Global, pass: &mut LoskebriPass) -> L
     ensures closed { StaysClosed pass.old.member pass.new.member result.status }
     ensures open { (old : Passed) → pass.old.member ≡ Some old → AllocateAnswered old pass.new.member result.status result.block }
 {
-    let Some(mut member) = mem::replace(pass, LoskebriPass::closed(alloc)).into_box() else {
+    let Some(member) = pass.take(alloc) else {
         return LoskebriBlock {
             status: CLOSED,
             block: 0,
         };
     };
+    if member.is_quiet() {
+        allocate(pass, member)
+    } else {
+        allocate_moving(pass, member)
+    }
+}
+
+/// Gets a block by a member that was taken out of the handle, and puts it back.
+#[inline(always)]
+fn allocate(pass: &mut LoskebriPass, mut member: Box<Member>) -> LoskebriBlock
+    requires { pass.old.member ≡ None }
+    ensures { AllocateAnswered member.value pass.new.member result.status result.block }
+{
     let answer = member.allocate();
-    *pass = LoskebriPass::of(member);
+    pass.fill(member);
     let (status, block) = match answer {
         Getting::Got(block) => (DONE, block),
         Getting::Dry => (DRY, 0),
@@ -80,22 +92,53 @@ pub extern "C" fn loskebri_allocate(alloc: Global, pass: &mut LoskebriPass) -> L
     LoskebriBlock { status, block }
 }
 
+/// The same, for the calls that make steps of a transfer: apart from the others, which then need none of its registers.
+#[inline(never)]
+fn allocate_moving(pass: &mut LoskebriPass, member: Box<Member>) -> LoskebriBlock
+    requires { pass.old.member ≡ None }
+    ensures { AllocateAnswered member.value pass.new.member result.status result.block }
+{
+    allocate(pass, member)
+}
+
 /// Lets a block go. Any number may be given.
 #[unsafe(no_mangle)]
 pub extern "C" fn loskebri_free(alloc: Global, pass: &mut LoskebriPass, block: u32) -> u32
     ensures closed { StaysClosed pass.old.member pass.new.member result }
     ensures open { (old : Passed) → pass.old.member ≡ Some old → FreeAnswered old pass.new.member result block }
 {
-    let Some(mut member) = mem::replace(pass, LoskebriPass::closed(alloc)).into_box() else {
+    let Some(member) = pass.take(alloc) else {
         return CLOSED;
     };
+    if member.is_quiet() {
+        free(pass, block, member)
+    } else {
+        free_moving(pass, block, member)
+    }
+}
+
+/// Lets a block go by a member that was taken out of the handle, and puts it back.
+#[inline(always)]
+fn free(pass: &mut LoskebriPass, block: u32, mut member: Box<Member>) -> u32
+    requires { pass.old.member ≡ None }
+    ensures { FreeAnswered member.value pass.new.member result block }
+{
     let answer = member.free(block);
-    *pass = LoskebriPass::of(member);
+    pass.fill(member);
     match answer {
         Freeing::Freed => DONE,
         Freeing::NotHeld => NOT_HELD,
         Freeing::Spent => SPENT,
     }
+}
+
+/// The same, for the calls that make steps of a transfer.
+#[inline(never)]
+fn free_moving(pass: &mut LoskebriPass, block: u32, member: Box<Member>) -> u32
+    requires { pass.old.member ≡ None }
+    ensures { FreeAnswered member.value pass.new.member result block }
+{
+    free(pass, block, member)
 }
 
 /// Loads a data word of a block. Any numbers may be given.
@@ -110,11 +153,11 @@ pub extern "C" fn loskebri_read(
     ensures open { (old : Passed) → pass.old.member ≡ Some old
         → ReadAnswered old pass.new.member result.status result.number block index }
 {
-    let Some(mut member) = mem::replace(pass, LoskebriPass::closed(alloc)).into_box() else {
+    let Some(mut member) = pass.take(alloc) else {
         return no_number(CLOSED);
     };
     let answer = member.read(block, index);
-    *pass = LoskebriPass::of(member);
+    pass.fill(member);
     match answer {
         Ok(value) => number(value),
         Err(fault) => no_number(fault_status(&fault)),
@@ -134,11 +177,11 @@ pub extern "C" fn loskebri_write(
     ensures open { (old : Passed) → pass.old.member ≡ Some old
         → WriteAnswered old pass.new.member result block index value }
 {
-    let Some(mut member) = mem::replace(pass, LoskebriPass::closed(alloc)).into_box() else {
+    let Some(mut member) = pass.take(alloc) else {
         return CLOSED;
     };
     let answer = member.write(block, index, value);
-    *pass = LoskebriPass::of(member);
+    pass.fill(member);
     match answer {
         Ok(()) => DONE,
         Err(fault) => fault_status(&fault),
@@ -152,11 +195,11 @@ pub extern "C" fn loskebri_age(alloc: Global, pass: &mut LoskebriPass) -> Loskeb
     ensures open { (old : Passed) → pass.old.member ≡ Some old
         → Tells old.age pass.old.member pass.new.member result.status result.number }
 {
-    let Some(member) = mem::replace(pass, LoskebriPass::closed(alloc)).into_box() else {
+    let Some(member) = pass.take(alloc) else {
         return no_number(CLOSED);
     };
     let age = member.age();
-    *pass = LoskebriPass::of(member);
+    pass.fill(member);
     number(age)
 }
 
@@ -167,11 +210,11 @@ pub extern "C" fn loskebri_holding(alloc: Global, pass: &mut LoskebriPass) -> Lo
     ensures open { (old : Passed) → pass.old.member ≡ Some old
         → Tells (length old.held) pass.old.member pass.new.member result.status result.number }
 {
-    let Some(member) = mem::replace(pass, LoskebriPass::closed(alloc)).into_box() else {
+    let Some(member) = pass.take(alloc) else {
         return no_number(CLOSED);
     };
     let holding = member.holding();
-    *pass = LoskebriPass::of(member);
+    pass.fill(member);
     number(u64::from(holding))
 }
 

@@ -7,6 +7,7 @@ use box_parts::BoxParts;
 use pool_member::Member;
 use std::alloc::Global;
 use std::marker::Model;
+use std::mem;
 use std::ptr::null_mut;
 
 /// What C holds for a process: nothing, or a member on the heap. The pointer is null where it is nothing, so zeroed memory
@@ -74,6 +75,25 @@ impl LoskebriPass {
             Some(parts) => Some(parts.into_box()),
             None => None,
         }
+    }
+
+    /// Takes the member out, if the handle owns one. The handle is closed then.
+    #[inline]
+    pub fn take(&mut self, alloc: Global) -> Option<Box<Member>>
+        ensures closed { self.new.member ≡ None }
+        ensures member { MatchOption result (self.old.member ≡ None) (λ member. self.old.member ≡ Some member.value) }
+    {
+        mem::replace(self, LoskebriPass::closed(alloc)).into_box()
+    }
+
+    /// Opens a closed handle with this member. Since it is closed, nothing is let go of, and nothing is tested.
+    #[inline]
+    pub fn fill(&mut self, member: Box<Member>)
+        requires { self.old.member ≡ None }
+        ensures { self.new.member ≡ Some member.value }
+    {
+        let closed = mem::replace(self, LoskebriPass::of(member));
+        mem::forget(closed);
     }
 }
 

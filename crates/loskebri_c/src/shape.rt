@@ -8,7 +8,6 @@ use crate::handle::LoskebriPass;
 use crate::status::{CLOSED, DONE};
 use pool_member::Member;
 use std::alloc::Global;
-use std::mem;
 
 /// The numbers of a pass and its pool.
 #[repr(C)]
@@ -56,7 +55,7 @@ pub extern "C" fn loskebri_shape(alloc: Global, pass: &mut LoskebriPass) -> Losk
     ensures open { (old : Passed) → pass.old.member ≡ Some old → Describes result old }
     ensures same { pass.new.member ≡ pass.old.member }
 {
-    let Some(member) = mem::replace(pass, LoskebriPass::closed(alloc)).into_box() else {
+    let Some(member) = pass.take(alloc) else {
         return LoskebriShape {
             status: CLOSED,
             process: 0,
@@ -69,6 +68,6 @@ pub extern "C" fn loskebri_shape(alloc: Global, pass: &mut LoskebriPass) -> Losk
         };
     };
     let shape = described(&member);
-    *pass = LoskebriPass::of(member);
+    pass.fill(member);
     shape
 }

@@ -2,6 +2,7 @@
 ghost use Rattle.std.specs.Prelude.{◌≡◌, ◌<◌, ◌↔◌, Contains, IfErr, IfOk, IsTrue, length};
 ghost use Rattle.std.specs.Arc.{arc_value};
 ghost use Rattle.word_layout.specs.Packing.{most_age};
+ghost use Rattle.transfer_schedule.specs.Numbers.{after_choice, is_idle};
 ghost use Rattle.block_pool.specs.Passing.{IsOf};
 ghost use Rattle.pool_member.specs.Calling.{AnswersAllocate, AnswersFree, AnswersYoung};
 ghost use Rattle.pool_member.specs.Calling.{HasWord, IsFaulty, LacksWord, ReadsWord, WritesWord};
@@ -108,6 +109,14 @@ impl Member {
         self.pass.holding()
     }
 
+    /// Whether an allocate or a free of the pass would begin with no transfer now: none is pending, and none is due.
+    #[inline]
+    pub fn is_quiet(&self) -> bool
+        ensures { result ≡ is_idle (after_choice self.now.plan).pending }
+    {
+        self.pass.is_quiet()
+    }
+
     /// Whether the pass holds this block. Any number may be asked.
     pub fn holds(&self, block: u32) -> bool
         ensures { IsTrue result ↔ Contains self.now.held block }
@@ -120,6 +129,7 @@ impl Member {
     /// `Spent` comes exactly where the pass has begun 2^32 transfers, and then nothing changes. Else the pool makes one call
     /// of the pass, with one entry more in the one legal history: `Got` a block of the pool that the pass didn't hold, and
     /// holds it besides the others, or `Dry` exactly where the pass's own pool had none.
+    #[inline(always)]
     pub fn allocate(&mut self) -> Getting
         ensures { AnswersAllocate result self.old self.new }
     {
@@ -136,6 +146,7 @@ impl Member {
     ///
     /// `NotHeld` comes exactly where the pass doesn't hold the block, and `Spent` where it does and has begun 2^32 transfers;
     /// then nothing changes. Else the pool has the block back, and the pass holds all others.
+    #[inline(always)]
     pub fn free(&mut self, block: u32) -> Freeing
         ensures { AnswersFree block result self.old self.new }
     {
@@ -154,6 +165,7 @@ impl Member {
     }
 
     /// Gets a block, or is refused, of a pass that may begin a transfer.
+    #[inline(always)]
     fn allocate_young(&mut self) -> Answer
         requires { self.old.age < most_age }
         ensures { AnswersYoung result self.old self.new }

@@ -1,6 +1,6 @@
 // The own step of each call.
 ghost use Rattle.std.specs.Prelude.{◌≡◌, ◌↔◌, None};
-ghost use Rattle.transfer_schedule.specs.Numbers.{after_took_one, after_gave_one};
+ghost use Rattle.transfer_schedule.specs.Numbers.{after_took_one, after_gave_one, source_of};
 ghost use Rattle.pool_machine.specs.OwnSteps.{allocate_action, next_block};
 ghost use Rattle.pool_machine.specs.declared.call.Call.TheVariants.{Allocate, Free, Read, Write};
 ghost use Rattle.pool_table.specs.Steps.{MayStep, OneStep, Stepped};
@@ -14,6 +14,7 @@ use pool_machine::{Call, first_block, follower, put_block, take_head};
 use pool_table::{About, PoolTable, act};
 use step_counter::{Ledger, Steps};
 use transfer_machine::Action;
+use transfer_schedule::{Plan, Source};
 use word_layout::{Shape, WordName};
 
 /// What an allocate that gets this block does.
@@ -29,6 +30,15 @@ fn allocate_action(block: Option<u32>) -> Action
             name: WordName::Next { block },
         },
     }
+}
+
+/// Where the block of an allocate comes from.
+#[inline(always)]
+fn source_of(plan: &Plan) -> Source
+    ensures { result ≡ source_of plan.now }
+{
+    let mut after = *plan;
+    after.took_one()
 }
 
 impl Process {
@@ -50,8 +60,34 @@ impl Process {
         ensures plan { self.new.pool.plan ≡ after_took_one self.old.pool.plan }
         ensures none { (result ≡ None) ↔ HasNoBlock self.old.pool.plan }
     {
+        match source_of(&self.pool.plan) {
+            Source::Current => self.own_allocate_from(Source::Current, made, shape, table, steps),
+            Source::Spare => self.own_allocate_from(Source::Spare, made, shape, table, steps),
+            Source::Nothing => self.own_allocate_from(Source::Nothing, made, shape, table, steps),
+        }
+    }
+
+    /// The same with the source of the block, each source with code of its own.
+    #[inline(always)]
+    fn own_allocate_from<L: Ledger>(
+        &mut self,
+        source: Source,
+        made: u32,
+        shape: &Shape,
+        table: &PoolTable,
+        steps: &mut Steps<L>,
+    ) -> Option<u32>
+        requires source { source ≡ source_of self.old.pool.plan }
+        requires may { MayStep shape.now (InCall Allocate) table.now self.old.seat steps.old }
+        requires owning { IsOwning shape.now Allocate made self.old }
+        ensures one { OneStep self.old.seat self.new.seat steps.old steps.new }
+        ensures made { OwnMade Allocate self.old self.new }
+        ensures block { result ≡ next_block self.old.pool }
+        ensures plan { self.new.pool.plan ≡ after_took_one self.old.pool.plan }
+        ensures none { (result ≡ None) ↔ HasNoBlock self.old.pool.plan }
+    {
         let _ = made;
-        let source = self.pool.plan.took_one();
+        self.pool.plan.took_one();
         let block = first_block(&self.pool, shape, source);
         let about = About::InCall {
             call: Call::Allocate,

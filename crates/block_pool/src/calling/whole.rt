@@ -18,7 +18,7 @@ use word_layout::Shape;
 impl Process {
     /// An allocate: the transfer that is due begins, a quantum of steps is made of the pending one, and then the own
     /// step. Answers the block that it got, if any.
-    #[inline]
+    #[inline(always)]
     pub fn allocate<L: Ledger>(
         &mut self,
         shape: &Shape,
@@ -39,7 +39,7 @@ impl Process {
     }
 
     /// A free, likewise.
-    #[inline]
+    #[inline(always)]
     pub fn free<L: Ledger>(
         &mut self,
         block: u32,
