@@ -21,6 +21,7 @@ use transfer_machine::Action;
 use word_layout::Shape;
 
 mod announcements;
+mod gives;
 mod making;
 mod records;
 mod stale;
