@@ -1,5 +1,5 @@
 -- passes that stay in their order
-use Rattle.std.proofs.Common.{ℕ, zero, suc, ◌<◌, List, ◌∷◌, length, ap, ◌∙◌, arith}
+use Rattle.std.proofs.Common.{ℕ, zero, suc, ◌<◌, List, [], ◌∷◌, ◌++◌, length, ap, ◌∙◌, arith}
 use Rattle.std.specs.Prelude.{slice_index_or}
 use Rattle.std.specs.List.{All}
 use Rattle.block_pool.specs.Passing.{Pooled, Passed, IsOf}
@@ -35,12 +35,18 @@ pub stay_with : (pass after : Passed) (old new : List Passed) → SamePass pass 
     → StayInOrder (pass ∷ old) (after ∷ new)
 stay_with pass after old new same stay = record { many = ap suc stay.many; each = same_with pass after old new same stay }
 
--- the first of the passes, and the others
-pub first_of : (pool : Pooled) (first : Passed) (others : List Passed) → All (IsOf pool) (first ∷ others) → IsOf pool first
-first_of pool first others all = all 0 first (omega arith)
-
-pub others_of : (pool : Pooled) (first : Passed) (others : List Passed) → All (IsOf pool) (first ∷ others) → All (IsOf pool) others
-others_of pool first others all k d within = all (suc k) d (omega (arith, within))
+-- two parts of the passes, one after the other
+pub stay_joined : (front front-new back back-new : List Passed) → StayInOrder front front-new → StayInOrder back back-new
+    → StayInOrder (front ++ back) (front-new ++ back-new)
+stay_joined [] [] back back-new first second = second
+stay_joined [] (after ∷ new) back back-new first second = absurd (omega (arith, first.many))
+stay_joined (pass ∷ old) [] back back-new first second = absurd (omega (arith, first.many))
+stay_joined (pass ∷ old) (after ∷ new) back back-new first second =
+    let rest : StayInOrder old new = record {
+      many = omega (arith, first.many);
+      each = λ k d within. first.each (suc k) d (omega (arith, within));
+    } in
+    stay_with pass after (old ++ back) (new ++ back-new) (first.each 0 pass (omega arith)) (stay_joined old new back back-new rest second)
 
 -- at the opening all passes are of the pool, and calls leave them all its passes
 pub opened_of : (pool : Pooled) (passes : List Passed) → AreOpenedPasses pool passes → All (IsOf pool) passes

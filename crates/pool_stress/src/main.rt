@@ -1,11 +1,16 @@
-//! Puts a pool under stress: `pool_stress PROCESSES BATCHES QUANTUM CALLS SEED STOP`.
+//! Puts a pool under stress: `pool_stress PROCESSES BATCHES QUANTUM CALLS SEED STOPPING STOP [LIE]`.
 //!
 //! Each process, on a thread of its own, allocates and frees at random. Each block that it gets is looked up in a table of
-//! owners, and the steps of each call are counted. Where STOP isn't 0, the thread of process 0 stops after that many of its
-//! steps until the others have made their calls and have all blocks that they can get. In the end all blocks are allocated.
+//! owners, and the steps of each call are counted. The threads of the first STOPPING processes stop, that of process 0 after
+//! STOP of its steps and that of each further one a step later, until the others have made their calls and have all blocks
+//! that they can get. In the end all blocks are allocated.
 //!
 //! It prints how often something was seen that mustn't be, and ends with 1 where that is so; with 2 for faulty words, and
-//! with 8 for want of memory. How many allocates were refused stands on standard error, since it depends on the schedule.
+//! with 8 for want of memory. How many allocates were refused and where the threads stopped stands on standard error, since
+//! it depends on the schedule.
+//!
+//! With a LIE one answer is misheard, which must be seen: `twice`, a block is got twice; `foreign`, it is none of the pool;
+//! `lost`, nobody has it; `long`, its call took a step too many.
 #![tactic(auto)]
 
 mod owners;
@@ -16,6 +21,7 @@ mod stress;
 mod turns;
 
 use crate::settings::Settings;
+use crate::stopping::Stop;
 use crate::stress::{Report, stress};
 use pool_io::words;
 use pool_model::NoMemory;
@@ -31,13 +37,27 @@ const FAULTY_WORDS: u8 = 2;
 /// The status for want of memory.
 const NO_MEMORY: u8 = 8;
 
-/// Prints what was seen.
-fn tell(rt: &(impl Print + Eprint), report: &Report) -> io::Result<()> {
+/// Prints what was seen, and where processes stopped.
+fn tell(rt: &(impl Print + Eprint), report: &Report, stops: &[Stop]) -> io::Result<()> {
     println!(rt;
         "wrong {} long {} lost {} miscounted {} late {}",
         report.wrong, report.long, report.lost, report.miscounted, report.late
     )?;
-    eprintln!(rt; "refused {} stopped {}", report.refused, report.stopped)
+    eprintln!(rt; "refused {}", report.refused)?;
+    for stop in stops.iter() {
+        tell_stop(rt, stop)?;
+    }
+    Ok(())
+}
+
+/// Prints where a process stopped, if it did.
+fn tell_stop(rt: &impl Eprint, stop: &Stop) -> io::Result<()> {
+    if !stop.has_stopped() {
+        return Ok(());
+    }
+    let (step, steps, freed) = stop.place();
+    let call = if freed { "a free" } else { "an allocate" };
+    eprintln!(rt; "stopped after step {step} of {steps} of {call}")
 }
 
 fn main(rt: HostRuntime) -> io::Result<ExitCode> {
@@ -47,10 +67,13 @@ fn main(rt: HostRuntime) -> io::Result<ExitCode> {
     let Some(settings) = Settings::of_words(words.as_slice()) else {
         return Ok(ExitCode::from(FAULTY_WORDS));
     };
-    let Ok(report) = stress(&rt, rt.alloc(), &settings) else {
+    let Ok(stops) = Stop::several(rt.alloc(), settings.stopping, settings.stop) else {
         return Ok(ExitCode::from(NO_MEMORY));
     };
-    tell(&rt, &report)?;
+    let Ok(report) = stress(&rt, rt.alloc(), &settings, &stops) else {
+        return Ok(ExitCode::from(NO_MEMORY));
+    };
+    tell(&rt, &report, &stops)?;
     Ok(if report.is_clean() {
         ExitCode::SUCCESS
     } else {

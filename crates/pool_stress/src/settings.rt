@@ -1,4 +1,5 @@
 // What the words of the command line ask for.
+use crate::owners::Lie;
 use line_text::number;
 use word_layout::Shape;
 
@@ -12,14 +13,18 @@ pub(crate) struct Settings {
     /// How many calls each process makes.
     pub(crate) calls: u32,
     pub(crate) seed: u64,
-    /// The step at which process 0 stops; 0 where it doesn't.
+    /// How many processes stop: the first ones.
+    pub(crate) stopping: u32,
+    /// The step at which process 0 stops, counted over all its calls from 1; each further one stops a step later.
     pub(crate) stop: u64,
+    /// Which answer the owners mishear.
+    pub(crate) lie: Option<Lie>,
 }
 
 impl Settings {
-    /// `None` where the words aren't six numbers of a pool and its processes.
+    /// `None` where the words aren't seven numbers of a pool and its processes, and the name of a lie where there is one more.
     pub(crate) fn of_words(words: &[String]) -> Option<Settings> {
-        if words.len() != 7 {
+        if words.len() < 8 || 9 < words.len() {
             return None;
         }
         let processes = small(&words[1])?;
@@ -29,9 +34,19 @@ impl Settings {
             shape: Shape::with_quantum(processes, batches, 0, quantum).ok()?,
             calls: small(&words[4])?,
             seed: large(&words[5])?,
-            stop: large(&words[6])?,
+            stopping: small(&words[6])?,
+            stop: large(&words[7])?,
+            lie: lie_of(words.get(8))?,
         })
     }
+}
+
+/// The lie of a word, if there is that word; `None` where it names none.
+fn lie_of(word: Option<&String>) -> Option<Option<Lie>> {
+    let Some(word) = word else {
+        return Some(None);
+    };
+    Some(Some(Lie::named(word.as_str())?))
 }
 
 /// The number below 2^64 that a word writes.

@@ -18,11 +18,14 @@ pub(crate) const MOST_AGE: u64 = 1 << 32;
 /// What each process is to do.
 #[derive(Clone, Copy)]
 pub(crate) struct Work<'a> {
+    pub(crate) alloc: Global,
     /// How many calls it makes.
     pub(crate) calls: u32,
     /// Makes the first process's places; those of each further one are made by the next number.
     pub(crate) seed: u64,
     pub(crate) owners: &'a Owners,
+    /// Where the first processes stop. Each further one waits for that in the middle of its calls.
+    pub(crate) stops: &'a [Stop],
 }
 
 /// So many slots without a block.
@@ -56,12 +59,12 @@ fn turn<L: Ledger>(
     let owner = u64::from(pass.number()) + 1;
     match slots[place].take() {
         Some(block) => {
-            owners.hand(block.number(), owner, 0);
+            owners.give(block.number(), owner);
             pool.free(pass, block, steps);
         }
         None => match pool.allocate(pass, steps) {
             Answer::Got(block) => {
-                owners.hand(block.number(), 0, owner);
+                owners.get(block.number(), owner);
                 slots[place] = Some(block);
             }
             Answer::Dry => owners.refuse(),
@@ -69,53 +72,7 @@ fn turn<L: Ledger>(
     }
 }
 
-/// The same, and looks how many steps it took.
-fn turn_counted(
-    pool: &Pool,
-    pass: &mut Pass,
-    slots: &mut [Option<Block>],
-    place: usize,
-    owners: &Owners,
-)
-    requires pool { IsOf pool.now pass.old }
-    requires young { pass.old.age < 2 ^ 32 }
-    requires place { place < length slots.old }
-    requires slots { SlotsFit pass.old.held slots.old }
-    ensures pass { SamePass pass.old pass.new }
-    ensures slots { SlotsFit pass.new.held slots.new }
-{
-    let quantum = pool.shape().quantum();
-    let mut steps = Steps::new(Kept::new());
-    turn(pool, pass, slots, place, owners, &mut steps);
-    owners.time(steps.count(), quantum);
-}
-
-/// The same of a process that stops at one of its steps.
-fn turn_stopping(
-    pool: &Pool,
-    pass: &mut Pass,
-    slots: &mut [Option<Block>],
-    place: usize,
-    owners: &Owners,
-    stop: &Stop,
-)
-    requires pool { IsOf pool.now pass.old }
-    requires young { pass.old.age < 2 ^ 32 }
-    requires place { place < length slots.old }
-    requires slots { SlotsFit pass.old.held slots.old }
-    ensures pass { SamePass pass.old pass.new }
-    ensures slots { SlotsFit pass.new.held slots.new }
-{
-    let quantum = pool.shape().quantum();
-    let before = stop.made();
-    stop.set_frees(slots[place].is_some());
-    let mut steps = Steps::new(Stopping::new(stop));
-    turn(pool, pass, slots, place, owners, &mut steps);
-    stop.set_frees(false);
-    owners.time(stop.made().saturating_sub(before), quantum);
-}
-
-/// One turn of a process, which may be one that stops.
+/// The same, and looks how many steps it took, also of a process that stops at one of them.
 fn turn_slot(
     pool: &Pool,
     pass: &mut Pass,
@@ -131,9 +88,26 @@ fn turn_slot(
     ensures pass { SamePass pass.old pass.new }
     ensures slots { SlotsFit pass.new.held slots.new }
 {
+    let quantum = pool.shape().quantum();
     match stop {
-        Some(stop) => turn_stopping(pool, pass, slots, place, owners, stop),
-        None => turn_counted(pool, pass, slots, place, owners),
+        Some(stop) => {
+            let before = stop.begin(slots[place].is_some());
+            let mut steps = Steps::new(Stopping::new(stop));
+            turn(pool, pass, slots, place, owners, &mut steps);
+            owners.time(stop.end(before), quantum);
+        }
+        None => {
+            let mut steps = Steps::new(Kept::new());
+            turn(pool, pass, slots, place, owners, &mut steps);
+            owners.time(steps.count(), quantum);
+        }
+    }
+}
+
+/// Waits until each process that is to stop has stopped, or has made all its calls.
+fn await_each(stops: &[Stop]) {
+    for stop in stops.iter() {
+        stop.await_halt();
     }
 }
 
@@ -151,9 +125,12 @@ fn turn_slots(
     ensures { SamePass pass.old pass.new }
 {
     let mut places = Places::new(work.seed.wrapping_add(u64::from(pass.number())));
-    for _call in 0..work.calls {
+    for call in 0..work.calls {
         if pass.age() >= MOST_AGE {
             return;
+        }
+        if stop.is_none() && call == work.calls / 2 {
+            await_each(work.stops);
         }
         let place = places.next(slots.len());
         turn_slot(pool, pass, slots, place, work.owners, stop);
@@ -161,14 +138,17 @@ fn turn_slots(
 }
 
 /// The calls of one process. It has slots for two of its parts of the blocks, so that all of them often want more than there are.
-pub(crate) fn play(pool: &Pool, alloc: Global, pass: &mut Pass, work: Work<'_>, stop: Option<&Stop>)
+pub(crate) fn play(pool: &Pool, pass: &mut Pass, work: Work<'_>, stop: Option<&Stop>)
     requires { IsOf pool.now pass.old }
     ensures { SamePass pass.old pass.new }
 {
     let count = 2 * (pool.shape().blocks() / pool.shape().processes()) + 1;
-    match empty_slots(alloc, count) {
+    match empty_slots(work.alloc, count) {
         Ok(mut slots) => turn_slots(pool, pass, slots.as_mut_slice(), work, stop),
         Err(NoMemory) => work.owners.err(),
+    }
+    if let Some(stop) = stop {
+        stop.leave();
     }
 }
 
@@ -185,7 +165,7 @@ fn keep(pool: &Pool, pass: &mut Pass, owners: &Owners) -> bool
     owners.time(steps.count(), quantum);
     match answer {
         Answer::Got(block) => {
-            owners.hand(block.number(), 0, owner);
+            owners.get(block.number(), owner);
             true
         }
         Answer::Dry => false,

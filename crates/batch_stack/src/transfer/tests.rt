@@ -22,6 +22,7 @@ use transfer_machine::{Action, NextStep, TryStep};
 use word_layout::Shape;
 
 mod announcements;
+mod gives;
 mod making;
 mod records;
 mod stale;
