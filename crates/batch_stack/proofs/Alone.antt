@@ -2,6 +2,7 @@
 use Rattle.std.proofs.Common.{◌≡◌, ◌≢◌, ℕ, ◌+◌, ◌*◌, ◌<◌, ◌≤◌, ◌==◌, true, false, [], ◌∷◌, ◌++◌, length, refl, sym, ap, ◌∙◌, subst, arith}
 use Rattle.std.specs.Prelude.{◌-◌, nat_lt, take}
 use Rattle.std.proofs.lemmas.Bool.Decides.{nat_tests}
+use Rattle.word_table.specs.Seats.{Seated}
 use Rattle.word_layout.specs.Sizes.{Sizes}
 use Rattle.word_layout.specs.Names.{word_at}
 use Rattle.word_layout.specs.Packing.{most_age}
@@ -26,7 +27,7 @@ use Rattle.pool_table.proofs.Transfers.{transfer_can_act}
 use Rattle.pool_table.proofs.Turns.{seat_of}
 use Rattle.batch_stack.specs.declared.progress.Progress.{Progress}
 use Rattle.batch_stack.specs.declared.progress.Progress.TheVariants.{Going, Took, Gave}
-use Rattle.batch_stack.specs.Alone.{GoesAlone, RestsAlone, Advanced, EndsAtRest, spares_in, spares_about, spares_after}
+use Rattle.batch_stack.specs.Alone.{GoesAlone, RestsAlone, Goes, OnlyMoved, Played, Advanced, EndsAtRest, spares_in, spares_about, spares_after}
 use Rattle.batch_stack.specs.Running.{Running, MadeStep, GoesOn, wishing}
 
 -- at the opening a process is at rest, with one spare
@@ -107,14 +108,14 @@ give_spares sizes v t head r has =
 
 -- the same of a transfer by its fields, before and after
 pub take_goes : (old new : Running) (v : SeatView) → RestsAlone old.sizes v old.part → length (spares_in v) ≤ 1 → old.part.age < most_age
-    → new ≡ wishing Take old → GoesAlone old.sizes v new.part
+    → new ≡ wishing Take old → GoesAlone new.sizes v new.part
 take_goes old new v r few young e =
-    subst (λ (n : Running). GoesAlone old.sizes v n.part) (sym e) (take_begins old.sizes v old.part r few young)
+    subst (λ (n : Running). GoesAlone n.sizes v n.part) (sym e) (take_begins old.sizes v old.part r few young)
 
 pub give_goes : (old new : Running) (v : SeatView) (head : ℕ) → RestsAlone old.sizes v old.part → spares_in v ≡ head ∷ []
-    → old.part.age < most_age → new ≡ wishing (Give head) old → GoesAlone old.sizes v new.part
+    → old.part.age < most_age → new ≡ wishing (Give head) old → GoesAlone new.sizes v new.part
 give_goes old new v head r has young e =
-    subst (λ (n : Running). GoesAlone old.sizes v n.part) (sym e) (give_begins old.sizes v old.part head r has young)
+    subst (λ (n : Running). GoesAlone n.sizes v n.part) (sym e) (give_begins old.sizes v old.part head r has young)
 
 -- a step advances the transfer
 going_spares : (sizes : Sizes) (wish : Wish) (x : SeatView) (u : TransferView) → GoesOn sizes (Alone wish) x u
@@ -158,6 +159,11 @@ going_advanced sizes v x t u answer e a = subst (Advanced sizes v t x u) e a
 pub advanced_goes : (sizes now : Sizes) (v x : SeatView) (t u : TransferView) → now ≡ sizes → Advanced sizes v t x u Going
     → GoesAlone now x u
 advanced_goes sizes now v x t u same a = subst (λ z. GoesAlone z x u) (sym same) (a.goes refl)
+
+pub played_goes : (before after : Seated SeatView) (t u : Running) (answer : Progress) → OnlyMoved before t after u
+    → Played before t after u answer → answer ≡ Going → Goes after u
+played_goes before after t u answer moved played goes =
+    subst (λ z. GoesAlone z after.view u.part) (sym moved.1) (played.goes goes)
 
 -- how a process with no spare of its own rests after that
 pub gave_rests : (sizes now : Sizes) (v x : SeatView) (t u : TransferView) (answer : Progress) → answer ≡ Gave → now ≡ sizes

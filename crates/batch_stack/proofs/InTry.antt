@@ -137,8 +137,8 @@ module _ (q old : Running) (v x : SeatView) (s : TryStep) (word : ℕ) (e : q �
   pub may_meet : CanMeet q.sizes q.part word
   may_meet = transfer_can_meet q.sizes (Alone Take) v x q.part word can agrees stepped
 
-  pub follows : (u : TransferView) → u ≡ met_of q.sizes q.part word → GoesAlone old.sizes x u
+  pub follows : (u : TransferView) → u ≡ met_of q.sizes q.part word → GoesAlone q.sizes x u
   follows u part =
       let answered : Going ≡ progress_at q.part.next u.answer = sym (ap (λ n. progress_at n u.answer) tries.1) in
       let on = (goes_on q.sizes (Alone Take) v x q.part u word Going can agrees stepped part answered refl).goes u.wish in
-      subst (λ (o : Running). GoesAlone o.sizes x u) e (record { can = on.0; agrees = on.1 })
+      record { can = on.0; agrees = on.1 }

@@ -1,7 +1,9 @@
 -- a process that makes transfers outside any call: in one of them, and between two
 use Rattle.std.specs.Prelude.{◌≡◌, ◌≢◌, ℕ, ◌<◌, true, List, [], ◌∷◌, ◌++◌, length, slice_index}
+use Rattle.atomic_table.specs.Seated.{TableId}
+use Rattle.word_table.specs.Seats.{Seated, SameSeat}
 use Rattle.word_layout.specs.Sizes.{Sizes}
-use Rattle.word_layout.specs.Names.{record_words}
+use Rattle.word_layout.specs.Names.{record_words, table_words}
 use Rattle.word_layout.specs.declared.announced.Wish.TheVariants.{Take}
 use Rattle.transfer_machine.specs.Tries.{drafted_value}
 use Rattle.transfer_machine.specs.declared.stage.NextStep.TheVariants.{Rest}
@@ -17,6 +19,7 @@ use Rattle.versioned_records.specs.Reading.{Reading, CanReadOn}
 use Rattle.versioned_records.specs.Writing.{Writing, CanWriteOn}
 use Rattle.batch_stack.specs.declared.progress.Progress.{Progress}
 use Rattle.batch_stack.specs.declared.progress.Progress.TheVariants.{Going, Took, Empty, Gave}
+use Rattle.batch_stack.specs.Running.{Running}
 
 -- a process is in this transfer outside any call, and its next step is due, the first one or a later one
 pub record GoesAlone (sizes : Sizes) (v : SeatView) (t : TransferView) : Type 0 where
@@ -31,6 +34,21 @@ pub record RestsAlone (sizes : Sizes) (v : SeatView) (t : TransferView) : Type 0
   pub same : v.mind.view.transfer ≡ t
   pub rest : t.next ≡ Rest
   pub among : Among v
+
+-- a seat is of this table, which is of this shape
+abbrev pub IsAt : TableId → Seated SeatView → Sizes → Type 0
+IsAt table seat sizes = (seat.table ≡ table) × (table.words ≡ table_words sizes)
+
+-- a process outside any call, by its seat and its transfers: in one of them, and between two
+abbrev pub Goes : Seated SeatView → Running → Type 0
+Goes seat t = GoesAlone t.sizes seat.view t.part
+
+abbrev pub Rests : Seated SeatView → Running → Type 0
+Rests seat t = RestsAlone t.sizes seat.view t.part
+
+-- of that process only the view and the transfer moved
+abbrev pub OnlyMoved : Seated SeatView → Running → Seated SeatView → Running → Type 0
+OnlyMoved before t after u = SameSeat before after × (u.sizes ≡ t.sizes)
 
 -- a process outside any call loads this reader's next word next
 pub record ReadsAlone (v : SeatView) (r : Reading) : Type 0 where
@@ -74,3 +92,7 @@ pub record Advanced (sizes : Sizes) (v : SeatView) (t : TransferView) (x : SeatV
   pub kept : answer ≡ Going → spares_about (Alone u.wish) x ≡ spares_about (Alone t.wish) v
   pub rests : answer ≢ Going → RestsAlone sizes x u
   pub spares : answer ≢ Going → spares_in x ≡ spares_after answer (spares_about (Alone t.wish) v)
+
+-- the same by its seat and its transfers
+abbrev pub Played : Seated SeatView → Running → Seated SeatView → Running → Progress → Type 0
+Played before t after u answer = Advanced t.sizes before.view t.part after.view u.part answer

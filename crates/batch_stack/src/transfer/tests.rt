@@ -1,5 +1,6 @@
 // Transfers outside any call, step by step: what their tests share.
-ghost use Rattle.std.specs.Prelude.{◌≡◌, ◌≢◌, ℕ, ◌+◌, ◌*◌, ◌<◌, ◌≤◌, [], ◌∷◌, length, IfOk, IsTrue, ◌↔◌};
+ghost use Rattle.std.specs.Prelude.{◌≡◌, ℕ, ◌+◌, ◌*◌, ◌<◌, ◌≤◌, [], ◌∷◌, length, IfOk, IsTrue, ◌↔◌};
+ghost use Rattle.word_layout.specs.Sizes.{blocks};
 ghost use Rattle.word_layout.specs.Names.{table_words};
 ghost use Rattle.word_layout.specs.Packing.{most_age};
 ghost use Rattle.word_table.specs.Seats.{SameSeat};
@@ -8,7 +9,7 @@ ghost use Rattle.pool_table.specs.declared.about.About.TheVariants.{Alone};
 ghost use Rattle.pool_table.specs.Views.{seat_of_process};
 ghost use Rattle.pool_table.specs.Steps.{Among};
 ghost use Rattle.batch_stack.specs.declared.progress.Progress.TheVariants.{Gave, Going};
-ghost use Rattle.batch_stack.specs.Alone.{Advanced, GoesAlone, RestsAlone, spares_in, spares_about};
+ghost use Rattle.batch_stack.specs.Alone.{Goes, IsAt, OnlyMoved, Played, Rests, spares_in, spares_about};
 ghost use Rattle.batch_stack.specs.Running.{IsInTry};
 
 use super::Transfer;
@@ -30,6 +31,13 @@ mod takes;
 mod threads;
 mod writing;
 
+/// A process that makes transfers outside any call: its seat, and these.
+#[derive(Drop)]
+struct Player {
+    seat: PoolSeat,
+    transfer: Transfer,
+}
+
 /// A step that was made.
 #[derive(Drop)]
 struct Made {
@@ -37,40 +45,45 @@ struct Made {
     progress: Progress,
 }
 
-/// A table with the seats of its two processes.
-fn open_two(alloc: Global, shape: &Shape) -> Result<(PoolTable, PoolSeat, PoolSeat), NoMemory>
-    requires two { shape.now.processes ≡ 2 }
-    ensures words { IfOk result (λ opened. opened.0.words ≡ table_words shape.now) }
-    ensures first { IfOk result (λ opened. opened.1.table ≡ opened.0) }
-    ensures second { IfOk result (λ opened. opened.2.table ≡ opened.0) }
-    ensures first_view { IfOk result (λ opened. opened.1.view ≡ seat_of_process shape.now 0 2) }
-    ensures second_view { IfOk result (λ opened. opened.2.view ≡ seat_of_process shape.now 1 0) }
-    ensures first_among { IfOk result (λ opened. Among opened.1.view) }
-    ensures second_among { IfOk result (λ opened. Among opened.2.view) }
-{
-    let (table, mut first) = open_table(alloc, shape)?;
-    let second = next_seat(&table, &mut first, &mut Steps::new(Kept::new()));
-    Ok((table, first, second))
-}
-
-/// The transfers of a process at the opening, when it keeps one spare.
+/// A process at the opening, over its seat. It is at rest, with one spare.
 #[tactic(auto, using(crate::proofs::Alone::opening_rests, crate::proofs::Alone::opening_spares))]
 fn open(
     alloc: Global,
     shape: &Shape,
     process: u32,
-    seat: &PoolSeat,
+    seat: PoolSeat,
     seats: u32,
-) -> Result<Transfer, NoMemory>
+) -> Result<Player, NoMemory>
     requires process { process < shape.now.processes }
-    requires opening { seat.now.view ≡ seat_of_process shape.now process seats }
-    requires among { Among seat.now.view }
-    ensures sizes { IfOk result (λ transfer. transfer.sizes ≡ shape.now) }
-    ensures rests { IfOk result (λ transfer. RestsAlone transfer.sizes seat.now.view transfer.part) }
-    ensures spare { spares_in seat.now.view ≡ (2 * process + 1) * shape.now.length ∷ [] }
+    requires opening { seat.view ≡ seat_of_process shape.now process seats }
+    requires among { Among seat.view }
+    ensures seat { IfOk result (λ player. player.seat ≡ seat) }
+    ensures sizes { IfOk result (λ player. player.transfer.sizes ≡ shape.now) }
+    ensures rests { IfOk result (λ player. Rests player.seat player.transfer) }
+    ensures spare { IfOk result (λ player. spares_in player.seat.view ≡ (2 * process + 1) * shape.now.length ∷ []) }
 {
     let _ = seats;
-    Transfer::open(alloc, shape, process)
+    let transfer = Transfer::open(alloc, shape, process)?;
+    Ok(Player { seat, transfer })
+}
+
+/// A table with its two processes.
+fn open_two(alloc: Global, shape: &Shape) -> Result<(PoolTable, Player, Player), NoMemory>
+    requires two { shape.now.processes ≡ 2 }
+    ensures first_at { IfOk result (λ opened. IsAt opened.0 opened.1.seat opened.1.transfer.sizes) }
+    ensures second_at { IfOk result (λ opened. IsAt opened.0 opened.2.seat opened.2.transfer.sizes) }
+    ensures first_sizes { IfOk result (λ opened. opened.1.transfer.sizes ≡ shape.now) }
+    ensures second_sizes { IfOk result (λ opened. opened.2.transfer.sizes ≡ shape.now) }
+    ensures first_rests { IfOk result (λ opened. Rests opened.1.seat opened.1.transfer) }
+    ensures second_rests { IfOk result (λ opened. Rests opened.2.seat opened.2.transfer) }
+    ensures first_spare { IfOk result (λ opened. spares_in opened.1.seat.view ≡ (2 * 0 + 1) * shape.now.length ∷ []) }
+    ensures second_spare { IfOk result (λ opened. spares_in opened.2.seat.view ≡ (2 * 1 + 1) * shape.now.length ∷ []) }
+{
+    let (table, mut seat) = open_table(alloc, shape)?;
+    let other = next_seat(&table, &mut seat, &mut Steps::new(Kept::new()));
+    let first = open(alloc, shape, 0, seat, 2)?;
+    let second = open(alloc, shape, 1, other, 0)?;
+    Ok((table, first, second))
 }
 
 /// The spare of process 0 at the opening.
@@ -87,55 +100,46 @@ fn is_young(transfer: &Transfer) -> bool
     transfer.view.age < 1 << 32
 }
 
+/// Whether there is a block with this number.
+fn is_block(transfer: &Transfer, number: u32) -> bool
+    ensures { IsTrue result ↔ number < blocks transfer.now.sizes }
+{
+    number < transfer.shape.blocks()
+}
+
 /// Begins a take of a process with at most one spare.
 #[tactic(auto, using(crate::proofs::Alone::take_spares))]
-fn begin_take(rt: &impl Abort, transfer: &mut Transfer, seat: &PoolSeat)
-    requires rests { RestsAlone transfer.old.sizes seat.now.view transfer.old.part }
-    requires few { length (spares_in seat.now.view) ≤ 1 }
-    ensures sizes { transfer.new.sizes ≡ transfer.old.sizes }
-    ensures goes { GoesAlone transfer.old.sizes seat.now.view transfer.new.part }
-    ensures spares { spares_about (Alone transfer.new.part.wish) seat.now.view ≡ spares_in seat.now.view }
+fn begin_take(rt: &impl Abort, player: &mut Player)
+    requires rests { Rests player.old.seat player.old.transfer }
+    requires few { length (spares_in player.old.seat.view) ≤ 1 }
+    ensures seat { player.new.seat ≡ player.old.seat }
+    ensures sizes { player.new.transfer.sizes ≡ player.old.transfer.sizes }
+    ensures goes { Goes player.new.seat player.new.transfer }
+    ensures spares { spares_about (Alone player.new.transfer.part.wish) player.new.seat.view ≡ spares_in player.old.seat.view }
 {
-    if !is_young(transfer) {
+    if !is_young(&player.transfer) {
         panic!(rt; "no age is left");
     }
-    transfer.begin_take();
+    player.transfer.begin_take();
 }
 
 /// Begins a give of the one spare of a process.
 #[tactic(auto, using(crate::proofs::Alone::give_spares))]
-fn begin_give(rt: &impl Abort, transfer: &mut Transfer, seat: &PoolSeat, head: u32)
-    requires rests { RestsAlone transfer.old.sizes seat.now.view transfer.old.part }
-    requires spare { spares_in seat.now.view ≡ head ∷ [] }
-    ensures sizes { transfer.new.sizes ≡ transfer.old.sizes }
-    ensures goes { GoesAlone transfer.old.sizes seat.now.view transfer.new.part }
-    ensures spares { spares_about (Alone transfer.new.part.wish) seat.now.view ≡ [] }
+fn begin_give(rt: &impl Abort, player: &mut Player, head: u32)
+    requires rests { Rests player.old.seat player.old.transfer }
+    requires spare { spares_in player.old.seat.view ≡ head ∷ [] }
+    ensures seat { player.new.seat ≡ player.old.seat }
+    ensures sizes { player.new.transfer.sizes ≡ player.old.transfer.sizes }
+    ensures goes { Goes player.new.seat player.new.transfer }
+    ensures spares { spares_about (Alone player.new.transfer.part.wish) player.new.seat.view ≡ [] }
 {
-    if !is_young(transfer) {
+    if !is_young(&player.transfer) {
         panic!(rt; "no age is left");
     }
-    assert!(rt; head < transfer.shape.blocks());
-    transfer.begin_give(head);
-}
-
-/// A take of a process at the opening.
-fn begun_take(
-    rt: &impl Abort,
-    alloc: Global,
-    shape: &Shape,
-    process: u32,
-    seat: &PoolSeat,
-    seats: u32,
-) -> Result<Transfer, NoMemory>
-    requires process { process < shape.now.processes }
-    requires opening { seat.now.view ≡ seat_of_process shape.now process seats }
-    requires among { Among seat.now.view }
-    ensures sizes { IfOk result (λ transfer. transfer.sizes ≡ shape.now) }
-    ensures goes { IfOk result (λ transfer. GoesAlone transfer.sizes seat.now.view transfer.part) }
-{
-    let mut transfer = open(alloc, shape, process, seat, seats)?;
-    begin_take(rt, &mut transfer, seat);
-    Ok(transfer)
+    if !is_block(&player.transfer, head) {
+        panic!(rt; "there is no such block");
+    }
+    player.transfer.begin_give(head);
 }
 
 /// The word at this place. Its load turns no view.
@@ -161,32 +165,28 @@ fn next_word(transfer: &Transfer) -> (u32, bool)
     }
 }
 
-/// Makes the next step of a transfer alone.
+/// Makes the next step of a transfer.
 #[tactic(auto, using(crate::proofs::Alone::alone_can, crate::proofs::Alone::alone_agrees, crate::proofs::Alone::step_advances))]
-fn advance(transfer: &mut Transfer, table: &PoolTable, seat: &mut PoolSeat) -> Progress
-    requires seat { seat.old.table ≡ table.now }
-    requires words { table.now.words ≡ table_words transfer.old.sizes }
-    requires goes { GoesAlone transfer.old.sizes seat.old.view transfer.old.part }
-    ensures sizes { transfer.new.sizes ≡ transfer.old.sizes }
-    ensures seat { SameSeat seat.old seat.new }
-    ensures advanced { Advanced transfer.old.sizes seat.old.view transfer.old.part seat.new.view transfer.new.part result }
+fn advance(player: &mut Player, table: &PoolTable) -> Progress
+    requires at { IsAt table.now player.old.seat player.old.transfer.sizes }
+    requires goes { Goes player.old.seat player.old.transfer }
+    ensures moved { OnlyMoved player.old.seat player.old.transfer player.new.seat player.new.transfer }
+    ensures played { Played player.old.seat player.old.transfer player.new.seat player.new.transfer result }
 {
-    transfer.step(table, seat, None, &mut Steps::new(Kept::new()))
+    player.transfer.step(table, &mut player.seat, None, &mut Steps::new(Kept::new()))
 }
 
 /// The same with its word: the one that stood there, and of a store the one that it left.
-fn step(transfer: &mut Transfer, table: &PoolTable, seat: &mut PoolSeat) -> Made
-    requires seat { seat.old.table ≡ table.now }
-    requires words { table.now.words ≡ table_words transfer.old.sizes }
-    requires goes { GoesAlone transfer.old.sizes seat.old.view transfer.old.part }
-    ensures sizes { transfer.new.sizes ≡ transfer.old.sizes }
-    ensures seat { SameSeat seat.old seat.new }
-    ensures advanced { Advanced transfer.old.sizes seat.old.view transfer.old.part seat.new.view transfer.new.part result.progress }
+fn step(player: &mut Player, table: &PoolTable) -> Made
+    requires at { IsAt table.now player.old.seat player.old.transfer.sizes }
+    requires goes { Goes player.old.seat player.old.transfer }
+    ensures moved { OnlyMoved player.old.seat player.old.transfer player.new.seat player.new.transfer }
+    ensures played { Played player.old.seat player.old.transfer player.new.seat player.new.transfer result.progress }
 {
-    let (place, stores) = next_word(transfer);
-    let met = look(table, seat, place);
-    let progress = advance(transfer, table, seat);
-    let left = look(table, seat, place);
+    let (place, stores) = next_word(&player.transfer);
+    let met = look(table, &mut player.seat, place);
+    let progress = advance(player, table);
+    let left = look(table, &mut player.seat, place);
     Made {
         word: if stores { left } else { met },
         progress,
@@ -225,21 +225,14 @@ fn has_given(progress: Progress) -> bool
 }
 
 /// Makes at most so many steps, and answers how many it made and how far the transfer is.
-fn run(
-    transfer: &mut Transfer,
-    table: &PoolTable,
-    seat: &mut PoolSeat,
-    most: u32,
-) -> (u32, Progress)
-    requires seat { seat.old.table ≡ table.now }
-    requires words { table.now.words ≡ table_words transfer.old.sizes }
-    requires goes { GoesAlone transfer.old.sizes seat.old.view transfer.old.part }
-    ensures sizes { transfer.new.sizes ≡ transfer.old.sizes }
-    ensures seat { SameSeat seat.old seat.new }
-    ensures advanced { Advanced transfer.old.sizes seat.old.view transfer.old.part seat.new.view transfer.new.part result.1 }
+fn run(player: &mut Player, table: &PoolTable, most: u32) -> (u32, Progress)
+    requires at { IsAt table.now player.old.seat player.old.transfer.sizes }
+    requires goes { Goes player.old.seat player.old.transfer }
+    ensures moved { OnlyMoved player.old.seat player.old.transfer player.new.seat player.new.transfer }
+    ensures played { Played player.old.seat player.old.transfer player.new.seat player.new.transfer result.1 }
 {
     for made in 0..most {
-        let progress = advance(transfer, table, seat);
+        let progress = advance(player, table);
         if !is_going(progress) {
             return (made + 1, progress);
         }
@@ -248,22 +241,14 @@ fn run(
 }
 
 /// Makes steps on these words, and answers how far the transfer is. It ends at none but the last.
-fn make(
-    rt: &impl Abort,
-    transfer: &mut Transfer,
-    table: &PoolTable,
-    seat: &mut PoolSeat,
-    words: &[u64],
-) -> Progress
-    requires seat { seat.old.table ≡ table.now }
-    requires words { table.now.words ≡ table_words transfer.old.sizes }
-    requires goes { GoesAlone transfer.old.sizes seat.old.view transfer.old.part }
-    ensures sizes { transfer.new.sizes ≡ transfer.old.sizes }
-    ensures seat { SameSeat seat.old seat.new }
-    ensures advanced { Advanced transfer.old.sizes seat.old.view transfer.old.part seat.new.view transfer.new.part result }
+fn make(rt: &impl Abort, player: &mut Player, table: &PoolTable, words: &[u64]) -> Progress
+    requires at { IsAt table.now player.old.seat player.old.transfer.sizes }
+    requires goes { Goes player.old.seat player.old.transfer }
+    ensures moved { OnlyMoved player.old.seat player.old.transfer player.new.seat player.new.transfer }
+    ensures played { Played player.old.seat player.old.transfer player.new.seat player.new.transfer result }
 {
     for index in 0..words.len() {
-        let made = step(transfer, table, seat);
+        let made = step(player, table);
         assert_eq!(rt; made.word, words[index], "{index}");
         if !is_going(made.progress) {
             assert_eq!(rt; index + 1, words.len());
@@ -274,21 +259,13 @@ fn make(
 }
 
 /// Makes steps on these words, of which none is the last one.
-fn make_part(
-    rt: &impl Abort,
-    transfer: &mut Transfer,
-    table: &PoolTable,
-    seat: &mut PoolSeat,
-    words: &[u64],
-)
-    requires seat { seat.old.table ≡ table.now }
-    requires words { table.now.words ≡ table_words transfer.old.sizes }
-    requires goes { GoesAlone transfer.old.sizes seat.old.view transfer.old.part }
-    ensures sizes { transfer.new.sizes ≡ transfer.old.sizes }
-    ensures seat { SameSeat seat.old seat.new }
-    ensures goes { GoesAlone transfer.old.sizes seat.new.view transfer.new.part }
+fn make_part(rt: &impl Abort, player: &mut Player, table: &PoolTable, words: &[u64])
+    requires at { IsAt table.now player.old.seat player.old.transfer.sizes }
+    requires goes { Goes player.old.seat player.old.transfer }
+    ensures moved { OnlyMoved player.old.seat player.old.transfer player.new.seat player.new.transfer }
+    ensures goes { Goes player.new.seat player.new.transfer }
 {
-    let progress = make(rt, transfer, table, seat, words);
+    let progress = make(rt, player, table, words);
     if !is_going(progress) {
         panic!(rt; "the transfer ended");
     }

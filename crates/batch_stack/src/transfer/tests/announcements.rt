@@ -1,15 +1,12 @@
 // The announcements of all processes, heard in the place of a transfer's own steps.
 ghost use Rattle.std.specs.Prelude.{◌≡◌, ◌+◌, IsTrue};
-ghost use Rattle.word_layout.specs.Names.{table_words};
 ghost use Rattle.word_layout.specs.Packing.{FitsAnnounced};
-ghost use Rattle.word_table.specs.Seats.{SameSeat};
-ghost use Rattle.batch_stack.specs.Alone.{GoesAlone};
+ghost use Rattle.batch_stack.specs.Alone.{Goes, IsAt, OnlyMoved};
 
-use super::{begun_take, make, make_part, open_two, tries_next};
+use super::{Player, begin_take, make, make_part, open_two, tries_next};
 use crate::progress::Progress;
-use crate::transfer::Transfer;
 use announce::AnnounceReader;
-use pool_table::{PoolSeat, PoolTable};
+use pool_table::PoolTable;
 use std::alloc::Global;
 use std::process::Abort;
 use std::test::Fail;
@@ -30,28 +27,26 @@ fn is_take(announced: Announced) -> bool
 /// Hears that this process, whose announcement the transfer loads next, announces a take: the number of that.
 fn hear(
     rt: &impl Abort,
-    transfer: &mut Transfer,
+    player: &mut Player,
     reader: &mut AnnounceReader,
     process: u32,
     table: &PoolTable,
-    seat: &mut PoolSeat,
 ) -> u64
-    requires seat { seat.old.table ≡ table.now }
-    requires words { table.now.words ≡ table_words transfer.old.sizes }
-    requires reader { reader.old ≡ record { sizes = transfer.old.sizes; process = process } }
-    requires goes { GoesAlone transfer.old.sizes seat.old.view transfer.old.part }
-    ensures sizes { transfer.new.sizes ≡ transfer.old.sizes }
-    ensures seat { SameSeat seat.old seat.new }
-    ensures reader { reader.new ≡ record { sizes = transfer.old.sizes; process = process + 1 } }
-    ensures goes { GoesAlone transfer.old.sizes seat.new.view transfer.new.part }
+    requires at { IsAt table.now player.old.seat player.old.transfer.sizes }
+    requires reader { reader.old ≡ record { sizes = player.old.transfer.sizes; process = process } }
+    requires goes { Goes player.old.seat player.old.transfer }
+    ensures moved { OnlyMoved player.old.seat player.old.transfer player.new.seat player.new.transfer }
+    ensures reader { reader.new ≡ record { sizes = player.old.transfer.sizes; process = process + 1 } }
+    ensures goes { Goes player.new.seat player.new.transfer }
 {
-    if !tries_next(transfer, TryStep::LoadAnnouncement { process }) {
+    if !tries_next(&player.transfer, TryStep::LoadAnnouncement { process }) {
         panic!(rt; "another word is loaded next");
     }
-    let announced = reader.step(table, seat, None, &mut Steps::new(Kept::new()));
+    let announced = reader.step(table, &mut player.seat, None, &mut Steps::new(Kept::new()));
     if !is_take(announced) {
         panic!(rt; "no take is announced");
     }
+    let transfer = &mut player.transfer;
     transfer.view.meet(&transfer.shape, announced.pack());
     announced.number
 }
@@ -66,16 +61,16 @@ fn hear_both(
     after: &[u64],
 ) -> Result<([u64; 2], Progress), Fail> {
     let shape = Shape::new(2, 6, 0)?;
-    let (table, mut first, mut second) = open_two(alloc, &shape)?;
-    let mut announced = begun_take(rt, alloc, &shape, 0, &first, 2)?;
-    let mut helping = begun_take(rt, alloc, &shape, 1, &second, 0)?;
-    make_part(rt, &mut announced, &table, &mut first, &[16777216]);
-    make_part(rt, &mut helping, &table, &mut second, before);
+    let (table, mut announced, mut helping) = open_two(alloc, &shape)?;
+    begin_take(rt, &mut announced);
+    begin_take(rt, &mut helping);
+    make_part(rt, &mut announced, &table, &[16777216]);
+    make_part(rt, &mut helping, &table, before);
     let mut reader = AnnounceReader::open(&shape);
-    let one = hear(rt, &mut helping, &mut reader, 0, &table, &mut second);
-    make_part(rt, &mut helping, &table, &mut second, between);
-    let other = hear(rt, &mut helping, &mut reader, 1, &table, &mut second);
-    let end = make(rt, &mut helping, &table, &mut second, after);
+    let one = hear(rt, &mut helping, &mut reader, 0, &table);
+    make_part(rt, &mut helping, &table, between);
+    let other = hear(rt, &mut helping, &mut reader, 1, &table);
+    let end = make(rt, &mut helping, &table, after);
     Ok(([one, other], end))
 }
 

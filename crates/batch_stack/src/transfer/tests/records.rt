@@ -1,13 +1,11 @@
 // Whole records, read in the place of a transfer's own steps.
 ghost use Rattle.std.specs.Prelude.{◌≡◌, ◌≢◌, IfOk, IsTrue, ◌↔◌};
-ghost use Rattle.word_layout.specs.Names.{table_words};
 ghost use Rattle.word_table.specs.Seats.{SameSeat};
 ghost use Rattle.versioned_records.specs.declared.reader.ReadStep.TheVariants.{Going, Whole};
-ghost use Rattle.batch_stack.specs.Alone.{GoesAlone, ReadsAlone};
+ghost use Rattle.batch_stack.specs.Alone.{Goes, IsAt, ReadsAlone};
 
 use super::making::{give, take};
-use super::{begun_take, first_spare, make_part, open, open_two, tries_next};
-use crate::transfer::Transfer;
+use super::{Player, begin_take, first_spare, make_part, open, open_two, tries_next};
 use pool_model::NoMemory;
 use pool_table::{PoolSeat, PoolTable, open_table};
 use std::alloc::Global;
@@ -19,16 +17,12 @@ use versioned_records::{ReadStep, RecordReader};
 use word_layout::Shape;
 
 /// A reader of the record that a transfer loads next.
-fn read_record(
-    rt: &impl Abort,
-    alloc: Global,
-    transfer: &Transfer,
-    seat: &PoolSeat,
-) -> Result<RecordReader, NoMemory>
-    requires goes { GoesAlone transfer.now.sizes seat.now.view transfer.now.part }
-    ensures sizes { IfOk result (λ reader. reader.sizes ≡ transfer.now.sizes) }
-    ensures reads { IfOk result (λ reader. ReadsAlone seat.now.view reader) }
+fn read_record(rt: &impl Abort, alloc: Global, player: &Player) -> Result<RecordReader, NoMemory>
+    requires goes { Goes player.now.seat player.now.transfer }
+    ensures sizes { IfOk result (λ reader. reader.sizes ≡ player.now.transfer.sizes) }
+    ensures reads { IfOk result (λ reader. ReadsAlone player.now.seat.view reader) }
 {
+    let transfer = &player.transfer;
     if !tries_next(transfer, TryStep::LoadRecordWord { index: 0 }) {
         panic!(rt; "no record is loaded next");
     }
@@ -42,8 +36,7 @@ fn read_record(
 /// Loads the next word of a record.
 #[tactic(auto, using(crate::proofs::InTry::read_keeps_sizes, crate::proofs::InTry::read_reached))]
 fn read_word(reader: &mut RecordReader, table: &PoolTable, seat: &mut PoolSeat) -> ReadStep
-    requires seat { seat.old.table ≡ table.now }
-    requires words { table.now.words ≡ table_words reader.old.sizes }
+    requires at { IsAt table.now seat.old reader.old.sizes }
     requires reads { ReadsAlone seat.old.view reader.old }
     ensures sizes { reader.new.sizes ≡ reader.old.sizes }
     ensures seat { SameSeat seat.old seat.new }
@@ -65,8 +58,7 @@ fn is_reading(read: ReadStep) -> bool
 
 /// Loads at most so many words of a record, and answers how far it is.
 fn read(reader: &mut RecordReader, table: &PoolTable, seat: &mut PoolSeat, most: u32) -> ReadStep
-    requires seat { seat.old.table ≡ table.now }
-    requires words { table.now.words ≡ table_words reader.old.sizes }
+    requires at { IsAt table.now seat.old reader.old.sizes }
     requires reads { ReadsAlone seat.old.view reader.old }
     ensures sizes { reader.new.sizes ≡ reader.old.sizes }
     ensures seat { SameSeat seat.old seat.new }
@@ -86,17 +78,15 @@ fn read(reader: &mut RecordReader, table: &PoolTable, seat: &mut PoolSeat, most:
 fn values(
     rt: &impl Abort,
     alloc: Global,
-    transfer: &Transfer,
+    player: &mut Player,
     table: &PoolTable,
-    seat: &mut PoolSeat,
 ) -> Result<Vec<u32>, NoMemory>
-    requires seat { seat.old.table ≡ table.now }
-    requires words { table.now.words ≡ table_words transfer.now.sizes }
-    requires goes { GoesAlone transfer.now.sizes seat.old.view transfer.now.part }
+    requires at { IsAt table.now player.old.seat player.old.transfer.sizes }
+    requires goes { Goes player.old.seat player.old.transfer }
 {
-    let mut reader = read_record(rt, alloc, transfer, seat)?;
-    match read(&mut reader, table, seat, 66) {
-        ReadStep::Whole => push_values(alloc, &transfer.shape, &reader),
+    let mut reader = read_record(rt, alloc, player)?;
+    match read(&mut reader, table, &mut player.seat, 66) {
+        ReadStep::Whole => push_values(alloc, &player.transfer.shape, &reader),
         ReadStep::Going | ReadStep::Moved => panic!(rt; "the record isn't whole"),
     }
 }
@@ -116,10 +106,11 @@ fn push_values(alloc: Global, shape: &Shape, reader: &RecordReader) -> Result<Ve
 #[test]
 fn the_first_record_is_that_of_the_opening_state(rt: HostRuntime) -> Result<(), Fail> {
     let shape = Shape::new(1, 10, 0)?;
-    let (table, mut seat) = open_table(rt.alloc(), &shape)?;
-    let mut taking = begun_take(&rt, rt.alloc(), &shape, 0, &seat, 1)?;
-    make_part(&rt, &mut taking, &table, &mut seat, &[16777216, 16777218]);
-    let first = values(&rt, rt.alloc(), &taking, &table, &mut seat)?;
+    let (table, seat) = open_table(rt.alloc(), &shape)?;
+    let mut taking = open(rt.alloc(), &shape, 0, seat, 1)?;
+    begin_take(&rt, &mut taking);
+    make_part(&rt, &mut taking, &table, &[16777216, 16777218]);
+    let first = values(&rt, rt.alloc(), &mut taking, &table)?;
     assert_eq!(rt; first.as_slice(), [8, 0, 0, 0].as_slice());
     Ok(())
 }
@@ -128,26 +119,18 @@ fn the_first_record_is_that_of_the_opening_state(rt: HostRuntime) -> Result<(), 
 /// process 1's reader is before and after that.
 fn read_beside(rt: &impl Abort, alloc: Global) -> Result<[ReadStep; 2], Fail> {
     let shape = Shape::new(2, 4, 0)?;
-    let (table, mut first, mut second) = open_two(alloc, &shape)?;
-    let mut giving = open(alloc, &shape, 0, &first, 2)?;
-    let mut stale = begun_take(rt, alloc, &shape, 1, &second, 0)?;
-    give(
-        rt,
-        &mut giving,
-        &table,
-        &mut first,
-        first_spare(&shape),
-        None,
-    );
-    make_part(rt, &mut stale, &table, &mut second, &[16777216, 33554432]);
-    let mut reader = read_record(rt, alloc, &stale, &second)?;
-    let before = read(&mut reader, &table, &mut second, 1);
+    let (table, mut giving, mut stale) = open_two(alloc, &shape)?;
+    begin_take(rt, &mut stale);
+    give(rt, &mut giving, &table, first_spare(&shape), None);
+    make_part(rt, &mut stale, &table, &[16777216, 33554432]);
+    let mut reader = read_record(rt, alloc, &stale)?;
+    let before = read(&mut reader, &table, &mut stale.seat, 1);
     if !is_reading(before) {
         panic!(rt; "the record has one word");
     }
-    let head = take(rt, &mut giving, &table, &mut first, None);
-    give(rt, &mut giving, &table, &mut first, head, None);
-    let after = read(&mut reader, &table, &mut second, 1);
+    let head = take(rt, &mut giving, &table, None);
+    give(rt, &mut giving, &table, head, None);
+    let after = read(&mut reader, &table, &mut stale.seat, 1);
     Ok([before, after])
 }
 

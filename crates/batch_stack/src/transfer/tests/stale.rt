@@ -1,6 +1,6 @@
 // A stale helper: it loaded a state that two later ones have replaced.
 use super::making::{give, take};
-use super::{begun_take, first_spare, make, make_part, open, open_two};
+use super::{begin_take, first_spare, make, make_part, open_two};
 use crate::progress::Progress;
 use std::alloc::Global;
 use std::process::Abort;
@@ -16,21 +16,13 @@ fn stop_and_go_on(
     stopped: [&[u64]; 2],
 ) -> Result<(u32, Progress), Fail> {
     let shape = Shape::new(2, 4, 0)?;
-    let (table, mut first, mut second) = open_two(alloc, &shape)?;
-    let mut giving = open(alloc, &shape, 0, &first, 2)?;
-    let mut stale = begun_take(rt, alloc, &shape, 1, &second, 0)?;
-    give(
-        rt,
-        &mut giving,
-        &table,
-        &mut first,
-        first_spare(&shape),
-        Some(gives[0]),
-    );
-    make_part(rt, &mut stale, &table, &mut second, stopped[0]);
-    let head = take(rt, &mut giving, &table, &mut first, Some(takes));
-    give(rt, &mut giving, &table, &mut first, head, Some(gives[1]));
-    let end = make(rt, &mut stale, &table, &mut second, stopped[1]);
+    let (table, mut giving, mut stale) = open_two(alloc, &shape)?;
+    begin_take(rt, &mut stale);
+    give(rt, &mut giving, &table, first_spare(&shape), Some(gives[0]));
+    make_part(rt, &mut stale, &table, stopped[0]);
+    let head = take(rt, &mut giving, &table, Some(takes));
+    give(rt, &mut giving, &table, head, Some(gives[1]));
+    let end = make(rt, &mut stale, &table, stopped[1]);
     Ok((head, end))
 }
 

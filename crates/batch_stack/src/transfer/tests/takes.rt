@@ -1,5 +1,5 @@
 // Takes at the opening, each step with its word: a process alone, and one beside another that stopped.
-use super::{begun_take, make, make_part, open_two, run};
+use super::{begin_take, make, make_part, open, open_two, run};
 use crate::progress::Progress;
 use pool_table::open_table;
 use std::alloc::Global;
@@ -15,9 +15,10 @@ fn take_alone(
     words: &[u64],
 ) -> Result<Progress, Fail> {
     let shape = Shape::new(1, batches, 0)?;
-    let (table, mut seat) = open_table(alloc, &shape)?;
-    let mut transfer = begun_take(rt, alloc, &shape, 0, &seat, 1)?;
-    Ok(make(rt, &mut transfer, &table, &mut seat, words))
+    let (table, seat) = open_table(alloc, &shape)?;
+    let mut taking = open(alloc, &shape, 0, seat, 1)?;
+    begin_take(rt, &mut taking);
+    Ok(make(rt, &mut taking, &table, words))
 }
 
 #[test]
@@ -45,11 +46,11 @@ fn a_lone_take_that_finds_nothing(rt: HostRuntime) -> Result<(), Fail> {
 /// Process 0 makes so many steps of a take and stops, and process 1 takes: how many it makes of them, and how it ends.
 fn take_beside(rt: &impl Abort, alloc: Global, made: u32) -> Result<(u32, Progress), Fail> {
     let shape = Shape::new(2, 6, 0)?;
-    let (table, mut first, mut second) = open_two(alloc, &shape)?;
-    let mut stopped = begun_take(rt, alloc, &shape, 0, &first, 2)?;
-    let mut taking = begun_take(rt, alloc, &shape, 1, &second, 0)?;
-    let (count, _) = run(&mut stopped, &table, &mut first, made);
-    let (_, end) = run(&mut taking, &table, &mut second, 47);
+    let (table, mut stopped, mut taking) = open_two(alloc, &shape)?;
+    begin_take(rt, &mut stopped);
+    begin_take(rt, &mut taking);
+    let (count, _) = run(&mut stopped, &table, made);
+    let (_, end) = run(&mut taking, &table, 47);
     Ok((count, end))
 }
 
@@ -71,12 +72,12 @@ fn help(
     helped: &[u64],
 ) -> Result<(Progress, Progress), Fail> {
     let shape = Shape::new(2, 6, 0)?;
-    let (table, mut first, mut second) = open_two(alloc, &shape)?;
-    let mut announced = begun_take(rt, alloc, &shape, 0, &first, 2)?;
-    let mut helping = begun_take(rt, alloc, &shape, 1, &second, 0)?;
-    make_part(rt, &mut announced, &table, &mut first, &[16777216]);
-    let helper = make(rt, &mut helping, &table, &mut second, helpers);
-    let end = make(rt, &mut announced, &table, &mut first, helped);
+    let (table, mut announced, mut helping) = open_two(alloc, &shape)?;
+    begin_take(rt, &mut announced);
+    begin_take(rt, &mut helping);
+    make_part(rt, &mut announced, &table, &[16777216]);
+    let helper = make(rt, &mut helping, &table, helpers);
+    let end = make(rt, &mut announced, &table, helped);
     Ok((helper, end))
 }
 

@@ -1,12 +1,11 @@
 // Two processes on threads of their own, and what the stack holds in the end.
 ghost use Rattle.std.specs.Prelude.{◌≡◌, ◌+◌, ◌*◌, [], ◌∷◌};
-ghost use Rattle.word_layout.specs.Names.{InRange, table_words};
+ghost use Rattle.word_layout.specs.Names.{InRange};
 ghost use Rattle.word_table.specs.Seats.{SameSeat};
-ghost use Rattle.batch_stack.specs.Alone.{RestsAlone, spares_in};
+ghost use Rattle.batch_stack.specs.Alone.{IsAt, OnlyMoved, Rests, spares_in};
 
 use super::making::{give, take};
-use super::{first_spare, look, open, open_two};
-use crate::transfer::Transfer;
+use super::{Player, first_spare, look, open_two};
 use pool_table::{PoolSeat, PoolTable};
 use std::alloc::AllocError;
 use std::process::Abort;
@@ -23,24 +22,16 @@ fn second_spare(rt: &impl Abort, shape: &Shape) -> u32
 }
 
 /// So many gives, each with a take after it: the batch that the process has in the end.
-fn play(
-    rt: &impl Abort,
-    transfer: &mut Transfer,
-    table: &PoolTable,
-    seat: &mut PoolSeat,
-    spare: u32,
-    rounds: u32,
-) -> u32
-    requires seat { seat.old.table ≡ table.now }
-    requires words { table.now.words ≡ table_words transfer.old.sizes }
-    requires rests { RestsAlone transfer.old.sizes seat.old.view transfer.old.part }
-    requires spare { spares_in seat.old.view ≡ spare ∷ [] }
-    ensures seat { SameSeat seat.old seat.new }
+fn play(rt: &impl Abort, player: &mut Player, table: &PoolTable, spare: u32, rounds: u32) -> u32
+    requires at { IsAt table.now player.old.seat player.old.transfer.sizes }
+    requires rests { Rests player.old.seat player.old.transfer }
+    requires spare { spares_in player.old.seat.view ≡ spare ∷ [] }
+    ensures moved { OnlyMoved player.old.seat player.old.transfer player.new.seat player.new.transfer }
 {
     let mut head = spare;
     for _ in 0..rounds {
-        give(rt, transfer, table, seat, head, None);
-        head = take(rt, transfer, table, seat, None);
+        give(rt, player, table, head, None);
+        head = take(rt, player, table, None);
     }
     head
 }
@@ -48,8 +39,7 @@ fn play(
 /// The value of the word with this name.
 fn value(shape: &Shape, table: &PoolTable, seat: &mut PoolSeat, name: WordName) -> u32
     requires name { InRange shape.now name }
-    requires seat { seat.old.table ≡ table.now }
-    requires words { table.now.words ≡ table_words shape.now }
+    requires at { IsAt table.now seat.old shape.now }
     ensures seat { SameSeat seat.old seat.new }
 {
     Tagged::value(look(table, seat, shape.place(name)))
@@ -62,8 +52,7 @@ fn push_content(
     seat: &mut PoolSeat,
     heads: &mut Vec<u32>,
 ) -> Result<(), AllocError>
-    requires seat { seat.old.table ≡ table.now }
-    requires words { table.now.words ≡ table_words shape.now }
+    requires at { IsAt table.now seat.old shape.now }
 {
     prove!(shape.processes() <= 32);
     let row = value(shape, table, seat, WordName::State);
@@ -89,19 +78,17 @@ fn push_content(
 fn two_processes_exchange_batches_on_threads(rt: HostRuntime) -> Result<(), Fail> {
     let shape = Shape::new(2, 8, 0)?;
     let (table, mut first, mut second) = open_two(rt.alloc(), &shape)?;
-    let mut ones = open(rt.alloc(), &shape, 0, &first, 2)?;
-    let mut others = open(rt.alloc(), &shape, 1, &second, 0)?;
     let (own, other) = (first_spare(&shape), second_spare(&rt, &shape));
     let (handle, shared) = (&rt, &table);
     let playing = move || {
-        let head = play(handle, &mut ones, shared, &mut first, own, 5_000);
-        (first, head)
+        let head = play(handle, &mut first, shared, own, 5_000);
+        (first.seat, head)
     };
-    let ((mut first, mine), theirs) = thread::join(&rt, playing, || {
-        play(&rt, &mut others, &table, &mut second, other, 5_000)
+    let ((mut seat, mine), theirs) = thread::join(&rt, playing, || {
+        play(&rt, &mut second, &table, other, 5_000)
     });
     let mut heads = vec![in rt.alloc(); mine, theirs]?;
-    push_content(&shape, &table, &mut first, &mut heads)?;
+    push_content(&shape, &table, &mut seat, &mut heads)?;
     heads.sort()?;
     let all = [6, 18, 24, 30, 36, 42];
     assert_eq!(rt; heads.as_slice(), all.as_slice());

@@ -1,11 +1,11 @@
 // A whole record, written in the place of a transfer's own steps.
 ghost use Rattle.std.specs.Prelude.{◌≡◌, ◌<◌, ◌≤◌, IfOk, IsTrue, ◌↔◌};
-ghost use Rattle.word_layout.specs.Names.{records, table_words};
+ghost use Rattle.word_layout.specs.Names.{records};
 ghost use Rattle.word_table.specs.Seats.{SameSeat};
 ghost use Rattle.versioned_records.specs.declared.writer.WriteStep.TheVariants.{Going};
-ghost use Rattle.batch_stack.specs.Alone.{GoesAlone, HasDrafted, WritesAlone};
+ghost use Rattle.batch_stack.specs.Alone.{Goes, HasDrafted, IsAt, WritesAlone};
 
-use super::{begun_take, look, make_part, tries_next};
+use super::{Player, begin_take, look, make_part, open, tries_next};
 use crate::transfer::Transfer;
 use pool_model::NoMemory;
 use pool_table::{PoolSeat, PoolTable, open_table};
@@ -39,14 +39,14 @@ fn has_drafted(transfer: &Transfer, values: &[u32]) -> bool
 fn write_record(
     rt: &impl Abort,
     alloc: Global,
-    transfer: &Transfer,
-    seat: &PoolSeat,
+    player: &Player,
     values: &[u32],
 ) -> Result<RecordWriter, NoMemory>
-    requires goes { GoesAlone transfer.now.sizes seat.now.view transfer.now.part }
-    ensures sizes { IfOk result (λ writer. writer.sizes ≡ transfer.now.sizes) }
-    ensures writes { IfOk result (λ writer. WritesAlone seat.now.view writer) }
+    requires goes { Goes player.now.seat player.now.transfer }
+    ensures sizes { IfOk result (λ writer. writer.sizes ≡ player.now.transfer.sizes) }
+    ensures writes { IfOk result (λ writer. WritesAlone player.now.seat.view writer) }
 {
+    let transfer = &player.transfer;
     if !tries_next(transfer, TryStep::StoreRecordWord { index: 0 }) {
         panic!(rt; "no record is stored next");
     }
@@ -62,8 +62,7 @@ fn write_record(
 /// Stores the next word of a record.
 #[tactic(auto, using(crate::proofs::Written::write_keeps_sizes))]
 fn write_word(writer: &mut RecordWriter, table: &PoolTable, seat: &mut PoolSeat) -> WriteStep
-    requires seat { seat.old.table ≡ table.now }
-    requires words { table.now.words ≡ table_words writer.old.sizes }
+    requires at { IsAt table.now seat.old writer.old.sizes }
     requires writes { WritesAlone seat.old.view writer.old }
     ensures sizes { writer.new.sizes ≡ writer.old.sizes }
     ensures seat { SameSeat seat.old seat.new }
@@ -92,8 +91,7 @@ fn write(
     row: u32,
     steps: &[(u64, WriteStep)],
 )
-    requires seat { seat.old.table ≡ table.now }
-    requires words { table.now.words ≡ table_words shape.now }
+    requires at { IsAt table.now seat.old shape.now }
     requires sizes { writer.old.sizes ≡ shape.now }
     requires writes { WritesAlone seat.old.view writer.old }
     requires row { row < records shape.now }
@@ -116,20 +114,29 @@ fn write(
 #[test]
 fn a_writer_stores_the_drafted_values(rt: HostRuntime) -> Result<(), Fail> {
     let shape = Shape::new(1, 10, 0)?;
-    let (table, mut seat) = open_table(rt.alloc(), &shape)?;
-    let mut taking = begun_take(&rt, rt.alloc(), &shape, 0, &seat, 1)?;
+    let (table, seat) = open_table(rt.alloc(), &shape)?;
+    let mut taking = open(rt.alloc(), &shape, 0, seat, 1)?;
+    begin_take(&rt, &mut taking);
     let before = [
         16777216, 16777218, 16777224, 16777216, 16777216, 16777216, 16777216, 36,
     ];
-    make_part(&rt, &mut taking, &table, &mut seat, &before);
+    make_part(&rt, &mut taking, &table, &before);
     let values = [7, 0, 0, 8388645];
-    let mut writer = write_record(&rt, rt.alloc(), &taking, &seat, &values)?;
+    let mut writer = write_record(&rt, rt.alloc(), &taking, &values)?;
     let steps = [
         (33554439, WriteStep::Going),
         (33554432, WriteStep::Going),
         (33554432, WriteStep::Going),
         (41943077, WriteStep::Written),
     ];
-    write(&rt, &mut writer, &shape, &table, &mut seat, 0, &steps);
+    write(
+        &rt,
+        &mut writer,
+        &shape,
+        &table,
+        &mut taking.seat,
+        0,
+        &steps,
+    );
     Ok(())
 }

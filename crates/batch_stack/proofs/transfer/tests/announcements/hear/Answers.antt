@@ -7,15 +7,15 @@ use Rattle.batch_stack.proofs.transfer.tests.announcements.hear.Goals as goal
 
 pub step-announced-requires-clause-may : goal.step-announced-requires-clause-may
 step-announced-requires-clause-may g c = record {
-  of_table = c.requires.seat;
-  whole = rw c.requires.reader c.requires.words;
+  of_table = c.requires.at.0;
+  whole = rw c.requires.reader c.requires.at.1;
   room = search rules;
   can = rw c.requires.reader (any_wish_can _ _ _ _ Take c.requires.goes (c.if-not-tries_next.ensures refl));
 }
 
 pub step-announced-requires-clause-hears : goal.step-announced-requires-clause-hears
 step-announced-requires-clause-hears g c =
-    rw c.requires.reader (hears_there c.args.transfer.now _ _ c.requires.goes (c.if-not-tries_next.ensures refl))
+    rw c.requires.reader (hears_there c.args.player.now.transfer _ _ c.requires.goes (c.if-not-tries_next.ensures refl))
 
 pub meet-requires-clause-act : goal.meet-requires-clause-act
 meet-requires-clause-act g c =

@@ -5,7 +5,7 @@ use Rattle.batch_stack.proofs.transfer.tests.records.read_word.Goals as goal
 
 pub step-requires-clause-may : goal.step-requires-clause-may
 step-requires-clause-may c =
-    record { of_table = c.requires.seat; whole = c.requires.words; room = search rules; can = (c.requires.reads.on Take).0 }
+    record { of_table = c.requires.at.0; whole = c.requires.at.1; room = search rules; can = (c.requires.reads.on Take).0 }
 
 pub step-requires-clause-reads : goal.step-requires-clause-reads
 step-requires-clause-reads c = (c.requires.reads.on Take).1

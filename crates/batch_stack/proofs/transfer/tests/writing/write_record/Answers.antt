@@ -6,7 +6,7 @@ use Rattle.batch_stack.proofs.transfer.tests.writing.write_record.Goals as goal
 
 pub has_drafted-requires : goal.has_drafted-requires
 has_drafted-requires g c =
-    let t = c.args.transfer.now in
+    let t = c.args.player.now.transfer in
     (fits_in_try t.sizes t.part _ (alone_acts _ _ _ c.requires.goes) (c.if-not-tries_next.ensures refl)).2
 
 pub returns-clause-writes : goal.returns-clause-writes

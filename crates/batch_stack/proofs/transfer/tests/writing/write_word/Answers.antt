@@ -4,8 +4,8 @@ use Rattle.batch_stack.proofs.transfer.tests.writing.write_word.Goals as goal
 
 pub step-requires-clause-may : goal.step-requires-clause-may
 step-requires-clause-may c = record {
-  of_table = c.requires.seat;
-  whole = c.requires.words;
+  of_table = c.requires.at.0;
+  whole = c.requires.at.1;
   room = search rules;
   can = writes_can _ _ c.requires.writes;
 }
