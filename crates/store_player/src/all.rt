@@ -6,8 +6,7 @@ ghost use Rattle.block_pool.specs.Passing.{Passed};
 ghost use Rattle.pass_players.specs.Settled.{PlayedAll};
 ghost use Rattle.store_player.specs.Player.{IsServed, MayPlayStore};
 
-use crate::answer_list::AnswerList;
-use crate::player::StorePlayer;
+use crate::player::{AnswerList, StorePlayer};
 use block_pool::{Pass, Pool, Settled};
 use pool_io::Gate;
 use pool_model::NoMemory;

@@ -6,12 +6,10 @@
 #![tactic(auto)]
 
 mod all;
-mod answer_list;
 mod calls;
 mod one;
 mod player;
 
 pub use all::{Replied, play_stores};
-pub use answer_list::AnswerList;
 pub use one::play_store;
-pub use player::StorePlayer;
+pub use player::{AnswerList, StorePlayer};

@@ -3,15 +3,18 @@ ghost use Rattle.std.specs.Prelude.{◌≡◌, IfOk, length, replicate};
 ghost use Rattle.store_script.specs.declared.answered.Answered.TheVariants.{Absent};
 ghost use Rattle.store_player.specs.Player.{HasPlaces, IsServed, Suits};
 
-use crate::answer_list::AnswerList;
 use crate::one::play_store;
 use block_pool::{Pass, Pool};
+use line_text::Listed;
 use object_store::Object;
 use pass_players::{Player, empty_slots};
 use pool_io::Gate;
 use pool_model::NoMemory;
 use std::alloc::Global;
 use store_script::{Answered, Quad, StoreScript};
+
+/// The answers to a script, in the order of its commands.
+pub type AnswerList = Listed<Answered>;
 
 /// Plays a store script: it has a slot for each key of the script, and a place for each answer. It leaves the answers.
 #[derive(Drop)]
