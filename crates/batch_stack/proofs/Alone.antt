@@ -27,7 +27,8 @@ use Rattle.pool_table.proofs.Transfers.{transfer_can_act}
 use Rattle.pool_table.proofs.Turns.{seat_of}
 use Rattle.batch_stack.specs.declared.progress.Progress.{Progress}
 use Rattle.batch_stack.specs.declared.progress.Progress.TheVariants.{Going, Took, Gave}
-use Rattle.batch_stack.specs.Alone.{GoesAlone, RestsAlone, Goes, OnlyMoved, Played, Advanced, EndsAtRest, spares_in, spares_about, spares_after}
+use Rattle.batch_stack.specs.Alone.{GoesAlone, RestsAlone, Goes, OnlyMoved, Played, Advanced, EndsAtRest}
+use Rattle.batch_stack.specs.Alone.{spares_in, spares_about, spares_after}
 use Rattle.batch_stack.specs.Running.{Running, MadeStep, GoesOn, wishing}
 
 -- at the opening a process is at rest, with one spare
@@ -46,15 +47,16 @@ pub opening_spares : (sizes : Sizes) (process seats : ℕ) (v : SeatView) → v 
 opening_spares sizes process seats v e = ap spares_in e
 
 -- the plan counts the spares
-spares_counted : (sizes : Sizes) (v : SeatView) (t : TransferView) → RestsAlone sizes v t → length (spares_in v) ≡ v.mind.view.pool.plan.spares
+spares_counted : (sizes : Sizes) (v : SeatView) (t : TransferView) → RestsAlone sizes v t
+    → length (spares_in v) ≡ v.mind.view.pool.plan.spares
 spares_counted sizes v t r =
     let among = r.among in
     let seat = seat_of among.words among.views among.number v among.held among.seated r.of_process in
     let n = number_of v.mind in
     let minds = among.held.minds in
     let (ghosts, holds) = seat.holds.meets in
-    let here = (keeps v.sizes (word_at v.sizes among.words) (views_of minds) among.held.history ghosts n seat.holds.shape seat.low holds).heads in
-    subst (λ (m : Mind). length m.view.pool.heads ≡ m.view.pool.plan.spares) seat.here here
+    let kept = keeps v.sizes (word_at v.sizes among.words) (views_of minds) among.held.history ghosts n seat.holds.shape seat.low holds in
+    subst (λ (m : Mind). length m.view.pool.heads ≡ m.view.pool.plan.spares) seat.here kept.heads
 
 -- the view with which a step is made: at rest a transfer begins, and else it stays
 at_rest : (sizes : Sizes) (v : SeatView) (t : TransferView) → RestsAlone sizes v t → is_rest v.mind.view.transfer.next ≡ true

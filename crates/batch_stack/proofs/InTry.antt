@@ -37,7 +37,8 @@ busy_by : (v : SeatView) (t : TransferView) (s : TryStep) (rest : Bool) → is_r
 busy_by v t s false e agrees (second, tries) = refl
 busy_by v t s true e agrees (second, tries) =
     let turns = turns_at_rest t.wish v.mind.view e in
-    let begins : t.next ≡ Announce = ap (λ (u : TransferView). u.next) (sym agrees.same) ∙ ap (λ (z : ProcessView). z.transfer.next) turns in
+    let begins : t.next ≡ Announce =
+    ap (λ (u : TransferView). u.next) (sym agrees.same) ∙ ap (λ (z : ProcessView). z.transfer.next) turns in
     absurd (grind (arith, begins, tries))
 
 is_busy : (sizes : Sizes) (v : SeatView) (t : TransferView) (s : TryStep) → GoesAlone sizes v t → IsInTry t s

@@ -89,7 +89,8 @@ pub ends_at_rest : (sizes : Sizes) (a : About) (v x : SeatView) (t u : TransferV
 ends_at_rest sizes (about.Alone wish) v x t u word answer c agrees s part answered ends =
     let w = turning (about.Alone wish) v.mind.view in
     let kept = way_becomes v.sizes w word (is_alone w.calls.way) w.calls.stage refl refl agrees.moves in
-    let may = begun_way (is_rest v.mind.view.transfer.next) wish v.mind.view (both_first (may_use_transfers v.mind.view.calls.way) _ c.may) in
+    let may = begun_way (is_rest v.mind.view.transfer.next) wish v.mind.view
+    (both_first (may_use_transfers v.mind.view.calls.way) _ c.may) in
     record {
       of_process = ap (λ (z : SeatView). z.of_process) s.stays ∙ c.of_process;
       shape = ap (λ (z : SeatView). z.sizes) s.stays ∙ c.shape;
@@ -98,4 +99,5 @@ ends_at_rest sizes (about.Alone wish) v x t u word answer c agrees s part answer
       rest = last_rests sizes t u word answer part answered ends;
       among = s.among;
     }
-ends_at_rest sizes (about.InCall call) v x t u word answer c agrees s part answered ends = last_rests sizes t u word answer part answered ends
+ends_at_rest sizes (about.InCall call) v x t u word answer c agrees s part answered ends =
+    last_rests sizes t u word answer part answered ends

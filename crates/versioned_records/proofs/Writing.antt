@@ -104,8 +104,8 @@ below_seen a v w old e can writes =
     subst (λ (o : Writing). o.index < 66) (sym e) (omega (arith, small, within))
 
 module _ (a b : About) (v x : SeatView) (w old s : Writing) (word : ℕ) (answer : WriteStep) (e : w ≡ old) (same : b ≡ a)
-    (can : CanStep old.sizes a v) (writes : CanWrite a v old) (stepped : Stepped b v word x) (answered : answer ≡ write_step w.sizes w.index)
-    (after : s ≡ wrote w) where
+    (can : CanStep old.sizes a v) (writes : CanWrite a v old) (stepped : Stepped b v word x)
+    (answered : answer ≡ write_step w.sizes w.index) (after : s ≡ wrote w) where
   can_so : CanStep w.sizes a v
   can_so = subst (λ (o : Writing). CanStep o.sizes a v) (sym e) can
 

@@ -6,7 +6,8 @@ pub overflow_add-view : goal.overflow_add-view
 overflow_add-view c = let young = (announces_fit c.args.shape.now c.args.view.now c.requires c.in-Announce.is).young in omega arith
 
 pub store_of_announcement-requires-clause-number : goal.store_of_announcement-requires-clause-number
-store_of_announcement-requires-clause-number c = let young = (announces_fit c.args.shape.now c.args.view.now c.requires c.in-Announce.is).young in omega arith
+store_of_announcement-requires-clause-number c =
+    let young = (announces_fit c.args.shape.now c.args.view.now c.requires c.in-Announce.is).young in omega arith
 
 pub store_of_announcement-requires-clause-wish : goal.store_of_announcement-requires-clause-wish
 store_of_announcement-requires-clause-wish c = (announces_fit c.args.shape.now c.args.view.now c.requires c.in-Announce.is).wish

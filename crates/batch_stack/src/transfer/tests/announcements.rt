@@ -51,8 +51,8 @@ fn hear(
     announced.number
 }
 
-/// Process 0 announces a take, and a reader of the announcements stands in for process 1's own loads in its take: the numbers that it hears,
-/// and how the take ends.
+/// Process 0 announces a take, and a reader of the announcements stands in for process 1's own loads in its take: the
+/// numbers that it hears, and how the take ends.
 fn hear_both(
     rt: &impl Abort,
     alloc: Global,

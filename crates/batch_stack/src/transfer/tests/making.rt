@@ -7,34 +7,28 @@ use crate::progress::Progress;
 use pool_table::PoolTable;
 use std::process::Abort;
 
-/// Makes all steps of a transfer, on these words where they are given.
-fn finish(
-    rt: &impl Abort,
-    player: &mut Player,
-    table: &PoolTable,
-    words: Option<&[u64]>,
-) -> Progress
+/// Makes all steps of a transfer, on these words unless none are given.
+fn finish(rt: &impl Abort, player: &mut Player, table: &PoolTable, words: &[u64]) -> Progress
     requires at { IsAt table.now player.old.seat player.old.transfer.sizes }
     requires goes { Goes player.old.seat player.old.transfer }
     ensures moved { OnlyMoved player.old.seat player.old.transfer player.new.seat player.new.transfer }
     ensures played { Played player.old.seat player.old.transfer player.new.seat player.new.transfer result }
 {
-    match words {
-        Some(words) => make(rt, player, table, words),
-        None => {
-            let most = player.transfer.shape.transfer_bound();
-            run(player, table, most).1
-        }
+    if words.is_empty() {
+        let most = player.transfer.shape.transfer_bound();
+        run(player, table, most).1
+    } else {
+        make(rt, player, table, words)
     }
 }
 
-/// A whole give of the one spare, on these words where they are given.
+/// A whole give of the one spare, on these words unless none are given.
 pub(super) fn give(
     rt: &impl Abort,
     player: &mut Player,
     table: &PoolTable,
     head: u32,
-    words: Option<&[u64]>,
+    words: &[u64],
 )
     requires at { IsAt table.now player.old.seat player.old.transfer.sizes }
     requires rests { Rests player.old.seat player.old.transfer }
@@ -50,13 +44,8 @@ pub(super) fn give(
     }
 }
 
-/// A whole take of a process with no spare, on these words where they are given: the batch that it got.
-pub(super) fn take(
-    rt: &impl Abort,
-    player: &mut Player,
-    table: &PoolTable,
-    words: Option<&[u64]>,
-) -> u32
+/// A whole take of a process with no spare, on these words unless none are given: the batch that it got.
+pub(super) fn take(rt: &impl Abort, player: &mut Player, table: &PoolTable, words: &[u64]) -> u32
     requires at { IsAt table.now player.old.seat player.old.transfer.sizes }
     requires rests { Rests player.old.seat player.old.transfer }
     requires spares { spares_in player.old.seat.view ≡ [] }

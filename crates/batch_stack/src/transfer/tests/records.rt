@@ -121,15 +121,15 @@ fn read_beside(rt: &impl Abort, alloc: Global) -> Result<[ReadStep; 2], Fail> {
     let shape = Shape::new(2, 4, 0)?;
     let (table, mut giving, mut stale) = open_two(alloc, &shape)?;
     begin_take(rt, &mut stale);
-    give(rt, &mut giving, &table, first_spare(&shape), None);
+    give(rt, &mut giving, &table, first_spare(&shape), &[]);
     make_part(rt, &mut stale, &table, &[16777216, 33554432]);
     let mut reader = read_record(rt, alloc, &stale)?;
     let before = read(&mut reader, &table, &mut stale.seat, 1);
     if !is_reading(before) {
         panic!(rt; "the record has one word");
     }
-    let head = take(rt, &mut giving, &table, None);
-    give(rt, &mut giving, &table, head, None);
+    let head = take(rt, &mut giving, &table, &[]);
+    give(rt, &mut giving, &table, head, &[]);
     let after = read(&mut reader, &table, &mut stale.seat, 1);
     Ok([before, after])
 }

@@ -18,10 +18,10 @@ fn stop_and_go_on(
     let shape = Shape::new(2, 4, 0)?;
     let (table, mut giving, mut stale) = open_two(alloc, &shape)?;
     begin_take(rt, &mut stale);
-    give(rt, &mut giving, &table, first_spare(&shape), Some(gives[0]));
+    give(rt, &mut giving, &table, first_spare(&shape), gives[0]);
     make_part(rt, &mut stale, &table, stopped[0]);
-    let head = take(rt, &mut giving, &table, Some(takes));
-    give(rt, &mut giving, &table, head, Some(gives[1]));
+    let head = take(rt, &mut giving, &table, takes);
+    give(rt, &mut giving, &table, head, gives[1]);
     let end = make(rt, &mut stale, &table, stopped[1]);
     Ok((head, end))
 }

@@ -30,8 +30,8 @@ fn play(rt: &impl Abort, player: &mut Player, table: &PoolTable, spare: u32, rou
 {
     let mut head = spare;
     for _ in 0..rounds {
-        give(rt, player, table, head, None);
-        head = take(rt, player, table, None);
+        give(rt, player, table, head, &[]);
+        head = take(rt, player, table, &[]);
     }
     head
 }
