@@ -21,7 +21,7 @@ mod stress;
 mod turns;
 
 use crate::settings::Settings;
-use crate::stopping::Stop;
+use crate::stopping::{Halt, Stop};
 use crate::stress::{Report, stress};
 use pool_io::words;
 use pool_model::NoMemory;
@@ -45,19 +45,20 @@ fn tell(rt: &(impl Print + Eprint), report: &Report, stops: &[Stop]) -> io::Resu
     )?;
     eprintln!(rt; "refused {}", report.refused)?;
     for stop in stops.iter() {
-        tell_stop(rt, stop)?;
+        if let Some(halt) = stop.halt() {
+            tell_halt(rt, &halt)?;
+        }
     }
     Ok(())
 }
 
-/// Prints where a process stopped, if it did.
-fn tell_stop(rt: &impl Eprint, stop: &Stop) -> io::Result<()> {
-    if !stop.has_stopped() {
-        return Ok(());
-    }
-    let (step, steps, freed) = stop.place();
-    let call = if freed { "a free" } else { "an allocate" };
-    eprintln!(rt; "stopped after step {step} of {steps} of {call}")
+/// Prints where a process stopped.
+fn tell_halt(rt: &impl Eprint, halt: &Halt) -> io::Result<()> {
+    let call = if halt.frees { "a free" } else { "an allocate" };
+    eprintln!(rt;
+        "stopped after step {} of {} of {call}",
+        halt.step, halt.steps
+    )
 }
 
 fn main(rt: HostRuntime) -> io::Result<ExitCode> {

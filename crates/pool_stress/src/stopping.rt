@@ -21,6 +21,17 @@ fn wait_for(fact: &AtomicBool) -> bool {
     false
 }
 
+/// Where in its call a process stopped.
+#[derive(Clone, Copy)]
+pub(crate) struct Halt {
+    /// After which step of the call.
+    pub(crate) step: u64,
+    /// How many steps the call made.
+    pub(crate) steps: u64,
+    /// Whether the call was a free.
+    pub(crate) frees: bool,
+}
+
 /// At which of its steps a process stops, and for how long: until the others are done.
 #[derive(Drop)]
 pub(crate) struct Stop {
@@ -113,18 +124,16 @@ impl Stop {
         self.done.store(true, Ordering::SeqCst);
     }
 
-    /// Whether the process has stopped before the others were done.
-    pub(crate) fn has_stopped(&self) -> bool {
-        self.stopped.load(Ordering::SeqCst)
-    }
-
-    /// Which step of its call it stopped after, how many that call made, and whether it was a free.
-    pub(crate) fn place(&self) -> (u64, u64, bool) {
-        (
-            self.step.load(Ordering::SeqCst),
-            self.steps.load(Ordering::SeqCst),
-            self.freed.load(Ordering::SeqCst),
-        )
+    /// Where in its call the process stopped, once that has ended; `None` where it didn't stop before the others were done.
+    pub(crate) fn halt(&self) -> Option<Halt> {
+        if !self.stopped.load(Ordering::SeqCst) {
+            return None;
+        }
+        Some(Halt {
+            step: self.step.load(Ordering::SeqCst),
+            steps: self.steps.load(Ordering::SeqCst),
+            frees: self.freed.load(Ordering::SeqCst),
+        })
     }
 
     /// Whether it went on before the others were done, or these waited in vain for it to stop.
