@@ -3,4 +3,3 @@ pub mod Going
 pub mod Playing
 pub mod Whole
 pub mod Written
-pub mod Crossing

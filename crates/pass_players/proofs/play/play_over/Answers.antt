@@ -12,16 +12,15 @@ play_all-requires-clause-may g c κs within =
     may_play_together c.in_ok-pool.pool c.in_ok-pool.passes.items c.args.scripts.now c.in_ok-pool.ensures.passes g.P.Player.suits
     g.P.Player.most_calls c.args.shape.now c.in_ok-pool.ensures.shape c.requires.one_each c.requires.playable
 
-pub returns-clause-settled : goal.returns-clause-settled
-returns-clause-settled g c =
-    IfOk-weaker c.play_all.result _ _ (λ played all.
-    settles c.in_ok-pool.pool c.in_ok-pool.passes.items c.args.scripts.now c.in_ok-pool.ensures.passes g.P.Player.fits
-    (g.G.Gate.told c.args.gate.now) played.outcomes.items played.settled c.args.shape.now c.in_ok-pool.ensures.shape
-    c.requires.one_each all) c.play_all.ensures
-
-pub returns-clause-told : goal.returns-clause-told
-returns-clause-told g c =
-    IfOk-weaker c.play_all.result _ _ (λ played all.
-    told_of_all c.in_ok-pool.pool c.in_ok-pool.passes.items c.args.scripts.now c.in_ok-pool.ensures.passes g.P.Player.fits
-    (g.G.Gate.told c.args.gate.now) played.outcomes.items played.settled c.args.shape.now c.in_ok-pool.ensures.shape
-    c.requires.one_each all) c.play_all.ensures
+pub returns : goal.returns
+returns g c =
+    let told = g.G.Gate.told c.args.gate.now in
+    let opened = c.in_ok-pool.ensures in
+    record {
+      settled = IfOk-weaker c.play_all.result _ _ (λ played all.
+          settles c.in_ok-pool.pool c.in_ok-pool.passes.items c.args.scripts.now opened.passes g.P.Player.fits told
+          played.outcomes.items played.settled c.args.shape.now opened.shape c.requires.one_each all) c.play_all.ensures;
+      told = IfOk-weaker c.play_all.result _ _ (λ played all.
+          told_of_all c.in_ok-pool.pool c.in_ok-pool.passes.items c.args.scripts.now opened.passes g.P.Player.fits told
+          played.outcomes.items played.settled c.args.shape.now opened.shape c.requires.one_each all) c.play_all.ensures;
+    }
