@@ -38,6 +38,8 @@ use Rattle.trace_player.specs.Report.{report}
 use Rattle.pool_runs.specs.Drills.{drill_script, drill_scripts}
 use Rattle.pool_runs.specs.Enough.{HasEnough}
 use Rattle.pool_runs.specs.Settled.{IsSettledBy}
+use Rattle.store_runs.specs.Enough as stores
+use Rattle.store_runs.specs.Enough.{answers_without_refusals}
 use Rattle.pool_cli.specs.declared.ending.Ending.{Ending}
 use Rattle.pool_cli.specs.declared.ending.Ending.TheVariants.{Done, Words, Shape, Read, Long, Line, Write, Memory}
 use Rattle.pool_cli.specs.Asked.{IsScriptFor, IsScriptOf, bad_line_of, batches_of, files_of, processes_of, quantum_of, words_of}
@@ -46,13 +48,15 @@ use Rattle.pool_cli.specs.declared.scripts.Scripts.{Scripts}
 use Rattle.pool_cli.specs.declared.scripts.Scripts.TheVariants.{Traces, Stores}
 use Rattle.pool_cli.specs.Ending.{ending_after, ending_of, settled_of, status_of}
 use Rattle.pool_cli.specs.Causes.{AreScriptsFor, CauseOf, Ends, EndsAtFile, EndsAtShape, EndsPlayed, FilesAreFine, GivesText}
-use Rattle.pool_cli.specs.Causes.{HasEnoughBlocks, Hold, IsAccepted, IsAmple, IsPlayable, IsPlayed, IsSure, IsUnhindered, IsWithin}
+use Rattle.pool_cli.specs.Causes.{Hold, IsAccepted, IsAmple, IsAmpleText, IsPlayable, IsPlayed, IsSure, IsUnhindered, IsWithin}
 use Rattle.pool_cli.specs.Causes.{Prints, PrintsReport, taken}
 use Rattle.pool_cli.specs.Outside.{Outside, TakesText, outside}
 use Rattle.pool_cli.specs.Playing.{AreScriptsOf, Fit, IsTextOf}
 use Rattle.pool_cli.specs.Printed.{AreRepliesOf, HasPrinted, IsReportOf}
+use Rattle.pool_cli.specs.Replies.{replies}
 use Rattle.pool_cli.specs.Scripts.{ReadsAll, StopsReading, StopsWith, ending_for}
 use Rattle.pool_cli.specs.Shapes.{IsShapeOf}
+use Rattle.pool_cli.proofs.StoreScripts.{one_store_script}
 
 -- these are the scripts of traces that a command plays, and the files that it names are fine
 record HasScripts (told : List ℕ → Option (List ℕ)) (command : Command) (scripts : List Script) : Type 0 where
@@ -105,10 +109,10 @@ one_script_for (Drill drill) content j one other p q = p ∙ sym q
 one_script_for (Store store) content j one other p q = absurd p
 
 -- lists whose items have one fact each, which holds of one item alone, are the same
-one_list : (Is : ℕ → Script → Type 0) → ((j : ℕ) (one other : Script) → Is j one → Is j other → one ≡ other)
-    → (first : ℕ) (ones others : List Script) → length ones ≡ length others
-    → ((j : ℕ) (script : Script) → slice_get ones j ≡ Some script → Is (first + j) script)
-    → ((j : ℕ) (script : Script) → slice_get others j ≡ Some script → Is (first + j) script) → ones ≡ others
+one_list : {T : Type 0} (Is : ℕ → T → Type 0) → ((j : ℕ) (one other : T) → Is j one → Is j other → one ≡ other)
+    → (first : ℕ) (ones others : List T) → length ones ≡ length others
+    → ((j : ℕ) (script : T) → slice_get ones j ≡ Some script → Is (first + j) script)
+    → ((j : ℕ) (script : T) → slice_get others j ≡ Some script → Is (first + j) script) → ones ≡ others
 one_list Is one first [] [] long p q = refl
 one_list Is one first [] (other ∷ others) long p q = absurd (omega (arith, long))
 one_list Is one first (script ∷ ones) [] long p q = absurd (omega (arith, long))
@@ -120,14 +124,21 @@ one_list Is one first (script ∷ ones) (other ∷ others) long p q =
     (λ j found at. subst (λ (n : ℕ). Is n found) (next j) (q (suc j) found at)) in
     cc
 
+-- the same, where the first item has the place 0
+one_list_by_place : {T : Type 0} (Is : ℕ → T → Type 0) → ((j : ℕ) (one other : T) → Is j one → Is j other → one ≡ other)
+    → (ones others : List T) → length ones ≡ length others
+    → ((j : ℕ) (script : T) → slice_get ones j ≡ Some script → Is j script)
+    → ((j : ℕ) (script : T) → slice_get others j ≡ Some script → Is j script) → ones ≡ others
+one_list_by_place Is one ones others long p q =
+    let none_first : (j : ℕ) → j ≡ 0 + j = λ j. omega arith in
+    one_list Is one 0 ones others long (λ j script at. subst (λ (n : ℕ). Is n script) (none_first j) (p j script at))
+    (λ j script at. subst (λ (n : ℕ). Is n script) (none_first j) (q j script at))
+
 -- a command has one list of scripts
 one_list_for : (command : Command) (content : ℕ → List ℕ) (ones others : List Script) → AreScriptsFor command content ones
     → AreScriptsFor command content others → ones ≡ others
 one_list_for command content ones others p q =
-    let none_first : (j : ℕ) → j ≡ 0 + j = λ j. omega arith in
-    one_list (IsScriptFor command content) (one_script_for command content) 0 ones others (p.one_each ∙ sym q.one_each)
-    (λ j script at. subst (λ (n : ℕ). IsScriptFor command content n script) (none_first j) (p.each j script at))
-    (λ j script at. subst (λ (n : ℕ). IsScriptFor command content n script) (none_first j) (q.each j script at))
+    one_list_by_place (IsScriptFor command content) (one_script_for command content) ones others (p.one_each ∙ sym q.one_each) p.each q.each
 
 -- all files were read and all scripts played
 played_all : (told : List ℕ → Option (List ℕ)) (command : Command) (sizes : Sizes) (scripts : List Script) (settled : Settlement)
@@ -209,6 +220,10 @@ store_prints told words sizes scripts reads settled text is = record {
           let script = slice_get_as_long scripts is.0 j answers is.1.one_each at in
           (script.0, reads.1.read content hold j script.0 script.1, is.1.each j script.0 answers script.1 at);
     };
+    unrefused = λ content hold others ample.
+        let same : scripts ≡ others = one_list_by_place (λ j. store.IsReading (content j)) (λ j. one_store_script (content j)) scripts others
+        (reads.1.one_each ∙ sym ample.one_each) (reads.1.read content hold) ample.each in
+        is.1.unrefused (subst (stores.HasEnough (limits_of sizes)) (sym same) ample.enough) ∙ ap answers_without_refusals same;
   };
   is = is.2;
 }
@@ -390,32 +405,32 @@ same_sizes command one other p q =
     ≡ sizes other.processes other.batches other.words other.quantum other.length = cc in
     each
 
--- the text of scripts for which there are enough blocks
-ample_report : (told : List ℕ → Option (List ℕ)) (command : Command) (sizes : Sizes) (settled : Settlement) (text : List ℕ)
-    (content : ℕ → List ℕ) (scripts : List Script)
+-- where there are enough blocks a command prints the text that follows from its scripts alone
+ample_prints : (told : List ℕ → Option (List ℕ)) (command : Command) (sizes : Sizes) (settled : Settlement) (text other : List ℕ)
+    (content : ℕ → List ℕ)
     → Prints told command sizes settled text → Hold told (files_of command) content (length (files_of command))
-    → HasEnoughBlocks command sizes content scripts → text ≡ report (tallies_without_refusals scripts)
-ample_report told (Play play) sizes settled text content scripts prints hold enough =
-    prints.is ∙ ap report (prints.played.unrefused content hold scripts enough)
-ample_report told (Drill drill) sizes settled text content scripts prints hold enough =
-    prints.is ∙ ap report (prints.played.unrefused content hold scripts enough)
-ample_report told (Store words) sizes settled text content scripts prints hold enough = absurd enough.are_scripts.traces
+    → IsAmpleText command sizes content other → text ≡ other
+ample_prints told (Play play) sizes settled text other content prints hold ample =
+    prints.is ∙ ap report (prints.played.unrefused content hold ample.scripts ample.enough) ∙ sym ample.is
+ample_prints told (Drill drill) sizes settled text other content prints hold ample =
+    prints.is ∙ ap report (prints.played.unrefused content hold ample.scripts ample.enough) ∙ sym ample.is
+ample_prints told (Store words) sizes settled text other content prints hold ample =
+    prints.is ∙ ap replies (prints.answered.unrefused content hold ample.scripts ample.enough) ∙ sym ample.is
 
--- the text that a run gives where there are enough blocks
-ample_text : (meaning : Option Command) (told : List ℕ → Option (List ℕ)) (settled : Settlement) (text : List ℕ)
-    (scripts : List Script)
-    → GivesText meaning told settled text → IsAmple meaning told scripts → text ≡ report (tallies_without_refusals scripts)
-ample_text meaning told settled text scripts gives ample =
+-- and so does a run
+ample_text : (meaning : Option Command) (told : List ℕ → Option (List ℕ)) (settled : Settlement) (text other : List ℕ)
+    → GivesText meaning told settled text → IsAmple meaning told other → text ≡ other
+ample_text meaning told settled text other gives ample =
     let same : ample.command ≡ gives.command = same_command meaning ample.command gives.command ample.accepted.meant gives.accepted.meant in
     let asked : IsShapeOf gives.command ample.sizes =
     subst (λ (command : Command). IsShapeOf command ample.sizes) same ample.accepted.asked in
     let hold : Hold told (files_of gives.command) ample.content (length (files_of gives.command))
     = subst (λ (command : Command). Hold told (files_of command) ample.content (length (files_of command))) same ample.hold in
-    let enough : HasEnoughBlocks gives.command ample.sizes ample.content scripts
-    = subst (λ (command : Command). HasEnoughBlocks command ample.sizes ample.content scripts) same ample.enough in
-    ample_report told gives.command gives.sizes settled text ample.content scripts gives.prints hold
-    (subst (λ (sizes : Sizes). HasEnoughBlocks gives.command sizes ample.content scripts)
-    (same_sizes gives.command ample.sizes gives.sizes asked gives.accepted.asked) enough)
+    let follows : IsAmpleText gives.command ample.sizes ample.content other
+    = subst (λ (command : Command). IsAmpleText command ample.sizes ample.content other) same ample.ample in
+    ample_prints told gives.command gives.sizes settled text other ample.content gives.prints hold
+    (subst (λ (sizes : Sizes). IsAmpleText gives.command sizes ample.content other)
+    (same_sizes gives.command ample.sizes gives.sizes asked gives.accepted.asked) follows)
 
 -- the text of a run that ended well
 text_when_done : (meaning : Option Command) (before after : Outside) (closed : Option Settlement) (ending : Ending) (status : ℕ)
@@ -446,10 +461,8 @@ module _ (meaning : Option Command) (before after : Outside) (closed : Option Se
       at.3 free.reliable)
       (λ write. write.0.written.1 (free.roomy write.0.settled write.0.text write.0.gives))
 
-  -- with enough blocks the report follows from the files alone
-  pub enough : (scripts : List Script) → IsAmple meaning before.told scripts → status ≡ 0
-      → GrowsBy before.out after.out (report (tallies_without_refusals scripts))
-  enough scripts ample well =
+  -- with enough blocks the text follows from the files alone
+  pub enough : (text : List ℕ) → IsAmple meaning before.told text → status ≡ 0 → GrowsBy before.out after.out text
+  enough text ample well =
       let done = text_when_done meaning before after closed ends.ending status ends.answered ends.cause well in
-      subst (λ text. GrowsBy before.out after.out text)
-      (ample_text meaning before.told done.settled done.text scripts done.gives ample) done.written
+      subst (λ text. GrowsBy before.out after.out text) (ample_text meaning before.told done.settled done.text text done.gives ample) done.written

@@ -19,6 +19,8 @@ use Rattle.mtrace_reader.specs.declared.steps.Script.{Script}
 use Rattle.store_script.specs.declared.command.StoreScript.{StoreScript}
 use Rattle.store_script.specs.declared.answered.Answered.{Answered}
 use Rattle.store_script.specs.Reading.{IsReading}
+use Rattle.store_runs.specs.Enough as stores
+use Rattle.store_runs.specs.Enough.{answers_without_refusals}
 use Rattle.store_runs.specs.Settled.{HasAnswers}
 use Rattle.trace_player.specs.declared.tally.Tally.{Tally}
 use Rattle.trace_player.specs.Fit.{IsTallied}
@@ -99,13 +101,23 @@ pub record IsStoreHistoryOf (sizes : Sizes) (content : ℕ → List ℕ) (settle
   pub each : (j : ℕ) (answers : List Answered) → slice_get lists j ≡ Some answers
       → (script : StoreScript) × IsReading (content j) script × HasAnswers settled j script answers
 
--- all files were read and all store scripts played: the files are fine, and the answers are computed from the one history
+-- these are the scripts of a store's files, one for each process, and the pool has more blocks than its processes may withhold and than
+-- the keys that are present at most if no put is refused
+pub record HasEnoughForStores (command : Command) (sizes : Sizes) (content : ℕ → List ℕ) (scripts : List StoreScript) : Type 0 where
+  pub one_each : length scripts ≡ processes_of command
+  pub each : (j : ℕ) (script : StoreScript) → slice_get scripts j ≡ Some script → IsReading (content j) script
+  pub enough : stores.HasEnough (limits_of sizes) scripts
+
+-- all files were read and all store scripts played: the files are fine, and the answers are computed from the one history, and with enough
+-- blocks from the scripts alone
 pub record IsAnsweredAll (told : List ℕ → Option (List ℕ)) (command : Command) (sizes : Sizes) (settled : Settlement)
     (lists : List (List Answered)) : Type 0 where
   pub one_each : length lists ≡ processes_of command
   pub fine : (content : ℕ → List ℕ) → Hold told (files_of command) content (length (files_of command)) → FilesAreFine command content
   pub answered : (content : ℕ → List ℕ) → Hold told (files_of command) content (length (files_of command))
       → IsStoreHistoryOf sizes content settled lists
+  pub unrefused : (content : ℕ → List ℕ) → Hold told (files_of command) content (length (files_of command))
+      → (scripts : List StoreScript) → HasEnoughForStores command sizes content scripts → lists ≡ answers_without_refusals scripts
 
 -- the text is the report of tallies that are played for
 pub record PrintsReport (told : List ℕ → Option (List ℕ)) (command : Command) (sizes : Sizes) (settled : Settlement) (text : List ℕ)
@@ -225,11 +237,29 @@ pub record IsSure (meaning : Option Command) (before : Outside) : Type 0 where
   pub reliable : before.reliable
   pub roomy : (settled : Settlement) (text : List ℕ) → GivesText meaning before.told settled text → TakesText before text
 
--- the words are accepted, all files are told, and these are the scripts, for which there are enough blocks
-pub record IsAmple (meaning : Option Command) (told : List ℕ → Option (List ℕ)) (scripts : List Script) : Type 0 where
+-- the text is the report of scripts for which there are enough blocks
+pub record IsAmpleReport (command : Command) (sizes : Sizes) (content : ℕ → List ℕ) (text : List ℕ) : Type 0 where
+  pub scripts : List Script
+  pub enough : HasEnoughBlocks command sizes content scripts
+  pub is : text ≡ report (tallies_without_refusals scripts)
+
+-- the text is the replies to scripts for which there are enough blocks
+pub record AreAmpleReplies (command : Command) (sizes : Sizes) (content : ℕ → List ℕ) (text : List ℕ) : Type 0 where
+  pub scripts : List StoreScript
+  pub enough : HasEnoughForStores command sizes content scripts
+  pub is : text ≡ replies (answers_without_refusals scripts)
+
+-- there are enough blocks for the scripts of a command, and this text follows from them alone
+abbrev pub IsAmpleText : Command → Sizes → (ℕ → List ℕ) → List ℕ → Type 0
+IsAmpleText (Play play) sizes content text = IsAmpleReport (Play play) sizes content text
+IsAmpleText (Drill drill) sizes content text = IsAmpleReport (Drill drill) sizes content text
+IsAmpleText (Store store) sizes content text = AreAmpleReplies (Store store) sizes content text
+
+-- the words are accepted, all files are told, and there are so many blocks that this text follows from the files alone
+pub record IsAmple (meaning : Option Command) (told : List ℕ → Option (List ℕ)) (text : List ℕ) : Type 0 where
   pub command : Command
   pub sizes : Sizes
   pub accepted : IsAccepted meaning command sizes
   pub content : ℕ → List ℕ
   pub hold : Hold told (files_of command) content (length (files_of command))
-  pub enough : HasEnoughBlocks command sizes content scripts
+  pub ample : IsAmpleText command sizes content text

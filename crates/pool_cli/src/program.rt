@@ -1,11 +1,8 @@
 // The top call.
-ghost use Rattle.std.specs.Prelude.{◌≡◌, ◌⊎◌, ◌^◌, ◌<◌, List, map, string_bytes};
+ghost use Rattle.std.specs.Prelude.{◌≡◌, ◌⊎◌, ◌^◌, ◌<◌, ℕ, List, map, string_bytes};
 ghost use Rattle.command_words.specs.Meant.{meant};
 ghost use Rattle.pool_cli.specs.Ending.{ending_of, settled_of};
 ghost use Rattle.pool_io.specs.Told.{GrowsBy};
-ghost use Rattle.mtrace_reader.specs.declared.steps.Script.{Script};
-ghost use Rattle.trace_player.specs.Plain.{tallies_without_refusals};
-ghost use Rattle.trace_player.specs.Report.{report};
 ghost use Rattle.pool_cli.specs.Causes.{CauseOf, Ends, IsAmple, IsSure, IsTold, IsUnhindered};
 ghost use Rattle.pool_cli.specs.Outside.{outside};
 
@@ -47,9 +44,9 @@ pub fn run<R: Threads + Sync, F: Files, K: Sink, G: Gate + Sync>(
         → (result.status ≡ 0) ⊎ (result.status ≡ 8) }
     ensures sure { IsSure (meant (map string_bytes words.now)) (outside F.Files files.old K.Sink out.old)
         → (result.status ≡ 0) ⊎ (result.status ≡ 8) }
-    ensures enough { (scripts : List Script) → IsAmple (meant (map string_bytes words.now)) (F.told files.old) scripts
+    ensures enough { (text : List ℕ) → IsAmple (meant (map string_bytes words.now)) (F.told files.old) text
         → result.status ≡ 0
-        → GrowsBy (K.written out.old) (K.written out.new) (report (tallies_without_refusals scripts)) }
+        → GrowsBy (K.written out.old) (K.written out.new) text }
 {
     let worked = Worked::after(work(rt, alloc, words, files, out, gate));
     let _ = tell(err, worked.ending);
