@@ -24,6 +24,9 @@
 extern "C" {
 #endif
 
+/* The version of these declarations, which is also that of the crate for Rust. */
+#define LOSKEBRI_VERSION "0.1.0"
+
 /* The pass of one process. */
 typedef struct loskebri_pass { void *at; } loskebri_pass;
 
