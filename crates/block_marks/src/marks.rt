@@ -5,6 +5,10 @@ ghost use Rattle.block_marks.specs.Marked.{Has};
 use std::alloc::{AllocError, Global};
 use std::marker::Model;
 
+/// How many words nothing uses behind the marks, so that what lies behind them is in other cache lines: marks of different
+/// threads are made one after the other, and each call of a thread changes one.
+const WORDS_APART: usize = 16;
+
 /// Marks on the numbers below a bound. Clauses see the bound and which numbers are marked.
 #[derive(Drop)]
 pub struct Marks {
@@ -29,7 +33,7 @@ impl Marks {
         ensures bound { IfOk result (λ marks. marks.bound ≡ bound) }
         ensures none { IfOk result (λ marks. (number : ℕ) → Has marks number → ⊥) }
     {
-        let words = Vec::from_elem(alloc, 0, bound.div_ceil(64) as usize)?;
+        let words = Vec::from_elem(alloc, 0, bound.div_ceil(64) as usize + WORDS_APART)?;
         Ok(Marks { bound, words })
     }
 

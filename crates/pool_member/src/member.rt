@@ -22,6 +22,8 @@ pub struct Member {
     pool: Arc<Pool, Global>,
     pass: Pass,
     marks: Marks,
+    /// Nothing uses these words. They keep members of different threads, one behind the other on the heap, in other cache lines.
+    apart: [u64; 16],
 }
 
 impl Model for Member {
@@ -78,7 +80,12 @@ impl Member {
         ensures { IfOk result (λ member. member ≡ pass) }
     {
         let marks = Marks::new(alloc, pool.shape().blocks())?;
-        Ok(Member { pool, pass, marks })
+        Ok(Member {
+            pool,
+            pass,
+            marks,
+            apart: [0; 16],
+        })
     }
 
     /// The numbers of the pool.
