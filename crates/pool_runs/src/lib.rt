@@ -11,3 +11,6 @@ mod play;
 pub use drill::drill_scripts;
 pub use play::play_on_pool;
 pub use pool_player::Played;
+
+#[cfg(test)]
+mod tests;

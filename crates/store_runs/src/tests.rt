@@ -1,12 +1,18 @@
 // Scripts that are played side by side, beside each of them alone.
-ghost use Rattle.std.specs.Prelude.{IfOk};
+ghost use Rattle.std.specs.Prelude.{◌≡◌, ◌≤◌, IfOk, length};
+ghost use Rattle.std.specs.List.{All};
 ghost use Rattle.store_runs.specs.Playable.{IsPlayable};
 
-use crate::play_stores_on_pool;
+use crate::{Replied, play_stores_on_pool};
+use block_pool::Pool;
 use pool_io::{Files, MemoryFiles, OpenGate};
+use pool_model::NoMemory;
 use std::alloc::Global;
+use std::process::Abort;
 use std::test::Fail;
-use store_script::{StoreScript, answers, read_script};
+use std::thread::Threads;
+use store_player::play_stores;
+use store_script::{Answered, StoreScript, answers, read_script};
 use word_layout::Shape;
 
 /// Two scripts of the same keys. At most two and three keys are present at once.
@@ -26,6 +32,28 @@ fn script_of(alloc: Global, text: &[u8]) -> Result<StoreScript, Fail>
     Ok(script)
 }
 
+/// Plays scripts with the passes of a pool that was opened before.
+fn play_opened<R: Threads + Sync>(
+    rt: &R,
+    alloc: Global,
+    shape: &Shape,
+    scripts: &[StoreScript],
+) -> Result<Replied, NoMemory>
+    requires words { 4 ≤ shape.now.words }
+    requires one_each { length scripts.now ≡ shape.now.processes }
+    requires playable { All IsPlayable scripts.now }
+{
+    let (pool, passes) = Pool::open(alloc, shape)?;
+    play_stores(rt, alloc, pool, passes, scripts, &OpenGate)
+}
+
+/// Compares the answers to some scripts with these.
+fn compare(rt: &impl Abort, replied: &Replied, expected: &[Vec<Answered>]) {
+    for (played, expected) in replied.answers.iter().zip(expected.iter()) {
+        assert_eq!(rt; played.as_slice(), expected.as_slice());
+    }
+}
+
 #[test]
 fn enough_blocks_give_the_answers_of_each_script_alone(rt: HostRuntime) -> Result<(), Fail> {
     let alloc = rt.alloc();
@@ -36,9 +64,11 @@ fn enough_blocks_give_the_answers_of_each_script_alone(rt: HostRuntime) -> Resul
     ];
     // The slack is that of ten batches; the eleventh has more blocks than keys are present in both together.
     let shape = Shape::new(2, 11, 4)?;
-    let replied = play_stores_on_pool(&rt, alloc, &shape, &scripts, &OpenGate)?;
-    for (played, expected) in replied.answers.iter().zip(alone.iter()) {
-        assert_eq!(rt; played.as_slice(), expected.as_slice());
-    }
+    compare(
+        &rt,
+        &play_stores_on_pool(&rt, alloc, &shape, &scripts, &OpenGate)?,
+        &alone,
+    );
+    compare(&rt, &play_opened(&rt, alloc, &shape, &scripts)?, &alone);
     Ok(())
 }

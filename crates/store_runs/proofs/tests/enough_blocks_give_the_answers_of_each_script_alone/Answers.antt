@@ -9,3 +9,10 @@ play_stores_on_pool-requires-clause-playable g c κs =
     let second = c.in_ok-script_of-2.field-0 in
     All-cons IsPlayable first (second ∷ []) c.in_ok-script_of.ensures
     (All-cons IsPlayable second [] c.in_ok-script_of-2.ensures (All-nil IsPlayable))
+
+pub play_opened-requires-clause-playable : goal.play_opened-requires-clause-playable
+play_opened-requires-clause-playable g c κs =
+    let first = c.in_ok-script_of.field-0 in
+    let second = c.in_ok-script_of-2.field-0 in
+    All-cons IsPlayable first (second ∷ []) c.in_ok-script_of.ensures
+    (All-cons IsPlayable second [] c.in_ok-script_of-2.ensures (All-nil IsPlayable))
