@@ -15,8 +15,7 @@ use Rattle.transfer_machine.specs.declared.stage.NextStep.{NextStep}
 use Rattle.transfer_machine.specs.declared.stage.NextStep.TheVariants.{Rest, Announce, Try, LoadFinalState, LoadReply}
 use Rattle.transfer_machine.specs.declared.transfer.TransferView.{TransferView}
 use Rattle.transfer_invariant.specs.Memory.{Words, state_tag}
-use Rattle.transfer_invariant.specs.Progress.{has_announced}
-use Rattle.helping_invariant.specs.Parts.{has_tried}
+use Rattle.transfer_invariant.specs.Progress.{has_announced, has_tried}
 use Rattle.transfer_schedule.specs.Numbers.{is_taking}
 use Rattle.transfer_schedule.specs.declared.pending.Pending.{Pending}
 use Rattle.transfer_schedule.specs.declared.pending.Pending.TheVariants.{Idle, Taking, Giving}

@@ -19,7 +19,7 @@ use Rattle.pool_machine.specs.declared.call.CallStage.{CallStage}
 use Rattle.pool_machine.specs.declared.call.CallStage.TheVariants.{Moving, Own}
 use Rattle.pool_machine.specs.declared.view.PoolView.{PoolView}
 use Rattle.pool_machine.specs.declared.view.ProcessView.{ProcessView}
-use Rattle.transfer_invariant.specs.Progress.{is_moving, has_only_begun}
+use Rattle.transfer_invariant.specs.Progress.{is_moving, has_only_begun, is_reply}
 use Rattle.pool_invariant.proofs.Moved.{step_stays}
 use Rattle.interleaving_core.specs.Invariant.{BlockIsHeld}
 use Rattle.interleaving_core.specs.Moves.{may_go, calling_view}
@@ -34,7 +34,7 @@ use Rattle.pool_table.proofs.Ready.{call_can_step}
 use Rattle.block_pool.specs.declared.process.Process.{Process}
 use Rattle.block_pool.specs.Running.{calling, counted, moving, running, owning, beginning, stage_after}
 use Rattle.block_pool.specs.Running.{CanGo, IsMoving, IsRunning, IsOwning}
-use Rattle.block_pool.specs.Moves.{is_reply, counted_unless, PlanStepped, MovedOne, MovedOn, AgesByOne, PlanRuns, rests, runs_on, ends}
+use Rattle.block_pool.specs.Moves.{counted_unless, PlanStepped, MovedOne, MovedOn, AgesByOne, PlanRuns, rests, runs_on, ends}
 use Rattle.block_pool.proofs.Going.{can_move, becomes}
 
 -- at the beginning and in the middle

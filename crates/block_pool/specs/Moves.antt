@@ -4,8 +4,8 @@ use Rattle.word_layout.specs.Sizes.{Sizes}
 use Rattle.transfer_schedule.specs.Numbers.{Numbers, is_idle, after_steps, after_end}
 use Rattle.transfer_machine.specs.Machine.{met_of}
 use Rattle.transfer_machine.specs.declared.stage.NextStep.{NextStep}
-use Rattle.transfer_machine.specs.declared.stage.NextStep.TheVariants.{Rest, Announce, Try, LoadFinalState, LoadReply}
 use Rattle.transfer_machine.specs.declared.transfer.TransferView.{TransferView}
+use Rattle.transfer_invariant.specs.Progress.{is_reply}
 use Rattle.pool_machine.specs.Pools.{pool_met_at}
 use Rattle.pool_machine.specs.declared.call.Call.{Call}
 use Rattle.pool_machine.specs.declared.view.PoolView.{PoolView}
@@ -15,14 +15,6 @@ use Rattle.pool_table.specs.Views.{SeatView}
 use Rattle.pool_table.specs.Steps.{Stepped}
 use Rattle.block_pool.specs.declared.process.Process.{Process}
 use Rattle.block_pool.specs.Running.{counted}
-
--- the step is the last of its transfer
-abbrev pub is_reply : NextStep → Bool
-is_reply Rest = false
-is_reply Announce = false
-is_reply (Try second step) = false
-is_reply LoadFinalState = false
-is_reply LoadReply = true
 
 -- the running pool counts the steps of a call once: with the last one of the transfer, or else after the most
 abbrev pub counted_unless : Bool → ℕ → PoolView → PoolView
@@ -69,3 +61,4 @@ pub data PlanRuns (most : ℕ) (plan : Numbers) : ℕ → Numbers → Type 0 whe
   runs_on : is_idle plan.pending ≡ false → PlanRuns most plan most (after_steps most plan)
   ends : (n : ℕ) (found : Bool) → is_idle plan.pending ≡ false → 1 ≤ n → n ≤ most
       → PlanRuns most plan n (after_end found (after_steps n plan))
+

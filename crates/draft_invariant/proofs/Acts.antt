@@ -1,7 +1,7 @@
 -- what the actions of the views leave of the announcements and of the number of the state
-use Rattle.std.proofs.Common.{◌≡◌, ℕ, ◌+◌, ◌<◌, ◌≤◌, ◌==◌, Bool, true, false, refl, sym, ◌∙◌, ap, inl, inr, arith}
+use Rattle.std.proofs.Common.{◌≡◌, ◌≢◌, ℕ, ◌+◌, ◌<◌, ◌≤◌, ◌==◌, Bool, true, false, refl, sym, ◌∙◌, ap, inl, inr, arith}
 use Rattle.std.specs.Prelude.{if◌then◌else◌}
-use Rattle.std.proofs.lemmas.Bool.{cases_eq, false≢true}
+use Rattle.std.proofs.lemmas.Bool.{cases_eq}
 use Rattle.std.proofs.lemmas.Bool.Decides.{nat_tests}
 use Rattle.word_layout.specs.Sizes.{Sizes, blocks}
 use Rattle.word_layout.specs.Packing.{tag_of, value_of}
@@ -21,69 +21,52 @@ use Rattle.transfer_invariant.specs.Memory.{Words, States, Acted, state_tag}
 use Rattle.transfer_invariant.specs.Progress.{has_record}
 use Rattle.transfer_invariant.specs.Records.{OwnRecord}
 use Rattle.transfer_invariant.specs.Installing.{states_with_drafted, states_after_at, states_after_try_step}
-use Rattle.transfer_invariant.proofs.Acts.{is_state, leaves_records, exchanges_state, keeps_state}
+use Rattle.transfer_invariant.proofs.Acts.{leaves_records, exchanges_state, keeps_state}
 use Rattle.transfer_invariant.proofs.Keeps.{row_fits}
 use Rattle.draft_invariant.specs.Heads.{AnnouncementsAreBlocks}
 use Rattle.draft_invariant.specs.Pops.{PopsHold}
 
--- whether a name is an announcement, and whose
-abbrev is_announcement : WordName → Bool
-is_announcement State = false
-is_announcement (Announcement process) = true
-is_announcement (RecordWord row index) = false
-is_announcement (Slot slot) = false
-is_announcement (Next block) = false
-is_announcement (Data block index) = false
-
-abbrev announcer : WordName → ℕ
-announcer State = 0
-announcer (Announcement process) = process
-announcer (RecordWord row index) = 0
-announcer (Slot slot) = 0
-announcer (Next block) = 0
-announcer (Data block index) = 0
-
 -- an action on another word
-misses_announcements : (sizes : Sizes) (action : Action) (m n : Words) → Acted sizes action m n → is_announcement (name_of action) ≡ false → AnnouncementsAreBlocks sizes m
+misses_announcements : (sizes : Sizes) (action : Action) (m n : Words) → Acted sizes action m n → ((o : ℕ) → Announcement o ≢ name_of action) → AnnouncementsAreBlocks sizes m
     → AnnouncementsAreBlocks sizes n
-misses_announcements sizes action m n a none h o lo = rw (a.elsewhere (Announcement o) lo (λ e. false≢true (sym none ∙ sym (ap is_announcement e)))) (h o lo)
+misses_announcements sizes action m n a other h o lo = rw (a.elsewhere (Announcement o) lo (other o)) (h o lo)
 
 -- an action on an announcement
 on_announcement : (sizes : Sizes) (action : Action) (process : ℕ) (m n : Words) → Acted sizes action m n → name_of action ≡ Announcement process
     → value_of (n (Announcement process)) ≤ blocks sizes → AnnouncementsAreBlocks sizes m → AnnouncementsAreBlocks sizes n
 on_announcement sizes action process m n a name here h o lo = elim (cases_eq o process) [
   | inl e ↦ rw e here
-  | inr ne ↦ rw (a.elsewhere (Announcement o) lo (λ e. ne (ap announcer (e ∙ name)))) (h o lo)
+  | inr ne ↦ rw (a.elsewhere (Announcement o) lo (λ e. ne cc)) (h o lo)
 ]
 
 try_announcements_kept : (sizes : Sizes) (v : TransferView) (m n : Words) (second : Bool) (s : TryStep) → v.next ≡ Try second s
     → Acted sizes (try_action sizes v s) m n
     → ((second : Bool) (process : ℕ) → v.next ≡ Try second (LoadAnnouncement process) → process < sizes.processes)
     → AnnouncementsAreBlocks sizes m → AnnouncementsAreBlocks sizes n
-try_announcements_kept sizes v m n second LoadState e a among h = misses_announcements sizes _ m n a refl h
-try_announcements_kept sizes v m n second (LoadRecordWord index) e a among h = misses_announcements sizes _ m n a refl h
-try_announcements_kept sizes v m n second (LoadCoveredSlot offset) e a among h = misses_announcements sizes _ m n a refl h
-try_announcements_kept sizes v m n second (ExchangeSlot offset) e a among h = misses_announcements sizes _ m n a refl h
+try_announcements_kept sizes v m n second LoadState e a among h = misses_announcements sizes _ m n a (λ o d. cc) h
+try_announcements_kept sizes v m n second (LoadRecordWord index) e a among h = misses_announcements sizes _ m n a (λ o d. cc) h
+try_announcements_kept sizes v m n second (LoadCoveredSlot offset) e a among h = misses_announcements sizes _ m n a (λ o d. cc) h
+try_announcements_kept sizes v m n second (ExchangeSlot offset) e a among h = misses_announcements sizes _ m n a (λ o d. cc) h
 try_announcements_kept sizes v m n second (LoadAnnouncement process) e a among h =
     on_announcement sizes _ process m n a refl (rw a.here (h process (among second process e))) h
-try_announcements_kept sizes v m n second (LoadPoppedSlot process) e a among h = misses_announcements sizes _ m n a refl h
-try_announcements_kept sizes v m n second (StoreRecordWord index) e a among h = misses_announcements sizes _ m n a refl h
-try_announcements_kept sizes v m n second ExchangeState e a among h = misses_announcements sizes _ m n a refl h
+try_announcements_kept sizes v m n second (LoadPoppedSlot process) e a among h = misses_announcements sizes _ m n a (λ o d. cc) h
+try_announcements_kept sizes v m n second (StoreRecordWord index) e a among h = misses_announcements sizes _ m n a (λ o d. cc) h
+try_announcements_kept sizes v m n second ExchangeState e a among h = misses_announcements sizes _ m n a (λ o d. cc) h
 
 pub announcements_kept : (sizes : Sizes) (v : TransferView) (m n : Words) (s : NextStep) → v.next ≡ s → Acted sizes (action_at sizes v s) m n
     → (v.next ≡ Announce → value_of (own_announcement v) ≤ blocks sizes)
     → ((second : Bool) (process : ℕ) → v.next ≡ Try second (LoadAnnouncement process) → process < sizes.processes)
     → AnnouncementsAreBlocks sizes m → AnnouncementsAreBlocks sizes n
-announcements_kept sizes v m n Rest e a own among h = misses_announcements sizes _ m n a refl h
+announcements_kept sizes v m n Rest e a own among h = misses_announcements sizes _ m n a (λ o d. cc) h
 announcements_kept sizes v m n Announce e a own among h = on_announcement sizes _ v.number m n a refl (rw a.here (own e)) h
 announcements_kept sizes v m n (Try second step) e a own among h = try_announcements_kept sizes v m n second step e a among h
-announcements_kept sizes v m n LoadFinalState e a own among h = misses_announcements sizes _ m n a refl h
-announcements_kept sizes v m n LoadReply e a own among h = misses_announcements sizes _ m n a refl h
+announcements_kept sizes v m n LoadFinalState e a own among h = misses_announcements sizes _ m n a (λ o d. cc) h
+announcements_kept sizes v m n LoadReply e a own among h = misses_announcements sizes _ m n a (λ o d. cc) h
 
 -- an action on another word than the state
-misses_state : (sizes : Sizes) (action : Action) (m n : Words) → Acted sizes action m n → is_state (name_of action) ≡ false → state_tag n ≡ state_tag m
+misses_state : (sizes : Sizes) (action : Action) (m n : Words) → Acted sizes action m n → State ≢ name_of action → state_tag n ≡ state_tag m
 unfolding state_tag
-misses_state sizes action m n a none = ap tag_of (a.elsewhere State tt (λ e. false≢true (sym none ∙ sym (ap is_state e))))
+misses_state sizes action m n a other = ap tag_of (a.elsewhere State tt other)
 
 -- what a view knows of slots as long as the state stays, and once there is another one
 pub pops_stay : (processes : ℕ) (m n : Words) (states : States) (w : TransferView) → state_tag n ≡ state_tag m → PopsHold processes m states w → PopsHold processes n states w
@@ -113,17 +96,17 @@ try_pops_kept : (sizes : Sizes) (m n : Words) (states : States) (i : ℕ) (v w :
 try_pops_kept sizes m n states i v w LoadState few li own a past h =
     pops_stay sizes.processes m n states w (leaves_records sizes (Load State) m n a refl).state h
 try_pops_kept sizes m n states i v w (LoadRecordWord index) few li own a past h =
-    pops_stay sizes.processes m n states w (misses_state sizes _ m n a refl) h
+    pops_stay sizes.processes m n states w (misses_state sizes _ m n a (λ d. cc)) h
 try_pops_kept sizes m n states i v w (LoadCoveredSlot offset) few li own a past h =
-    pops_stay sizes.processes m n states w (misses_state sizes _ m n a refl) h
+    pops_stay sizes.processes m n states w (misses_state sizes _ m n a (λ d. cc)) h
 try_pops_kept sizes m n states i v w (ExchangeSlot offset) few li own a past h =
-    pops_stay sizes.processes m n states w (misses_state sizes _ m n a refl) h
+    pops_stay sizes.processes m n states w (misses_state sizes _ m n a (λ d. cc)) h
 try_pops_kept sizes m n states i v w (LoadAnnouncement process) few li own a past h =
-    pops_stay sizes.processes m n states w (misses_state sizes _ m n a refl) h
+    pops_stay sizes.processes m n states w (misses_state sizes _ m n a (λ d. cc)) h
 try_pops_kept sizes m n states i v w (LoadPoppedSlot process) few li own a past h =
-    pops_stay sizes.processes m n states w (misses_state sizes _ m n a refl) h
+    pops_stay sizes.processes m n states w (misses_state sizes _ m n a (λ d. cc)) h
 try_pops_kept sizes m n states i v w (StoreRecordWord index) few li own a past h =
-    pops_stay sizes.processes m n states w (misses_state sizes _ m n a refl) h
+    pops_stay sizes.processes m n states w (misses_state sizes _ m n a (λ d. cc)) h
 try_pops_kept sizes m n states i v w ExchangeState few li own a past h =
     exchange_pops sizes m n states i v w (m State == v.loaded.state) few li own refl a (past refl) h
 
@@ -134,10 +117,10 @@ pub pops_kept : (sizes : Sizes) (m n : Words) (states : States) (i : ℕ) (v w :
 pops_kept sizes m n states i v w Rest few li own a past h =
     pops_stay sizes.processes m n states w (leaves_records sizes (Load State) m n a refl).state h
 pops_kept sizes m n states i v w Announce few li own a past h =
-    pops_stay sizes.processes m n states w (misses_state sizes _ m n a refl) h
+    pops_stay sizes.processes m n states w (misses_state sizes _ m n a (λ d. cc)) h
 pops_kept sizes m n states i v w (Try second step) few li own a past h =
     try_pops_kept sizes m n states i v w step few li own a (λ e. past second (ap (Try second) e)) h
 pops_kept sizes m n states i v w LoadFinalState few li own a past h =
     pops_stay sizes.processes m n states w (leaves_records sizes (Load State) m n a refl).state h
 pops_kept sizes m n states i v w LoadReply few li own a past h =
-    pops_stay sizes.processes m n states w (misses_state sizes _ m n a refl) h
+    pops_stay sizes.processes m n states w (misses_state sizes _ m n a (λ d. cc)) h

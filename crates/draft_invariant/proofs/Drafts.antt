@@ -14,10 +14,9 @@ use Rattle.transfer_machine.specs.declared.stage.NextStep.{NextStep}
 use Rattle.transfer_machine.specs.declared.stage.NextStep.TheVariants.{Rest, Announce, Try, LoadFinalState, LoadReply}
 use Rattle.transfer_machine.specs.declared.stage.TryStep.{TryStep}
 use Rattle.transfer_machine.specs.declared.stage.TryStep.TheVariants.{LoadState, LoadRecordWord, LoadCoveredSlot, ExchangeSlot, LoadAnnouncement, LoadPoppedSlot, StoreRecordWord, ExchangeState}
-use Rattle.transfer_invariant.specs.Progress.{has_record, drafted_in_try}
+use Rattle.transfer_invariant.specs.Progress.{has_record, drafted_in_try, heard_process_in_try}
 use Rattle.transfer_invariant.specs.Drafts.{OverlayFits}
 use Rattle.transfer_invariant.proofs.Loaded.{ended_has_none}
-use Rattle.draft_invariant.specs.Pops.{heard_process_in_try}
 use Rattle.draft_invariant.specs.Holding.{ViewDrafts}
 use Rattle.draft_invariant.proofs.Lists.{set_each, either}
 use Rattle.draft_invariant.proofs.Wishes.{LoadedFits}

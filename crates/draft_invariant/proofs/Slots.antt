@@ -18,8 +18,8 @@ use Rattle.transfer_machine.specs.declared.stage.NextStep.TheVariants.{Rest, Ann
 use Rattle.transfer_machine.specs.declared.stage.TryStep.{TryStep}
 use Rattle.transfer_machine.specs.declared.stage.TryStep.TheVariants.{LoadState, LoadRecordWord, LoadCoveredSlot, ExchangeSlot, LoadAnnouncement, LoadPoppedSlot, StoreRecordWord, ExchangeState}
 use Rattle.transfer_invariant.specs.Memory.{Words, States, state_tag}
-use Rattle.transfer_invariant.specs.Progress.{has_record, drafted_announcements}
-use Rattle.draft_invariant.specs.Pops.{heard_process, loads_popped, popped_in_try, PopsHold}
+use Rattle.transfer_invariant.specs.Progress.{has_record, drafted_announcements, heard_process, loads_popped, popped_in_try}
+use Rattle.draft_invariant.specs.Pops.{PopsHold}
 use Rattle.draft_invariant.proofs.Lists.{either, not_both}
 use Rattle.draft_invariant.proofs.Views.{below_apart, after_drafted}
 use Rattle.draft_invariant.proofs.Drafts.{record_drafted, exchange_drafted, slot_drafted, stored_drafted}

@@ -14,10 +14,9 @@ use Rattle.transfer_machine.specs.declared.transfer.TransferView.{TransferView}
 use Rattle.transfer_machine.specs.declared.stage.NextStep.{NextStep}
 use Rattle.transfer_machine.specs.declared.stage.NextStep.TheVariants.{Try}
 use Rattle.transfer_machine.specs.declared.stage.TryStep.TheVariants.{LoadAnnouncement, LoadPoppedSlot}
-use Rattle.transfer_invariant.specs.Progress.{has_record, drafted_announcements, drafted_in_try}
+use Rattle.transfer_invariant.specs.Progress.{has_record, drafted_announcements, drafted_in_try, heard_process, heard_process_in_try}
 use Rattle.transfer_invariant.specs.Drafts.{RepliesDrafted}
 use Rattle.draft_invariant.specs.Heads.{HeadsAreBlocks}
-use Rattle.draft_invariant.specs.Pops.{heard_process, heard_process_in_try}
 use Rattle.draft_invariant.specs.Holding.{ViewDrafts}
 use Rattle.draft_invariant.proofs.Lists.{set_each, not_both}
 use Rattle.draft_invariant.proofs.Wishes.{LoadedFits, answer_fits, wish_of_block}

@@ -8,7 +8,8 @@ use Rattle.transfer_machine.specs.declared.stage.NextStep.TheVariants.{Announce}
 use Rattle.transfer_invariant.specs.Memory.{Words, Views, States, state_tag, slot_value}
 use Rattle.transfer_invariant.specs.Drafts.{RepliesDrafted}
 use Rattle.draft_invariant.specs.Heads.{WishIsBlock, AnnouncementsAreBlocks, HeadsAreBlocks}
-use Rattle.draft_invariant.specs.Pops.{heard_process, DraftFitsLoaded, PopsHold}
+use Rattle.draft_invariant.specs.Pops.{DraftFitsLoaded, PopsHold}
+use Rattle.transfer_invariant.specs.Progress.{heard_process}
 
 -- Draft of a try, of one view: its arrays have room, its draft has a low base, replies and blocks, and the announcement that its next
 -- step is about is a process's

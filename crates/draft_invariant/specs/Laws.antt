@@ -3,19 +3,19 @@ use Rattle.std.specs.Prelude.{◌≡◌, ℕ, ◌+◌, ◌*◌, ◌<◌, ◌≤�
 use Rattle.word_layout.specs.Sizes.{Sizes, IsShape, blocks}
 use Rattle.word_layout.specs.Names.{InRange}
 use Rattle.word_layout.specs.Packing.{most_age, value_limit}
-use Rattle.word_layout.specs.declared.announced.Wish.{Wish}
 use Rattle.word_layout.specs.declared.name.WordName.{WordName}
 use Rattle.word_layout.specs.declared.name.WordName.TheVariants.{State}
 use Rattle.transfer_machine.specs.Loads.{loaded_base, overlay_length}
-use Rattle.transfer_machine.specs.Machine.{action_of, met_of, begun, CanAct, CanMeet}
+use Rattle.transfer_machine.specs.Machine.{action_of, met_of, CanAct, CanMeet}
 use Rattle.transfer_machine.specs.Opening.{opening_word, opening_transfer}
 use Rattle.transfer_machine.specs.States.{next_of}
 use Rattle.transfer_machine.specs.Tries.{drafted_value}
 use Rattle.transfer_machine.specs.Words.{name_of}
 use Rattle.transfer_machine.specs.declared.transfer.TransferView.{TransferView}
-use Rattle.transfer_machine.specs.declared.stage.NextStep.TheVariants.{Rest, Try}
+use Rattle.transfer_machine.specs.declared.stage.NextStep.TheVariants.{Try}
 use Rattle.transfer_machine.specs.declared.stage.TryStep.TheVariants.{LoadCoveredSlot, ExchangeSlot, StoreRecordWord, ExchangeState}
 use Rattle.transfer_invariant.specs.Memory.{Words, Views, States, Acted, Moved, state_tag}
+use Rattle.transfer_invariant.specs.PartLaws.{BeginningsKeep}
 use Rattle.transfer_invariant.specs.Installing.{drafted_state, states_after}
 use Rattle.transfer_invariant.specs.Invariant.{Invariant}
 use Rattle.transfer_invariant.specs.Laws.{WritesFit}
@@ -41,11 +41,7 @@ StepsKeepDrafts = (sizes : Sizes) (words new : Words) (views after : Views) (sta
 
 -- a process at rest that begins a transfer keeps the part
 abbrev pub BeginningsKeepDrafts : Type 0
-BeginningsKeepDrafts = (sizes : Sizes) (words : Words) (views after : Views) (states : States) (i : ℕ) (wish : Wish) → i < sizes.processes
-    → DraftsHold sizes words views states
-    → (views i).next ≡ Rest
-    → Moved i (begun wish (views i)) views after
-    → DraftsHold sizes words after states
+BeginningsKeepDrafts = BeginningsKeep DraftsHold
 
 -- the covered slot that the next step is about lies in the loaded overlay
 pub record CoversWithin (v : TransferView) : Type 0 where

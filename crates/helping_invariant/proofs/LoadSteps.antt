@@ -20,12 +20,11 @@ use Rattle.transfer_machine.specs.declared.stage.NextStep.TheVariants.{Try}
 use Rattle.transfer_machine.specs.declared.stage.TryStep.{TryStep}
 use Rattle.transfer_machine.specs.declared.stage.TryStep.TheVariants.{LoadRecordWord, ExchangeSlot, LoadAnnouncement, LoadPoppedSlot}
 use Rattle.transfer_invariant.specs.Memory.{Words, Views, States, Acted, Moved, state_tag, current_record, word_tag}
-use Rattle.transfer_invariant.specs.Progress.{in_try, has_loaded_state, has_loaded, heard_in_try}
+use Rattle.transfer_invariant.specs.Progress.{in_try, has_loaded_state, has_loaded, heard_in_try, in_first_try, in_second_try}
 use Rattle.transfer_invariant.specs.Records.{CurrentRecord, LoadedState}
 use Rattle.transfer_invariant.specs.Invariant.{RecordsHold}
 use Rattle.transfer_invariant.proofs.Acts.{leaves_records}
 use Rattle.transfer_invariant.proofs.Counts.{record_follows, heard_follows}
-use Rattle.helping_invariant.specs.Parts.{in_first_try, in_second_try}
 use Rattle.helping_invariant.specs.Holds.{HelpingHolds}
 use Rattle.helping_invariant.proofs.Own.{StaysInTry}
 use Rattle.helping_invariant.proofs.Stored.{loads_leave}

@@ -13,9 +13,8 @@ use Rattle.transfer_machine.specs.declared.stage.NextStep.TheVariants.{Announce,
 use Rattle.transfer_machine.specs.declared.stage.TryStep.{TryStep}
 use Rattle.transfer_machine.specs.declared.stage.TryStep.TheVariants.{LoadState, LoadRecordWord, ExchangeState}
 use Rattle.transfer_invariant.specs.Memory.{Words, States, state_tag}
-use Rattle.transfer_invariant.specs.Progress.{has_loaded_state, in_try, has_announced}
+use Rattle.transfer_invariant.specs.Progress.{has_loaded_state, in_try, has_announced, in_first_try, in_second_try}
 use Rattle.transfer_invariant.specs.Records.{TagsBelow}
-use Rattle.helping_invariant.specs.Parts.{in_first_try, in_second_try}
 use Rattle.helping_invariant.specs.Parts.{AppliedRises, AnnouncementHolds, TwoTries, SettledReply, HearsPresent}
 use Rattle.helping_invariant.proofs.Changes.{AnnouncementStored, StatesGrow, AppliesHeard}
 

@@ -1,36 +1,28 @@
 -- the opening meets the parts of helping, steps keep them, and what follows for transfers
 use Rattle.std.specs.Prelude.{◌≡◌, ℕ, ◌+◌, ◌<◌, ◌≤◌, Bool, true, false}
 use Rattle.word_layout.specs.Sizes.{Sizes, IsShape}
-use Rattle.word_layout.specs.Names.{InRange}
 use Rattle.word_layout.specs.Packing.{value_of, announced_word, FitsWish}
-use Rattle.word_layout.specs.declared.announced.Wish.{Wish}
-use Rattle.word_layout.specs.declared.name.WordName.{WordName}
 use Rattle.word_layout.specs.declared.name.WordName.TheVariants.{State, RecordWord}
 use Rattle.transfer_machine.specs.Loads.{loaded_record}
-use Rattle.transfer_machine.specs.Machine.{action_of, met_of, begun}
+use Rattle.transfer_machine.specs.Machine.{action_of, met_of}
 use Rattle.transfer_machine.specs.Tries.{is_pending}
 use Rattle.transfer_machine.specs.Words.{name_of}
-use Rattle.transfer_machine.specs.Opening.{opening_word, opening_transfer}
 use Rattle.transfer_machine.specs.declared.transfer.TransferView.{TransferView}
-use Rattle.transfer_machine.specs.declared.stage.NextStep.TheVariants.{Rest, Announce, Try, LoadReply}
+use Rattle.transfer_machine.specs.declared.stage.NextStep.TheVariants.{Announce, Try, LoadReply}
 use Rattle.transfer_machine.specs.declared.stage.TryStep.TheVariants.{ExchangeState}
 use Rattle.transfer_invariant.specs.Memory.{Words, Views, States, Acted, Moved, state_tag}
-use Rattle.transfer_invariant.specs.OpeningState.{opening_state}
+use Rattle.transfer_invariant.specs.PartLaws.{OpeningMeets, BeginningsKeep}
 use Rattle.transfer_invariant.specs.Installing.{states_after}
 use Rattle.transfer_invariant.specs.Drafts.{RepliesDrafted}
-use Rattle.transfer_invariant.specs.Progress.{has_announced}
+use Rattle.transfer_invariant.specs.Progress.{has_announced, has_tried}
 use Rattle.transfer_invariant.specs.Invariant.{Invariant}
 use Rattle.transfer_invariant.specs.Laws.{WritesFit}
-use Rattle.helping_invariant.specs.Parts.{has_tried, heard}
+use Rattle.helping_invariant.specs.Parts.{heard}
 use Rattle.helping_invariant.specs.Holds.{HelpingHolds}
 
 -- the words and views of the opening meet the parts of helping, with the state of the opening
 abbrev pub OpeningMeetsHelping : Type 0
-OpeningMeetsHelping =
-    (sizes : Sizes) (words : Words) (views : Views) → IsShape sizes
-    → ((name : WordName) → InRange sizes name → words name ≡ opening_word sizes name)
-    → ((i : ℕ) → i < sizes.processes → views i ≡ opening_transfer i)
-    → HelpingHolds sizes words views (λ m. opening_state sizes)
+OpeningMeetsHelping = OpeningMeets HelpingHolds
 
 -- the step of a process keeps them, where what it writes fits, its draft has its replies, and the wish that it announces fits
 abbrev pub StepsKeepHelping : Type 0
@@ -47,12 +39,7 @@ StepsKeepHelping =
 
 -- a process at rest that begins a transfer keeps them
 abbrev pub BeginningsKeepHelping : Type 0
-BeginningsKeepHelping =
-    (sizes : Sizes) (words : Words) (views after : Views) (states : States) (i : ℕ) (wish : Wish) → i < sizes.processes
-    → HelpingHolds sizes words views states
-    → (views i).next ≡ Rest
-    → Moved i (begun wish (views i)) views after
-    → HelpingHolds sizes words after states
+BeginningsKeepHelping = BeginningsKeep HelpingHolds
 
 -- a transfer is pending, what a view heard of it is its whole announcement, and the present state is the last that hasn't applied it
 pub record PendsNow (words : Words) (states : States) (o : ℕ) (w v : TransferView) : Type 0 where

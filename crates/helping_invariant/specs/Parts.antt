@@ -1,40 +1,15 @@
 -- the parts of the invariant that speak of announcements, of the two tries and of settled replies
-use Rattle.std.specs.Prelude.{◌≡◌, ◌≢◌, ℕ, ◌+◌, ◌-◌, ◌%◌, ◌<◌, ◌≤◌, ◌==◌, Bool, true, false, not, ◌&&◌, length, slice_index}
+use Rattle.std.specs.Prelude.{◌≡◌, ◌≢◌, ℕ, ◌+◌, ◌-◌, ◌%◌, ◌<◌, ◌≤◌, ◌==◌, true, false, length, slice_index}
 use Rattle.word_layout.specs.Sizes.{Sizes}
 use Rattle.word_layout.specs.Names.{records}
 use Rattle.word_layout.specs.Packing.{tag_of, announced_word, is_odd_reply}
 use Rattle.word_layout.specs.declared.name.WordName.TheVariants.{Announcement}
 use Rattle.transfer_machine.specs.Loads.{loaded_tag}
 use Rattle.transfer_machine.specs.declared.transfer.TransferView.{TransferView}
-use Rattle.transfer_machine.specs.declared.stage.NextStep.{NextStep}
-use Rattle.transfer_machine.specs.declared.stage.NextStep.TheVariants.{Rest, Announce, Try, LoadFinalState, LoadReply}
+use Rattle.transfer_machine.specs.declared.stage.NextStep.TheVariants.{Try}
 use Rattle.transfer_machine.specs.declared.stage.TryStep.TheVariants.{LoadState}
 use Rattle.transfer_invariant.specs.Memory.{Words, States, state_tag, word_tag, word_value}
-use Rattle.transfer_invariant.specs.Progress.{has_loaded_state, in_try, has_announced, has_begun_try, heard_announcements}
-
--- in the first try, which has loaded the state
-abbrev pub in_first_try : NextStep → Bool
-in_first_try Rest = false
-in_first_try Announce = false
-in_first_try (Try second step) = not second && has_loaded_state step
-in_first_try LoadFinalState = false
-in_first_try LoadReply = false
-
--- in the second try, which has loaded the state
-abbrev pub in_second_try : NextStep → Bool
-in_second_try Rest = false
-in_second_try Announce = false
-in_second_try (Try second step) = second && has_loaded_state step
-in_second_try LoadFinalState = false
-in_second_try LoadReply = false
-
--- both tries are over
-abbrev pub has_tried : NextStep → Bool
-has_tried Rest = false
-has_tried Announce = false
-has_tried (Try second step) = false
-has_tried LoadFinalState = true
-has_tried LoadReply = true
+use Rattle.transfer_invariant.specs.Progress.{in_try, in_first_try, in_second_try, has_announced, has_begun_try, has_tried, heard_announcements}
 
 -- the announcement of a process that a view loaded
 abbrev pub heard : TransferView → ℕ → ℕ
@@ -97,3 +72,4 @@ pub record HearsPresent (processes : ℕ) (words : Words) (states : States) (o :
   -- and where w loaded a state that has applied the pending transfer
   pub heard_present : in_try w.next ≡ true → has_announced v.next ≡ true → (states (loaded_tag w.loaded)).applied o ≡ v.age
       → o < heard_announcements processes w.next → heard w o ≡ words (Announcement o)
+

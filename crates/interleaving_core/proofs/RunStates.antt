@@ -9,8 +9,7 @@ use Rattle.transfer_machine.specs.States.{StackState}
 use Rattle.transfer_machine.specs.Tries.{is_pending}
 use Rattle.transfer_machine.specs.Words as table
 use Rattle.transfer_invariant.specs.Memory.{Views, States, state_tag, current_record, word_value}
-use Rattle.transfer_invariant.specs.Progress.{has_announced}
-use Rattle.helping_invariant.specs.Parts.{has_tried}
+use Rattle.transfer_invariant.specs.Progress.{has_announced, has_tried}
 use Rattle.helping_invariant.proofs.Pending.{pends_not, pends_so}
 use Rattle.stack_invariant.specs.Gives.{present}
 use Rattle.stack_invariant.specs.Stack.{StackHolds}

@@ -12,8 +12,7 @@ use Rattle.transfer_machine.specs.Tries.{is_take}
 use Rattle.transfer_machine.specs.declared.transfer.TransferView.{TransferView}
 use Rattle.pool_machine.specs.declared.view.ProcessView.{ProcessView}
 use Rattle.transfer_invariant.specs.Memory.{States, state_tag}
-use Rattle.transfer_invariant.specs.Progress.{has_announced}
-use Rattle.helping_invariant.specs.Parts.{has_tried}
+use Rattle.transfer_invariant.specs.Progress.{has_announced, has_tried}
 use Rattle.stack_invariant.specs.Emptied.{MetNothing}
 use Rattle.stack_invariant.specs.Following.{StatesFollow}
 use Rattle.stack_invariant.specs.Loads.{LoadsFit}

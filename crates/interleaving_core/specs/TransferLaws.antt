@@ -19,8 +19,7 @@ use Rattle.transfer_machine.specs.declared.stage.NextStep.{NextStep}
 use Rattle.transfer_machine.specs.Stages.{is_rest}
 use Rattle.transfer_machine.specs.declared.stage.NextStep.TheVariants.{Try}
 use Rattle.transfer_machine.specs.declared.stage.TryStep.TheVariants.{ExchangeState}
-use Rattle.transfer_invariant.specs.Progress.{has_announced}
-use Rattle.helping_invariant.specs.Parts.{has_tried}
+use Rattle.transfer_invariant.specs.Progress.{has_announced, has_tried}
 use Rattle.stack_invariant.specs.Shown.{TableShows}
 use Rattle.batch_invariant.specs.Places.{moving}
 use Rattle.chain_invariant.specs.Chains.{times_pooled}

@@ -3,10 +3,10 @@ use Rattle.std.specs.Prelude.{◌<◌}
 use Rattle.word_layout.specs.Sizes.{Sizes}
 use Rattle.word_layout.specs.Names.{record_words}
 use Rattle.transfer_machine.specs.Loads.{overlay_length}
+use Rattle.transfer_machine.specs.Stages.{in_try_else}
 use Rattle.transfer_machine.specs.declared.loaded.Loaded.{Loaded}
 use Rattle.transfer_machine.specs.declared.transfer.TransferView.{TransferView}
 use Rattle.transfer_machine.specs.declared.stage.NextStep.{NextStep}
-use Rattle.transfer_machine.specs.declared.stage.NextStep.TheVariants.{Rest, Announce, Try, LoadFinalState, LoadReply}
 use Rattle.transfer_machine.specs.declared.stage.TryStep.{TryStep}
 use Rattle.transfer_machine.specs.declared.stage.TryStep.TheVariants.{LoadState, LoadRecordWord, LoadCoveredSlot, ExchangeSlot, LoadAnnouncement, LoadPoppedSlot, StoreRecordWord, ExchangeState}
 
@@ -23,11 +23,7 @@ IndexFitsInTry sizes loaded ExchangeState = Unit {0}
 
 -- and so is the one that any step names
 abbrev pub IndexFitsAt : Sizes → Loaded → NextStep → Type 0
-IndexFitsAt sizes loaded Rest = Unit {0}
-IndexFitsAt sizes loaded Announce = Unit {0}
-IndexFitsAt sizes loaded (Try second step) = IndexFitsInTry sizes loaded step
-IndexFitsAt sizes loaded LoadFinalState = Unit {0}
-IndexFitsAt sizes loaded LoadReply = Unit {0}
+IndexFitsAt sizes loaded next = in_try_else (IndexFitsInTry sizes loaded) (Unit {0}) next
 
 -- the same of the next step
 abbrev pub IndexFits : Sizes → TransferView → Type 0

@@ -1,7 +1,7 @@
 -- what the actions of the views do to the slots
 use Rattle.std.proofs.Common.{◌≡◌, ◌≢◌, ℕ, ◌<◌, ◌==◌, Bool, true, false, refl, sym, ◌∙◌, ap, inl, inr}
 use Rattle.std.specs.Prelude.{◌⊎◌}
-use Rattle.std.proofs.lemmas.Bool.{cases_eq, false≢true}
+use Rattle.std.proofs.lemmas.Bool.{cases_eq}
 use Rattle.word_layout.specs.Sizes.{Sizes}
 use Rattle.word_layout.specs.Packing.{tag_of, value_of, tagged, value_limit}
 use Rattle.word_layout.specs.declared.name.WordName.{WordName}
@@ -14,32 +14,14 @@ use Rattle.transfer_invariant.specs.Memory.{Words, Acted, slot_tag, slot_value}
 use Rattle.transfer_invariant.proofs.Acts.{exchanges_slot}
 use Rattle.slot_invariant.proofs.Changes.{SlotsStay, SlotExchanged}
 
--- whether a name is a slot
-abbrev pub is_slot : WordName → Bool
-is_slot State = false
-is_slot (Announcement process) = false
-is_slot (RecordWord row index) = false
-is_slot (Slot slot) = true
-is_slot (Next block) = false
-is_slot (Data block index) = false
-
--- and which one
-abbrev pub slot_of : WordName → ℕ
-slot_of State = 0
-slot_of (Announcement process) = 0
-slot_of (RecordWord row index) = 0
-slot_of (Slot slot) = slot
-slot_of (Next block) = 0
-slot_of (Data block index) = 0
-
 -- a name is that slot or it isn't
 is_or_not_slot : (s : ℕ) (x : WordName) → (Slot s ≡ x) ⊎ (Slot s ≢ x)
-is_or_not_slot s State = inr (λ e. false≢true (sym (ap is_slot e)))
-is_or_not_slot s (Announcement process) = inr (λ e. false≢true (sym (ap is_slot e)))
-is_or_not_slot s (RecordWord row index) = inr (λ e. false≢true (sym (ap is_slot e)))
-is_or_not_slot s (Slot slot) = elim (cases_eq s slot) [ inl e ↦ inl (rw e refl) | inr ne ↦ inr (λ e. ne (ap slot_of e)) ]
-is_or_not_slot s (Next block) = inr (λ e. false≢true (sym (ap is_slot e)))
-is_or_not_slot s (Data block index) = inr (λ e. false≢true (sym (ap is_slot e)))
+is_or_not_slot s State = inr (λ e. cc)
+is_or_not_slot s (Announcement process) = inr (λ e. cc)
+is_or_not_slot s (RecordWord row index) = inr (λ e. cc)
+is_or_not_slot s (Slot slot) = elim (cases_eq s slot) [ inl e ↦ inl (rw e refl) | inr ne ↦ inr (λ e. ne cc) ]
+is_or_not_slot s (Next block) = inr (λ e. cc)
+is_or_not_slot s (Data block index) = inr (λ e. cc)
 
 -- an action that leaves the word that it meets leaves all slots
 left_slot : (sizes : Sizes) (action : Action) (m n : Words) (s : ℕ) → Acted sizes action m n → left_by action (m (name_of action)) ≡ m (name_of action) → s < sizes.batches → (Slot s ≡ name_of action) ⊎ (Slot s ≢ name_of action) → n (Slot s) ≡ m (Slot s)
@@ -54,10 +36,10 @@ leaves_slots sizes action m n a left = record {
 }
 
 -- so does one on a word that is no slot
-pub misses_slots : (sizes : Sizes) (action : Action) (m n : Words) → Acted sizes action m n → is_slot (name_of action) ≡ false → SlotsStay sizes m n
+pub misses_slots : (sizes : Sizes) (action : Action) (m n : Words) → Acted sizes action m n → ((s : ℕ) → Slot s ≢ name_of action) → SlotsStay sizes m n
 unfolding slot_tag slot_value
-misses_slots sizes action m n a no_slot =
-    let slots : (s : ℕ) → s < sizes.batches → n (Slot s) ≡ m (Slot s) = λ s lt. a.elsewhere (Slot s) lt (λ e. false≢true (sym no_slot ∙ sym (ap is_slot e))) in
+misses_slots sizes action m n a other =
+    let slots : (s : ℕ) → s < sizes.batches → n (Slot s) ≡ m (Slot s) = λ s lt. a.elsewhere (Slot s) lt (other s) in
     record { tags = λ s lt. ap tag_of (slots s lt); values = λ s lt. ap value_of (slots s lt) }
 
 -- a slot is exchanged, or not
@@ -65,7 +47,7 @@ pub slot_exchanged : (sizes : Sizes) (slot old tag value : ℕ) (m n : Words) �
 unfolding slot_tag slot_value
 slot_exchanged sizes slot old tag value m n fits same a =
     let here : n (Slot slot) ≡ tagged tag value = rw same at a.here in
-    let slots : (s : ℕ) → s < sizes.batches → s ≢ slot → n (Slot s) ≡ m (Slot s) = λ s lt ne. a.elsewhere (Slot s) lt (λ e. ne (ap slot_of e)) in
+    let slots : (s : ℕ) → s < sizes.batches → s ≢ slot → n (Slot s) ≡ m (Slot s) = λ s lt ne. a.elsewhere (Slot s) lt (λ e. ne cc) in
     record {
       state = (exchanges_slot sizes slot old (tagged tag value) m n a).state;
       tag_here = ap tag_of here ∙ tag_of-tagged tag value fits;

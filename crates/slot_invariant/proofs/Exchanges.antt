@@ -15,13 +15,13 @@ use Rattle.transfer_machine.specs.declared.transfer.TransferView.{TransferView}
 use Rattle.transfer_machine.specs.declared.stage.NextStep.TheVariants.{Try}
 use Rattle.transfer_machine.specs.declared.stage.TryStep.TheVariants.{ExchangeSlot, ExchangeState}
 use Rattle.transfer_invariant.specs.Memory.{Words, Views, States, Acted, Moved, state_tag, slot_tag, slot_value}
-use Rattle.transfer_invariant.specs.Progress.{has_record}
+use Rattle.transfer_invariant.specs.Progress.{has_record, at_slot_exchange}
 use Rattle.transfer_invariant.specs.Installing.{drafted_state, states_with_drafted}
 use Rattle.transfer_invariant.specs.Invariant.{RecordsHold}
 use Rattle.transfer_invariant.proofs.Acts.{exchanges_slot, exchanges_state, keeps_state}
 use Rattle.transfer_invariant.proofs.Keeps.{row_fits}
 use Rattle.transfer_invariant.proofs.Writes.{with_state_here, with_state_below}
-use Rattle.slot_invariant.specs.Slots.{at_slot_exchange, passed_slots, slot_to_pass, word_to_pass, SlotsHold, SlotsKnown, SlotsInvariant}
+use Rattle.slot_invariant.specs.Slots.{passed_slots, slot_to_pass, word_to_pass, SlotsHold, SlotsKnown, SlotsInvariant}
 use Rattle.slot_invariant.specs.Laws.{DraftBelow}
 use Rattle.slot_invariant.proofs.Changes.{SlotExchanged}
 use Rattle.slot_invariant.proofs.Acts.{misses_slots, slot_exchanged, slot_not_exchanged}
@@ -129,7 +129,7 @@ state_exchange sizes m n views after states i second true few li inv h e lies te
     let height : (states (state_tag m)).height ≡ loaded_base v.loaded + overlay_length v.loaded = rw now at (c.height has) in
     let change = exchanges_state sizes v.loaded.state (loaded_tag v.loaded + 1) v.next_record m n (row_fits sizes m i v few li (inv.own i li)) test a in
     let raised : state_tag n ≡ state_tag m + 1 = rw now at change.state in
-    let stays = misses_slots sizes (Exchange State v.loaded.state (next_state v)) m n a refl in
+    let stays = misses_slots sizes (Exchange State v.loaded.state (next_state v)) m n a (λ s d. cc) in
     let here : later (state_tag m + 1) ≡ new = with_state_here (state_tag m + 1) new states in
     let same : (t : ℕ) → t ≤ state_tag m → later t ≡ states t = with_state_below (state_tag m) new states in
     let new_base : (later (state_tag m + 1)).base ≡ v.draft.base = ap (λ (s : StackState). s.base) here ∙ drafted_base (states (state_tag m)) v in
@@ -142,4 +142,4 @@ state_exchange sizes m n views after states i second true few li inv h e lies te
     (λ o lo. install_known sizes m n states (views o) (view_covers sizes m views states o inv lo) (h.known o lo) raised) moved
 state_exchange sizes m n views after states i second false few li inv h e lies test a moved =
     let v = views i in
-    slots_stay sizes m n views after states i (try_ended second v) li inv h (misses_slots sizes (Exchange State v.loaded.state (next_state v)) m n a refl) (keeps_state sizes v.loaded.state (next_state v) m n test a).state (ended_known n v second) moved
+    slots_stay sizes m n views after states i (try_ended second v) li inv h (misses_slots sizes (Exchange State v.loaded.state (next_state v)) m n a (λ s d. cc)) (keeps_state sizes v.loaded.state (next_state v) m n test a).state (ended_known n v second) moved

@@ -68,7 +68,7 @@ try_slots_kept sizes m n views after states i second (StoreRecordWord index) few
     let action = Store (RecordWord v.next_record index) (stored_word sizes v index) in
     let value = drafted_value sizes.processes v.draft index in
     slots_stay sizes m n views after states i (met_in_try sizes v 0 second (StoreRecordWord index)) li inv h
-    (misses_slots sizes action m n a refl)
+    (misses_slots sizes action m n a (λ s d. cc))
     (stores_word sizes v.next_record index (loaded_tag v.loaded + 1) value m n (w.store second index e) a).state
     (λ k. stored_known sizes n v second index k e) moved
 try_slots_kept sizes m n views after states i second ExchangeState few li inv h w lies e a moved =
@@ -87,7 +87,7 @@ slots_kept sizes m n views after states i Announce few li inv h w lies e a moved
     let v = views i in
     let x = met_at sizes v 0 Announce in
     let action = Store (Announcement v.number) (own_announcement v) in
-    slots_stay sizes m n views after states i x li inv h (misses_slots sizes action m n a refl)
+    slots_stay sizes m n views after states i x li inv h (misses_slots sizes action m n a (λ s d. cc))
     (announces sizes v.number (own_announcement v) m n a).state (λ k. nothing_known n x k.room refl) moved
 slots_kept sizes m n views after states i (Try second step) few li inv h w lies e a moved =
     try_slots_kept sizes m n views after states i second step few li inv h w lies e a moved

@@ -10,8 +10,8 @@ use Rattle.transfer_machine.specs.declared.transfer.TransferView.{TransferView}
 use Rattle.transfer_machine.specs.declared.stage.NextStep.TheVariants.{Try}
 use Rattle.transfer_machine.specs.declared.stage.TryStep.TheVariants.{ExchangeSlot}
 use Rattle.transfer_invariant.specs.Memory.{Words, state_tag, slot_tag, slot_value}
-use Rattle.transfer_invariant.specs.Progress.{has_record}
-use Rattle.slot_invariant.specs.Slots.{at_covered_slot, at_slot_exchange, passed_before, covered_in_try, slot_exchange_in_try, passed_in_try, passed_slots, SlotsKnown}
+use Rattle.transfer_invariant.specs.Progress.{has_record, at_covered_slot, at_slot_exchange, passed_before, covered_in_try, slot_exchange_in_try, passed_in_try}
+use Rattle.slot_invariant.specs.Slots.{passed_slots, SlotsKnown}
 use Rattle.slot_invariant.proofs.Stable.{covered_has_record, exchange_is_covered}
 
 both : (t : Bool) → t ≡ false → t ≡ true → ⊥

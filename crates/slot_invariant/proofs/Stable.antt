@@ -7,9 +7,9 @@ use Rattle.transfer_machine.specs.Loads.{loaded_tag, overlay_length}
 use Rattle.transfer_machine.specs.declared.transfer.TransferView.{TransferView}
 use Rattle.transfer_machine.specs.declared.stage.NextStep.{NextStep}
 use Rattle.transfer_invariant.specs.Memory.{Words, States, state_tag, slot_tag, slot_value}
-use Rattle.transfer_invariant.specs.Progress.{has_record}
+use Rattle.transfer_invariant.specs.Progress.{has_record, at_covered_slot, at_slot_exchange, passed_before}
 use Rattle.transfer_invariant.specs.Records.{StatesFit}
-use Rattle.slot_invariant.specs.Slots.{at_covered_slot, at_slot_exchange, passed_before, slot_to_pass, SlotsHold, SlotsKnown}
+use Rattle.slot_invariant.specs.Slots.{slot_to_pass, SlotsHold, SlotsKnown}
 use Rattle.slot_invariant.proofs.Changes.{SlotsStay, SlotExchanged}
 use Rattle.slot_invariant.proofs.Covers.{Covers}
 

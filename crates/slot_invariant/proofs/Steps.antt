@@ -17,9 +17,9 @@ use Rattle.transfer_machine.specs.declared.stage.NextStep.TheVariants.{Try}
 use Rattle.transfer_machine.specs.declared.stage.TryStep.TheVariants.{LoadRecordWord, LoadCoveredSlot, ExchangeSlot, LoadAnnouncement, LoadPoppedSlot, StoreRecordWord}
 use Rattle.transfer_invariant.proofs.Loaded.{ended_has_none}
 use Rattle.transfer_invariant.specs.Memory.{Words, Views, States, Moved, state_tag, slot_tag, slot_value}
-use Rattle.transfer_invariant.specs.Progress.{has_record}
+use Rattle.transfer_invariant.specs.Progress.{has_record, covered_in_try, passed_in_try}
 use Rattle.transfer_invariant.specs.Invariant.{RecordsHold}
-use Rattle.slot_invariant.specs.Slots.{covered_in_try, passed_in_try, SlotsHold, SlotsKnown, SlotsInvariant, passed_slots}
+use Rattle.slot_invariant.specs.Slots.{SlotsHold, SlotsKnown, SlotsInvariant, passed_slots}
 use Rattle.slot_invariant.proofs.Changes.{SlotsStay}
 use Rattle.slot_invariant.proofs.Covers.{Covers, covers}
 use Rattle.slot_invariant.proofs.Stable.{stay_hold, stay_known}

@@ -1,18 +1,14 @@
 -- the opening meets the part on slots, and steps keep it
 use Rattle.std.specs.Prelude.{◌≡◌, ℕ, ◌+◌, ◌-◌, ◌<◌, ◌≤◌, Bool}
 use Rattle.word_layout.specs.Sizes.{Sizes, IsShape}
-use Rattle.word_layout.specs.Names.{InRange}
-use Rattle.word_layout.specs.declared.announced.Wish.{Wish}
-use Rattle.word_layout.specs.declared.name.WordName.{WordName}
 use Rattle.transfer_machine.specs.Loads.{loaded_tag, loaded_base, overlay_length}
-use Rattle.transfer_machine.specs.Machine.{action_of, met_of, begun}
+use Rattle.transfer_machine.specs.Machine.{action_of, met_of}
 use Rattle.transfer_machine.specs.Words.{name_of}
-use Rattle.transfer_machine.specs.Opening.{opening_word, opening_transfer}
 use Rattle.transfer_machine.specs.declared.transfer.TransferView.{TransferView}
-use Rattle.transfer_machine.specs.declared.stage.NextStep.TheVariants.{Rest, Try}
+use Rattle.transfer_machine.specs.declared.stage.NextStep.TheVariants.{Try}
 use Rattle.transfer_machine.specs.declared.stage.TryStep.TheVariants.{LoadCoveredSlot, ExchangeSlot, LoadPoppedSlot, ExchangeState}
 use Rattle.transfer_invariant.specs.Memory.{Words, Views, States, Acted, Moved, state_tag, slot_value}
-use Rattle.transfer_invariant.specs.OpeningState.{opening_state}
+use Rattle.transfer_invariant.specs.PartLaws.{OpeningMeets, BeginningsKeep}
 use Rattle.transfer_invariant.specs.Installing.{states_after}
 use Rattle.transfer_invariant.specs.Invariant.{Invariant}
 use Rattle.transfer_invariant.specs.Laws.{WritesFit}
@@ -20,10 +16,7 @@ use Rattle.slot_invariant.specs.Slots.{SlotsInvariant}
 
 -- the words and views of the opening meet the part on slots, with the state of the opening
 abbrev pub OpeningMeetsSlots : Type 0
-OpeningMeetsSlots = (sizes : Sizes) (words : Words) (views : Views) → IsShape sizes
-    → ((name : WordName) → InRange sizes name → words name ≡ opening_word sizes name)
-    → ((i : ℕ) → i < sizes.processes → views i ≡ opening_transfer i)
-    → SlotsInvariant sizes words views (λ m. opening_state sizes)
+OpeningMeetsSlots = OpeningMeets SlotsInvariant
 
 -- a draft that is to be installed lies on the loaded content
 abbrev pub DraftBelow : TransferView → Type 0
@@ -42,11 +35,7 @@ StepsKeepSlots = (sizes : Sizes) (words new : Words) (views after : Views) (stat
 
 -- a process at rest that begins a transfer keeps it
 abbrev pub BeginningsKeepSlots : Type 0
-BeginningsKeepSlots = (sizes : Sizes) (words : Words) (views after : Views) (states : States) (i : ℕ) (wish : Wish) → i < sizes.processes
-    → SlotsInvariant sizes words views states
-    → (views i).next ≡ Rest
-    → Moved i (begun wish (views i)) views after
-    → SlotsInvariant sizes words after states
+BeginningsKeepSlots = BeginningsKeep SlotsInvariant
 
 -- while the loaded state is the present one, the slot below the working base holds its content, where it lies below the loaded base
 abbrev pub PoppedSlotsHoldContent : Type 0

@@ -1,72 +1,11 @@
 -- the part of the invariant that speaks of the slots
-use Rattle.std.specs.Prelude.{◌≡◌, ◌≢◌, ℕ, ◌+◌, ◌<◌, ◌≤◌, Bool, true, false, slice_index, length}
+use Rattle.std.specs.Prelude.{◌≡◌, ◌≢◌, ℕ, ◌+◌, ◌<◌, ◌≤◌, true, slice_index, length}
 use Rattle.word_layout.specs.Sizes.{Sizes, blocks}
 use Rattle.word_layout.specs.Packing.{tag_of, value_of}
 use Rattle.transfer_machine.specs.Loads.{loaded_tag, loaded_base, overlay_length}
 use Rattle.transfer_machine.specs.declared.transfer.TransferView.{TransferView}
-use Rattle.transfer_machine.specs.declared.stage.NextStep.{NextStep}
-use Rattle.transfer_machine.specs.declared.stage.NextStep.TheVariants.{Rest, Announce, Try, LoadFinalState, LoadReply}
-use Rattle.transfer_machine.specs.declared.stage.TryStep.{TryStep}
-use Rattle.transfer_machine.specs.declared.stage.TryStep.TheVariants.{LoadState, LoadRecordWord, LoadCoveredSlot, ExchangeSlot, LoadAnnouncement, LoadPoppedSlot, StoreRecordWord, ExchangeState}
 use Rattle.transfer_invariant.specs.Memory.{Words, Views, States, state_tag, slot_tag, slot_value}
-use Rattle.transfer_invariant.specs.Progress.{has_record}
-
--- at a slot that the loaded overlay covers, in a try
-abbrev pub covered_in_try : TryStep → Bool
-covered_in_try LoadState = false
-covered_in_try (LoadRecordWord index) = false
-covered_in_try (LoadCoveredSlot offset) = true
-covered_in_try (ExchangeSlot offset) = true
-covered_in_try (LoadAnnouncement process) = false
-covered_in_try (LoadPoppedSlot process) = false
-covered_in_try (StoreRecordWord index) = false
-covered_in_try ExchangeState = false
-
--- at a slot that the loaded overlay covers
-abbrev pub at_covered_slot : NextStep → Bool
-at_covered_slot Rest = false
-at_covered_slot Announce = false
-at_covered_slot (Try second step) = covered_in_try step
-at_covered_slot LoadFinalState = false
-at_covered_slot LoadReply = false
-
--- before the exchange of such a slot, in a try
-abbrev pub slot_exchange_in_try : TryStep → Bool
-slot_exchange_in_try LoadState = false
-slot_exchange_in_try (LoadRecordWord index) = false
-slot_exchange_in_try (LoadCoveredSlot offset) = false
-slot_exchange_in_try (ExchangeSlot offset) = true
-slot_exchange_in_try (LoadAnnouncement process) = false
-slot_exchange_in_try (LoadPoppedSlot process) = false
-slot_exchange_in_try (StoreRecordWord index) = false
-slot_exchange_in_try ExchangeState = false
-
--- before the exchange of such a slot
-abbrev pub at_slot_exchange : NextStep → Bool
-at_slot_exchange Rest = false
-at_slot_exchange Announce = false
-at_slot_exchange (Try second step) = slot_exchange_in_try step
-at_slot_exchange LoadFinalState = false
-at_slot_exchange LoadReply = false
-
--- how many covered slots, of so many, a try is done with before that step of it
-abbrev pub passed_in_try : ℕ → TryStep → ℕ
-passed_in_try covered LoadState = 0
-passed_in_try covered (LoadRecordWord index) = 0
-passed_in_try covered (LoadCoveredSlot offset) = offset
-passed_in_try covered (ExchangeSlot offset) = offset
-passed_in_try covered (LoadAnnouncement process) = covered
-passed_in_try covered (LoadPoppedSlot process) = covered
-passed_in_try covered (StoreRecordWord index) = covered
-passed_in_try covered ExchangeState = covered
-
--- how many covered slots, of so many, a view is done with before that step
-abbrev pub passed_before : ℕ → NextStep → ℕ
-passed_before covered Rest = 0
-passed_before covered Announce = 0
-passed_before covered (Try second step) = passed_in_try covered step
-passed_before covered LoadFinalState = 0
-passed_before covered LoadReply = 0
+use Rattle.transfer_invariant.specs.Progress.{has_record, at_covered_slot, at_slot_exchange, passed_before}
 
 -- how many covered slots a view's try is done with
 abbrev pub passed_slots : TransferView → ℕ
@@ -105,3 +44,4 @@ pub record SlotsKnown (words : Words) (v : TransferView) : Type 0 where
 pub record SlotsInvariant (sizes : Sizes) (words : Words) (views : Views) (states : States) : Type 0 where
   pub hold : SlotsHold sizes words states
   pub known : (i : ℕ) → i < sizes.processes → SlotsKnown words (views i)
+

@@ -3,22 +3,18 @@ use Rattle.std.specs.Prelude.{◌≡◌, ℕ, ◌<◌, ◌≤◌, Bool, true, Li
 use Rattle.word_layout.specs.Sizes.{Sizes, IsShape, blocks}
 use Rattle.word_layout.specs.Names.{InRange, word_at}
 use Rattle.word_layout.specs.Packing.{most_age, reply_of}
-use Rattle.word_layout.specs.declared.announced.Wish.{Wish}
 use Rattle.word_layout.specs.declared.reply.Reply.TheVariants.{Nothing}
 use Rattle.word_layout.specs.declared.name.WordName.{WordName}
 use Rattle.word_layout.specs.declared.name.WordName.TheVariants.{State}
-use Rattle.transfer_machine.specs.Machine.{action_of, met_of, begun, CanAct, CanMeet}
-use Rattle.transfer_machine.specs.Opening.{opening_word, opening_transfer}
+use Rattle.transfer_machine.specs.Machine.{action_of, met_of, CanAct, CanMeet}
 use Rattle.transfer_machine.specs.Words.{name_of}
 use Rattle.transfer_machine.specs.declared.transfer.TransferView.{TransferView}
 use Rattle.transfer_machine.specs.declared.stage.NextStep.{NextStep}
-use Rattle.transfer_machine.specs.declared.stage.NextStep.TheVariants.{Rest, Try, LoadReply}
+use Rattle.transfer_machine.specs.declared.stage.NextStep.TheVariants.{Try, LoadReply}
 use Rattle.transfer_machine.specs.declared.stage.TryStep.TheVariants.{ExchangeState}
 use Rattle.transfer_invariant.specs.Memory.{Words, Views, States, Acted, Moved, state_tag, is_stack_word}
-use Rattle.transfer_invariant.specs.Progress.{has_announced}
-use Rattle.transfer_invariant.specs.OpeningState.{opening_state}
-use Rattle.transfer_invariant.specs.Installing.{states_after}
-use Rattle.helping_invariant.specs.Parts.{has_tried}
+use Rattle.transfer_invariant.specs.PartLaws.{OpeningMeets, StepsKeep, BeginningsKeep}
+use Rattle.transfer_invariant.specs.Progress.{has_announced, has_tried}
 use Rattle.stack_invariant.specs.Stack.{StackHolds, Supplied}
 use Rattle.stack_invariant.specs.Shown.{Shows, SameContent, TableShows}
 use Rattle.stack_invariant.specs.Emptied.{MetNothing}
@@ -26,30 +22,15 @@ use Rattle.stack_invariant.specs.Gives.{present, next_by, Installs, ReplyIsPrese
 
 -- the words and views of the opening meet the invariant, with the state of the opening
 abbrev pub OpeningMeetsStack : Type 0
-OpeningMeetsStack =
-    (sizes : Sizes) (words : Words) (views : Views) → IsShape sizes
-    → ((name : WordName) → InRange sizes name → words name ≡ opening_word sizes name)
-    → ((i : ℕ) → i < sizes.processes → views i ≡ opening_transfer i)
-    → StackHolds sizes words views (λ m. opening_state sizes)
+OpeningMeetsStack = OpeningMeets StackHolds
 
 -- a process at rest that begins a transfer keeps it, with the same states
 abbrev pub BeginningsKeepStack : Type 0
-BeginningsKeepStack =
-    (sizes : Sizes) (words : Words) (views after : Views) (states : States) (i : ℕ) (wish : Wish) → i < sizes.processes
-    → StackHolds sizes words views states
-    → (views i).next ≡ Rest
-    → Moved i (begun wish (views i)) views after
-    → StackHolds sizes words after states
+BeginningsKeepStack = BeginningsKeep StackHolds
 
 -- the step of a process from words and views that meet it leads to such ones; where it installs a state there is one more
 abbrev pub StepsKeepStack : Type 0
-StepsKeepStack =
-    (sizes : Sizes) (words new : Words) (views after : Views) (states : States) (i : ℕ) → IsShape sizes → i < sizes.processes
-    → StackHolds sizes words views states
-    → Supplied sizes words states (views i)
-    → Acted sizes (action_of sizes (views i)) words new
-    → Moved i (met_of sizes (views i) (words (name_of (action_of sizes (views i))))) views after
-    → StackHolds sizes new after (states_after words (views i) states)
+StepsKeepStack = StepsKeep Supplied StackHolds
 
 -- every view can make its next step, as long as the ages are within their limit
 abbrev pub StackStepsCanBeMade : Type 0

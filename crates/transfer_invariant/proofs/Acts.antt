@@ -21,15 +21,6 @@ use Rattle.transfer_machine.specs.declared.stage.TryStep.TheVariants.{LoadAnnoun
 use Rattle.transfer_invariant.specs.Memory.{Words, Acted, is_stack_word, state_tag, current_record, word_tag, word_value}
 use Rattle.transfer_invariant.proofs.Changes.{RecordsStay, WordStored, StateInstalled}
 
--- whether a name is the state
-abbrev pub is_state : WordName → Bool
-is_state State = true
-is_state (Announcement process) = false
-is_state (RecordWord row index) = false
-is_state (Slot slot) = false
-is_state (Next block) = false
-is_state (Data block index) = false
-
 -- a name is the state or it isn't
 is_or_not_state : (x : WordName) → (State ≡ x) ⊎ (State ≢ x)
 is_or_not_state State = inl refl

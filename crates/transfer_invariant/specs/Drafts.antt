@@ -2,11 +2,11 @@
 use Rattle.std.specs.Prelude.{◌≡◌, ℕ, ◌<◌, ◌≤◌, false, slice_index}
 use Rattle.word_layout.specs.Packing.{is_odd_reply}
 use Rattle.transfer_machine.specs.Loads.{loaded_reply}
+use Rattle.transfer_machine.specs.Stages.{in_try_else}
 use Rattle.transfer_machine.specs.Tries.{is_pending, is_odd_transfer}
 use Rattle.transfer_machine.specs.declared.try_draft.TryDraft.{TryDraft}
 use Rattle.transfer_machine.specs.declared.transfer.TransferView.{TransferView}
 use Rattle.transfer_machine.specs.declared.stage.NextStep.{NextStep}
-use Rattle.transfer_machine.specs.declared.stage.NextStep.TheVariants.{Rest, Announce, Try, LoadFinalState, LoadReply}
 use Rattle.transfer_machine.specs.declared.stage.TryStep.{TryStep}
 use Rattle.transfer_machine.specs.declared.stage.TryStep.TheVariants.{LoadState, LoadRecordWord, LoadCoveredSlot, ExchangeSlot, LoadAnnouncement, LoadPoppedSlot, StoreRecordWord, ExchangeState}
 use Rattle.transfer_invariant.specs.Progress.{drafted_announcements}
@@ -24,11 +24,7 @@ OverlayFitsInTry processes draft ExchangeState = draft.overlay ≤ processes
 
 -- the same before any step
 abbrev pub OverlayFitsAt : ℕ → TryDraft → NextStep → Type 0
-OverlayFitsAt processes draft Rest = Unit {0}
-OverlayFitsAt processes draft Announce = Unit {0}
-OverlayFitsAt processes draft (Try second step) = OverlayFitsInTry processes draft step
-OverlayFitsAt processes draft LoadFinalState = Unit {0}
-OverlayFitsAt processes draft LoadReply = Unit {0}
+OverlayFitsAt processes draft next = in_try_else (OverlayFitsInTry processes draft) (Unit {0}) next
 
 -- Draft of a try, of one view: its overlay has at most one head for each announcement that was met
 abbrev pub OverlayFits : ℕ → TransferView → Type 0

@@ -3,33 +3,24 @@ use Rattle.std.specs.Prelude.{◌≡◌, ℕ, Bool, ◌+◌, ◌<◌, ◌≤◌,
 use Rattle.word_layout.specs.Sizes.{Sizes, IsShape, blocks}
 use Rattle.word_layout.specs.Names.{InRange, table_words, word_at, record_words}
 use Rattle.word_layout.specs.Packing.{value_limit, most_age}
-use Rattle.word_layout.specs.declared.announced.Wish.{Wish}
-use Rattle.word_layout.specs.declared.name.WordName.{WordName}
 use Rattle.word_layout.specs.declared.name.WordName.TheVariants.{State}
-use Rattle.transfer_machine.specs.Machine.{action_of, met_of, begun}
 use Rattle.transfer_machine.specs.Tries.{drafted_value}
 use Rattle.transfer_machine.specs.Words.{name_of, acted}
-use Rattle.transfer_machine.specs.Opening.{opening_word, opening_transfer}
 use Rattle.transfer_machine.specs.Loads.{loaded_tag}
 use Rattle.transfer_machine.specs.NextStates.{IsLoaded}
 use Rattle.transfer_machine.specs.declared.action.Action.{Action}
 use Rattle.transfer_machine.specs.declared.transfer.TransferView.{TransferView}
 use Rattle.transfer_machine.specs.declared.try_draft.TryDraft.{TryDraft}
-use Rattle.transfer_machine.specs.declared.stage.NextStep.TheVariants.{Rest, Try}
+use Rattle.transfer_machine.specs.declared.stage.NextStep.TheVariants.{Try}
 use Rattle.transfer_machine.specs.declared.stage.TryStep.TheVariants.{StoreRecordWord, ExchangeState}
-use Rattle.transfer_invariant.specs.Memory.{Words, Views, States, Acted, Moved, state_tag}
-use Rattle.transfer_invariant.specs.OpeningState.{opening_state}
-use Rattle.transfer_invariant.specs.Installing.{states_after}
+use Rattle.transfer_invariant.specs.Memory.{Words, Views, States, Acted, state_tag}
+use Rattle.transfer_invariant.specs.PartLaws.{OpeningMeets, StepsKeep, BeginningsKeep}
 use Rattle.transfer_invariant.specs.Progress.{loaded_words}
 use Rattle.transfer_invariant.specs.Invariant.{Invariant}
 
 -- the words and views of the opening meet the invariant, with the state of the opening
 abbrev pub OpeningMeetsInvariant : Type 0
-OpeningMeetsInvariant =
-    (sizes : Sizes) (words : Words) (views : Views) → IsShape sizes
-    → ((name : WordName) → InRange sizes name → words name ≡ opening_word sizes name)
-    → ((i : ℕ) → i < sizes.processes → views i ≡ opening_transfer i)
-    → Invariant sizes words views (λ m. opening_state sizes)
+OpeningMeetsInvariant = OpeningMeets Invariant
 
 -- a draft has room: all places are slots, the heads are blocks
 pub record DraftFits (sizes : Sizes) (draft : TryDraft) : Type 0 where
@@ -44,22 +35,11 @@ pub record WritesFit (sizes : Sizes) (words : Words) (v : TransferView) : Type 0
 
 -- the step of a process leads from words and views that meet the invariant to such ones; where it installs a state there is one more
 abbrev pub StepsKeepInvariant : Type 0
-StepsKeepInvariant =
-    (sizes : Sizes) (words new : Words) (views after : Views) (states : States) (i : ℕ) → IsShape sizes → i < sizes.processes
-    → Invariant sizes words views states
-    → WritesFit sizes words (views i)
-    → Acted sizes (action_of sizes (views i)) words new
-    → Moved i (met_of sizes (views i) (words (name_of (action_of sizes (views i))))) views after
-    → Invariant sizes new after (states_after words (views i) states)
+StepsKeepInvariant = StepsKeep (λ sizes words states. WritesFit sizes words) Invariant
 
 -- a process at rest that begins a transfer keeps it
 abbrev pub BeginningsKeepInvariant : Type 0
-BeginningsKeepInvariant =
-    (sizes : Sizes) (words : Words) (views after : Views) (states : States) (i : ℕ) (wish : Wish) → i < sizes.processes
-    → Invariant sizes words views states
-    → (views i).next ≡ Rest
-    → Moved i (begun wish (views i)) views after
-    → Invariant sizes words after states
+BeginningsKeepInvariant = BeginningsKeep Invariant
 
 -- an action on the words of a table acts on the words by their names
 abbrev pub TableActsByNames : Type 0

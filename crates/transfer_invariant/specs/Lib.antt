@@ -6,4 +6,5 @@ pub mod Tags
 pub mod Drafts
 pub mod OpeningState
 pub mod Invariant
+pub mod PartLaws
 pub mod Laws

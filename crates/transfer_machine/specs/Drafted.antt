@@ -5,11 +5,11 @@ use Rattle.transfer_machine.specs.Loads.{popped_head}
 use Rattle.transfer_machine.specs.Tries.{begun_draft, after_announcement}
 use Rattle.transfer_machine.specs.Opening.{nothing_drafted}
 use Rattle.transfer_machine.specs.Machine.{met_of, CanAct, CanMeet}
+use Rattle.transfer_machine.specs.Stages.{in_try_else}
 use Rattle.transfer_machine.specs.declared.loaded.Loaded.{Loaded}
 use Rattle.transfer_machine.specs.declared.try_draft.TryDraft.{TryDraft}
 use Rattle.transfer_machine.specs.declared.transfer.TransferView.{TransferView}
 use Rattle.transfer_machine.specs.declared.stage.NextStep.{NextStep}
-use Rattle.transfer_machine.specs.declared.stage.NextStep.TheVariants.{Rest, Announce, Try, LoadFinalState, LoadReply}
 use Rattle.transfer_machine.specs.declared.stage.TryStep.{TryStep}
 use Rattle.transfer_machine.specs.declared.stage.TryStep.TheVariants.{LoadState, LoadRecordWord, LoadCoveredSlot, ExchangeSlot}
 use Rattle.transfer_machine.specs.declared.stage.TryStep.TheVariants.{LoadAnnouncement, LoadPoppedSlot, StoreRecordWord, ExchangeState}
@@ -49,11 +49,7 @@ DraftsLoadedInTry sizes v ExchangeState = SameDraft sizes.processes v.draft (dra
 
 -- the draft that a view keeps at a step is that of the words that it loaded
 abbrev pub DraftsLoadedAt : Sizes → TransferView → NextStep → Type 0
-DraftsLoadedAt sizes v Rest = Unit {0}
-DraftsLoadedAt sizes v Announce = Unit {0}
-DraftsLoadedAt sizes v (Try second step) = DraftsLoadedInTry sizes v step
-DraftsLoadedAt sizes v LoadFinalState = Unit {0}
-DraftsLoadedAt sizes v LoadReply = Unit {0}
+DraftsLoadedAt sizes v next = in_try_else (DraftsLoadedInTry sizes v) (Unit {0}) next
 
 -- the same at the view's next step
 abbrev pub DraftsLoaded : Sizes → TransferView → Type 0

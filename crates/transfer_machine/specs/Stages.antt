@@ -10,6 +10,14 @@ use Rattle.transfer_machine.specs.declared.stage.TryStep.{TryStep}
 use Rattle.transfer_machine.specs.declared.stage.TryStep.TheVariants.{LoadState, LoadRecordWord, LoadCoveredSlot, ExchangeSlot}
 use Rattle.transfer_machine.specs.declared.stage.TryStep.TheVariants.{LoadAnnouncement, LoadPoppedSlot, StoreRecordWord, ExchangeState}
 
+-- of a step of a try what its place in the try gives, of any other step the other
+abbrev pub in_try_else {ℓ} : {A : Type ℓ} → (TryStep → A) → A → NextStep → A
+in_try_else of_try other Rest = other
+in_try_else of_try other Announce = other
+in_try_else of_try other (Try second step) = of_try step
+in_try_else of_try other LoadFinalState = other
+in_try_else of_try other LoadReply = other
+
 -- no transfer is begun
 abbrev pub is_rest : NextStep → Bool
 is_rest Rest = true
@@ -58,11 +66,7 @@ try_index ExchangeState = 0
 
 -- the same of any step
 abbrev pub index_of : NextStep → ℕ
-index_of Rest = 0
-index_of Announce = 0
-index_of (Try second step) = try_index step
-index_of LoadFinalState = 0
-index_of LoadReply = 0
+index_of next = in_try_else try_index 0 next
 
 -- where a view's transfer stands
 abbrev pub stage_of : TransferView → Stage
