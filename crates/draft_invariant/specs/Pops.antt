@@ -19,4 +19,3 @@ pub record PopsHold (processes : ℕ) (words : Words) (states : States) (v : Tra
   pub popped : has_record v.next ≡ true → loaded_tag v.loaded ≡ state_tag words → (j : ℕ) → j < drafted_announcements processes v.next
       → pops_slot processes v.loaded j (slice_index v.loaded.announcements j) (drafted processes v.loaded j) ≡ true
       → popped_head v.loaded j ≡ (states (state_tag words)).content ((drafted processes v.loaded j).base - 1)
-

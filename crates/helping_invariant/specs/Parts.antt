@@ -6,7 +6,7 @@ use Rattle.word_layout.specs.Packing.{tag_of, announced_word, is_odd_reply}
 use Rattle.word_layout.specs.declared.name.WordName.TheVariants.{Announcement}
 use Rattle.transfer_machine.specs.Loads.{loaded_tag}
 use Rattle.transfer_machine.specs.declared.transfer.TransferView.{TransferView}
-use Rattle.transfer_machine.specs.declared.stage.NextStep.TheVariants.{Try}
+use Rattle.transfer_machine.specs.declared.stage.NextStep.TheVariants.{Try, LoadReply}
 use Rattle.transfer_machine.specs.declared.stage.TryStep.TheVariants.{LoadState}
 use Rattle.transfer_invariant.specs.Memory.{Words, States, state_tag, word_tag, word_value}
 use Rattle.transfer_invariant.specs.Progress.{in_try, in_first_try, in_second_try, has_announced, has_begun_try, has_tried, heard_announcements}
@@ -72,4 +72,3 @@ pub record HearsPresent (processes : ℕ) (words : Words) (states : States) (o :
   -- and where w loaded a state that has applied the pending transfer
   pub heard_present : in_try w.next ≡ true → has_announced v.next ≡ true → (states (loaded_tag w.loaded)).applied o ≡ v.age
       → o < heard_announcements processes w.next → heard w o ≡ words (Announcement o)
-

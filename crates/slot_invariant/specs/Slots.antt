@@ -44,4 +44,3 @@ pub record SlotsKnown (words : Words) (v : TransferView) : Type 0 where
 pub record SlotsInvariant (sizes : Sizes) (words : Words) (views : Views) (states : States) : Type 0 where
   pub hold : SlotsHold sizes words states
   pub known : (i : ℕ) → i < sizes.processes → SlotsKnown words (views i)
-

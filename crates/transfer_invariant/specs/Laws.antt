@@ -1,6 +1,6 @@
 -- the opening meets the invariant, and steps keep it
 use Rattle.std.specs.Prelude.{◌≡◌, ℕ, Bool, ◌+◌, ◌<◌, ◌≤◌, ◌*◌, slice_index, List, length}
-use Rattle.word_layout.specs.Sizes.{Sizes, IsShape, blocks}
+use Rattle.word_layout.specs.Sizes.{Sizes, blocks}
 use Rattle.word_layout.specs.Names.{InRange, table_words, word_at, record_words}
 use Rattle.word_layout.specs.Packing.{value_limit, most_age}
 use Rattle.word_layout.specs.declared.name.WordName.TheVariants.{State}
