@@ -197,7 +197,7 @@ run_fits sizes past history s (turns before made old turn run) =
     turn_fits old made turn (is_made turn old) (run_fits sizes before made old run) refl
 
 -- the words, views and holders are as many as the shape says: so it is after a run
-pub record Lengths (s : CoreState) (sizes : Sizes) : Type 0 where
+pub record HasLengths (s : CoreState) (sizes : Sizes) : Type 0 where
   pub words : length s.words ≡ table_words sizes
   pub views : length s.views ≡ sizes.processes
   pub holders : length s.holders ≡ blocks sizes
@@ -205,7 +205,7 @@ pub record Lengths (s : CoreState) (sizes : Sizes) : Type 0 where
 abbrev pub SomeRun : Sizes → CoreState → Type 0
 SomeRun sizes s = (past : List Turn) × (history : List Entry) × IsRun sizes past history s
 
-pub run_lengths : (sizes : Sizes) (s now : CoreState) → s ≡ now → SomeRun sizes s → Lengths s now.sizes
+pub run_lengths : (sizes : Sizes) (s now : CoreState) → s ≡ now → SomeRun sizes s → HasLengths s now.sizes
 run_lengths sizes s now same (past, history, run) =
     let fits = run_fits sizes past history s run in
     record {
