@@ -8,11 +8,7 @@ use Rattle.word_layout.specs.declared.reply.Reply.{Reply}
 use Rattle.word_layout.specs.declared.reply.Reply.TheVariants.{Nothing, Took, Gave}
 use Rattle.word_layout.specs.declared.announced.Wish.{Wish}
 use Rattle.word_layout.specs.declared.announced.Wish.TheVariants.{Take, Give}
-use Rattle.transfer_schedule.specs.Numbers.{Numbers, is_idle, after_end, after_took_one, after_gave_one, source_of, target_of}
-use Rattle.transfer_schedule.specs.declared.own_step.Source.{Source}
-use Rattle.transfer_schedule.specs.declared.own_step.Source.TheVariants as source
-use Rattle.transfer_schedule.specs.declared.own_step.Target.{Target}
-use Rattle.transfer_schedule.specs.declared.own_step.Target.TheVariants as target
+use Rattle.transfer_schedule.specs.Numbers.{Numbers, is_idle, after_end}
 use Rattle.transfer_schedule.specs.declared.pending.Pending.TheVariants.{Idle}
 use Rattle.pool_machine.specs.Pools.{view_begun, pool_met_at, view_met, pool_ended}
 use Rattle.pool_machine.specs.declared.call.Call.{Call}
@@ -26,11 +22,11 @@ use Rattle.transfer_machine.specs.declared.stage.NextStep.{NextStep}
 use Rattle.transfer_machine.specs.declared.stage.NextStep.TheVariants.{Rest, Announce, LoadFinalState, LoadReply, Try}
 use Rattle.transfer_machine.specs.Stages.{is_rest}
 use Rattle.pool_machine.specs.Beginning.{before_call, begun_if_due, due, entered, call_begun}
-use Rattle.pool_machine.specs.OwnSteps.{pool_own_met, own_answer_for, own_kind_for, allocate_answer, next_block, allocated, freed}
+use Rattle.pool_machine.specs.OwnSteps.{pool_own_met, own_answer_for, own_kind_for, allocate_answer, next_block}
 use Rattle.pool_machine.specs.Steps.{call_met_at, call_answer_at, happened}
 use Rattle.call_invariant.specs.Phases.{changes_pool}
 use Rattle.interleaving_core.specs.Runs.{entries_of}
-use Rattle.interleaving_core.proofs.RunCounts.{allocated_counts, freed_counts}
+use Rattle.interleaving_core.proofs.OwnPlans.{own_same}
 use Rattle.interleaving_core.proofs.Withheld.{idle_is}
 
 -- how many steps of its transfer the present call has made
@@ -104,10 +100,10 @@ own_ages : (quantum : ℕ) (v : ProcessView) (word n : ℕ) (call : Option Call)
     (entries_of (happened (own_kind_for v.pool call) (own_answer_for v.transfer.number v.pool word call)))) + 0
 own_ages quantum v word n None aged = same_call quantum n v.pool.plan.done aged
 own_ages quantum v word n (Some Allocate) aged =
-    next_call quantum n v.pool.plan.done _ _ (allocated_counts word v.pool (source_of v.pool.plan)) aged
+    next_call quantum n v.pool.plan.done _ _ (own_same word v.pool (Some Allocate)).done aged
     (one_entry v.transfer.number v.pool (next_block v.pool))
 own_ages quantum v word n (Some (Free block)) aged =
-    next_call quantum n v.pool.plan.done _ 1 (freed_counts block v.pool (target_of v.pool.plan)) aged refl
+    next_call quantum n v.pool.plan.done _ 1 (own_same word v.pool (Some (Free block))).done aged refl
 own_ages quantum v word n (Some (Read block index)) aged = same_call quantum n v.pool.plan.done aged
 own_ages quantum v word n (Some (Write block index value)) aged = same_call quantum n v.pool.plan.done aged
 
@@ -165,28 +161,6 @@ first_ages quantum v (Read block index) idle none = inr (idle, refl)
 first_ages quantum v (Write block index value) idle none = inr (idle, refl)
 
 -- and its own step leaves it so
-took_pending : (plan : Numbers) → (after_took_one plan).pending ≡ plan.pending
-took_pending plan = grind arith
-
-gave_pending : (plan : Numbers) → (after_gave_one plan).pending ≡ plan.pending
-gave_pending plan = grind arith
-
-allocated_pending : (word : ℕ) (pool : PoolView) (s : Source) → (allocated word pool s).plan.pending ≡ pool.plan.pending
-allocated_pending word pool source.Current = took_pending pool.plan
-allocated_pending word pool source.Spare = took_pending pool.plan
-allocated_pending word pool source.Nothing = took_pending pool.plan
-
-freed_pending : (block : ℕ) (pool : PoolView) (t : Target) → (freed block pool t).plan.pending ≡ pool.plan.pending
-freed_pending block pool target.Current = gave_pending pool.plan
-freed_pending block pool target.Fresh = gave_pending pool.plan
-
-own_pending : (word : ℕ) (pool : PoolView) (call : Option Call) → (pool_own_met word pool call).plan.pending ≡ pool.plan.pending
-own_pending word pool None = refl
-own_pending word pool (Some Allocate) = allocated_pending word pool (source_of pool.plan)
-own_pending word pool (Some (Free block)) = freed_pending block pool (target_of pool.plan)
-own_pending word pool (Some (Read block index)) = refl
-own_pending word pool (Some (Write block index value)) = refl
-
 pub own_step_pending : (sizes : Sizes) (v : ProcessView) (word : ℕ) (stage : CallStage) → stage ≡ Own
     → (call_met_at sizes v word stage).pool.plan.pending ≡ v.pool.plan.pending
-own_step_pending sizes v word stage e = rw e (own_pending word v.pool v.calls.call)
+own_step_pending sizes v word stage e = rw e (own_same word v.pool v.calls.call).pending

@@ -3,7 +3,6 @@ use Rattle.std.proofs.Common.{◌≡◌, ◌≢◌, ℕ, ◌+◌, ◌<◌, ◌�
 use Rattle.std.proofs.Common.{ap}
 use Rattle.std.proofs.Common.{◌∙◌, length-append, subst, arith}
 use Rattle.std.specs.Prelude.{if◌then◌else◌, not}
-use Rattle.std.proofs.lemmas.Bool.Decides.{nat_tests}
 use Rattle.std.proofs.lemmas.List.{take-append-le}
 use Rattle.word_layout.specs.Packing.{value_of, reply_of}
 use Rattle.word_layout.specs.declared.announced.Wish.{Wish}
@@ -14,17 +13,12 @@ use Rattle.pool_model.specs.declared.entry.Entry.{Entry}
 use Rattle.pool_model.specs.History.{own, HasFewUnheld}
 use Rattle.pool_model.specs.Limits.{Limits}
 use Rattle.transfer_schedule.specs.Account.{opened}
-use Rattle.transfer_schedule.specs.Numbers.{Numbers, is_taking, after_take, after_end, after_steps, after_took_one, after_gave_one, opening}
-use Rattle.transfer_schedule.specs.declared.own_step.Source.{Source}
-use Rattle.transfer_schedule.specs.declared.own_step.Source.TheVariants as source
-use Rattle.transfer_schedule.specs.declared.own_step.Target.{Target}
-use Rattle.transfer_schedule.specs.declared.own_step.Target.TheVariants as target
-use Rattle.transfer_schedule.specs.Numbers as schedule
+use Rattle.transfer_schedule.specs.Numbers.{Numbers, is_taking, after_take}
 use Rattle.transfer_schedule.specs.declared.pending.Pending.TheVariants.{Idle}
 use Rattle.transfer_machine.specs.declared.stage.NextStep.{NextStep}
 use Rattle.transfer_machine.specs.declared.stage.NextStep.TheVariants.{Rest, Announce, Try, LoadFinalState, LoadReply}
 use Rattle.pool_machine.specs.Beginning.{due, begun_if_due, call_begun}
-use Rattle.pool_machine.specs.OwnSteps.{allocated, freed, next_block, pool_own_met}
+use Rattle.pool_machine.specs.OwnSteps.{next_block, pool_own_met}
 use Rattle.pool_machine.specs.Pools.{view_begun, pool_met_at, pool_ended, step_counted}
 use Rattle.pool_machine.specs.declared.call.Call.{Call}
 use Rattle.pool_machine.specs.declared.call.Call.TheVariants.{Allocate, Free, Read, Write}
@@ -39,6 +33,7 @@ use Rattle.history_invariant.proofs.Seeing.{own_of_longer}
 use Rattle.call_invariant.specs.Ledgers.{ledger_begun, ledger_moved_at, found_by}
 use Rattle.interleaving_core.specs.EmptyTakes.{TakesHadFew}
 use Rattle.interleaving_core.proofs.OwnParts.{ledger_allocated, ledger_by_call}
+use Rattle.interleaving_core.proofs.OwnPlans.{own_same}
 
 -- the same places, and a plan that says no more
 pub few_same : (limits : Limits) (history : List Entry) (old new : Ledger) (plan after : Numbers) → new.found_nothing ≡ old.found_nothing
@@ -168,21 +163,6 @@ few_called limits history (Read block index) v ledger h = h
 few_called limits history (Write block index value) v ledger h = h
 
 -- the own step of a call: the plan's word stays, and the history grows
-took_dry : (x : Numbers) → (after_took_one x).dry ≡ x.dry
-took_dry x = grind (arith, nat_tests)
-
-gave_dry : (x : Numbers) → (after_gave_one x).dry ≡ x.dry
-gave_dry x = grind (arith, nat_tests)
-
-allocated_dry : (word : ℕ) (pool : PoolView) (from : Source) → (allocated word pool from).plan.dry ≡ pool.plan.dry
-allocated_dry word pool source.Current = took_dry pool.plan
-allocated_dry word pool source.Spare = took_dry pool.plan
-allocated_dry word pool source.Nothing = took_dry pool.plan
-
-freed_dry : (block : ℕ) (pool : PoolView) (to : Target) → (freed block pool to).plan.dry ≡ pool.plan.dry
-freed_dry block pool target.Current = gave_dry pool.plan
-freed_dry block pool target.Fresh = gave_dry pool.plan
-
 few_allocated : (limits : Limits) (history past : List Entry) (i : ℕ) (block : Option ℕ) (ledger : Ledger) (plan after : Numbers)
     → after.dry ≡ plan.dry → TakesHadFew limits history ledger plan
     → TakesHadFew limits history (ledger_allocated past i block ledger) after
@@ -194,9 +174,9 @@ few_by_call : (limits : Limits) (history past : List Entry) (i word : ℕ) (pool
     → TakesHadFew limits history (ledger_by_call past i pool call ledger) (pool_own_met word pool call).plan
 few_by_call limits history past i word pool None ledger h = h
 few_by_call limits history past i word pool (Some Allocate) ledger h =
-    few_allocated limits history past i (next_block pool) ledger pool.plan _ (allocated_dry word pool (schedule.source_of pool.plan)) h
+    few_allocated limits history past i (next_block pool) ledger pool.plan _ (own_same word pool (Some Allocate)).dry h
 few_by_call limits history past i word pool (Some (Free block)) ledger h =
-    few_same limits history ledger _ pool.plan _ refl refl refl (freed_dry block pool (schedule.target_of pool.plan)) h
+    few_same limits history ledger _ pool.plan _ refl refl refl (own_same word pool (Some (Free block))).dry h
 few_by_call limits history past i word pool (Some (Read block index)) ledger h = h
 few_by_call limits history past i word pool (Some (Write block index value)) ledger h = h
 

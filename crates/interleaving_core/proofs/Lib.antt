@@ -11,6 +11,7 @@ pub mod TransfersHold
 pub mod InstallsHold
 pub mod TransfersMade
 pub mod OwnParts
+pub mod OwnPlans
 pub mod EmptyTakes
 pub mod OwnData
 pub mod OwnLedgers

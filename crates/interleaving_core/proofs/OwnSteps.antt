@@ -185,18 +185,7 @@ module _ (sizes : Sizes) (words new : Words) (views after : ProcessViews) (histo
             ghosts.ledgers ghosts.known moved own_knows other_knows;
       }
 
--- the own step of a call keeps the invariant: what proofs know afterwards, and that there is such
-pub own_step_leaves : (sizes : Sizes) (words new : Words) (views after : ProcessViews) (history : List Entry) (ghosts : Ghosts) (i : ℕ)
-    → IsShape sizes → i < sizes.processes → Holds sizes words views history ghosts
-    → (views i).calls.way ≢ Alone → (views i).calls.stage ≡ Own
-    → Acted sizes (own_action (views i)) words new
-    → MovedProcess i (own_met (views i) (words (name_of (own_action (views i))))) views after
-    → Holds sizes new after
-    (history ++ entries_of (happened (own_kind (views i)) (own_answer (views i) (words (name_of (own_action (views i)))))))
-    (own_ghosts history i (views i) (words (name_of (own_action (views i)))) ghosts)
-own_step_leaves sizes words new views after history ghosts i shape li h ne own acted moved =
-    own_keeps sizes words new views after history ghosts i (due_of sizes words views history ghosts i shape li h ne own) acted moved
-
+-- so the own step of a call keeps the invariant
 pub own_step_holds : (sizes : Sizes) (words new : Words) (views after : ProcessViews) (history : List Entry) (ghosts : Ghosts) (i : ℕ)
     → IsShape sizes → i < sizes.processes → Holds sizes words views history ghosts
     → (views i).calls.way ≢ Alone → (views i).calls.stage ≡ Own
@@ -206,6 +195,5 @@ pub own_step_holds : (sizes : Sizes) (words new : Words) (views after : ProcessV
     (history ++ entries_of (happened (own_kind (views i)) (own_answer (views i) (words (name_of (own_action (views i)))))))
 own_step_holds sizes words new views after history ghosts i shape li h ne own acted moved = (
   own_ghosts history i (views i) (words (name_of (own_action (views i)))) ghosts,
-  own_step_leaves sizes words new views after history
-      ghosts i shape li h ne own acted moved,
+  own_keeps sizes words new views after history ghosts i (due_of sizes words views history ghosts i shape li h ne own) acted moved,
 )

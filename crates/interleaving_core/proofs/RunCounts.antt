@@ -9,11 +9,6 @@ use Rattle.word_layout.specs.Names.{word_at}
 use Rattle.word_layout.specs.declared.announced.Wish.{Wish}
 use Rattle.word_layout.specs.declared.announced.Wish.TheVariants.{Take, Give}
 use Rattle.pool_model.specs.declared.entry.Entry.{Entry}
-use Rattle.transfer_schedule.specs.Numbers.{source_of, target_of}
-use Rattle.transfer_schedule.specs.declared.own_step.Source.{Source}
-use Rattle.transfer_schedule.specs.declared.own_step.Source.TheVariants as source
-use Rattle.transfer_schedule.specs.declared.own_step.Target.{Target}
-use Rattle.transfer_schedule.specs.declared.own_step.Target.TheVariants as target
 use Rattle.transfer_machine.specs.Machine.{met_at}
 use Rattle.pool_machine.specs.Pools.{opening_view, pool_met_at, view_begun}
 use Rattle.transfer_machine.specs.Words.{met_word}
@@ -23,13 +18,11 @@ use Rattle.pool_machine.specs.declared.call.CallStage.{CallStage}
 use Rattle.pool_machine.specs.declared.call.CallStage.TheVariants.{Between, Moving, Own}
 use Rattle.pool_machine.specs.declared.call.Way.{Way}
 use Rattle.pool_machine.specs.declared.call.Way.TheVariants.{Alone}
-use Rattle.pool_machine.specs.declared.view.PoolView.{PoolView}
 use Rattle.pool_machine.specs.declared.view.ProcessView.{ProcessView}
 use Rattle.transfer_machine.specs.declared.stage.NextStep.{NextStep}
 use Rattle.transfer_machine.specs.declared.stage.NextStep.TheVariants.{Rest, Announce, LoadFinalState, LoadReply, Try}
 use Rattle.transfer_machine.specs.Stages.{is_rest}
 use Rattle.pool_machine.specs.Beginning.{due, begun_if_due, alone_begun, call_begun}
-use Rattle.pool_machine.specs.OwnSteps.{allocated, freed, pool_own_met}
 use Rattle.pool_machine.specs.Steps.{call_met_at}
 use Rattle.transfer_invariant.specs.Progress.{is_moving}
 use Rattle.pool_invariant.specs.StepCount.{OverlayIsFew}
@@ -44,6 +37,7 @@ use Rattle.interleaving_core.specs.Steps.{is_alone, is_busy, is_in_call, next_ac
 use Rattle.interleaving_core.specs.TransferLaws.{rests, steps_made, moves_at, moves_transfer, is_step_of, StepsBounded, TransfersAreBounded}
 use Rattle.interleaving_core.specs.TransferLaws.{StepsCount}
 use Rattle.interleaving_core.proofs.Joins.{given, keeps}
+use Rattle.interleaving_core.proofs.OwnPlans.{own_same}
 use Rattle.interleaving_core.proofs.Runs.{RunFits, run_fits, turn_low, turn_meets, turn_busy}
 use Rattle.interleaving_core.proofs.RunTurns.{others_leave, own_view}
 
@@ -91,24 +85,7 @@ step_counts sizes v word (Try second step) busy goes = refl
 step_counts sizes v word LoadFinalState busy goes = refl
 step_counts sizes v word LoadReply busy goes = grind arith
 
--- the own step of a call isn't
-pub allocated_counts : (word : ℕ) (pool : PoolView) (s : Source) → (allocated word pool s).plan.done ≡ pool.plan.done
-allocated_counts word pool source.Current = grind arith
-allocated_counts word pool source.Spare = grind arith
-allocated_counts word pool source.Nothing = grind arith
-
-pub freed_counts : (block : ℕ) (pool : PoolView) (s : Target) → (freed block pool s).plan.done ≡ pool.plan.done
-freed_counts block pool target.Current = grind arith
-freed_counts block pool target.Fresh = grind arith
-
-own_counts : (word : ℕ) (pool : PoolView) (call : Option Call) → (pool_own_met word pool call).plan.done ≡ pool.plan.done
-own_counts word pool None = refl
-own_counts word pool (Some Allocate) = allocated_counts word pool (source_of pool.plan)
-own_counts word pool (Some (Free block)) = freed_counts block pool (target_of pool.plan)
-own_counts word pool (Some (Read block index)) = refl
-own_counts word pool (Some (Write block index value)) = refl
-
--- so a step counts where it is one of the transfer
+-- so a step counts where it is one of the transfer, which the own step of a call is not
 plus_none : (n : ℕ) → n ≡ n + 0
 plus_none n = omega arith
 
@@ -117,7 +94,7 @@ stage_counts : (sizes : Sizes) (v : ProcessView) (word : ℕ) (stage : CallStage
     → (call_met_at sizes v word stage).pool.plan.done ≡ v.pool.plan.done + (if moves_at stage then 1 else 0)
 stage_counts sizes v word Between busy goes = plus_none v.pool.plan.done
 stage_counts sizes v word Moving busy goes = step_counts sizes v word v.transfer.next (busy refl) goes
-stage_counts sizes v word Own busy goes = own_counts word v.pool v.calls.call ∙ plus_none v.pool.plan.done
+stage_counts sizes v word Own busy goes = (own_same word v.pool v.calls.call).done ∙ plus_none v.pool.plan.done
 
 next_counts : (sizes : Sizes) (v : ProcessView) (word : ℕ) (t : Bool) → is_alone v.calls.way ≡ t
     → (moves_transfer v ≡ true → is_rest v.transfer.next ≡ false) → is_rest (next_met sizes v word).transfer.next ≡ false

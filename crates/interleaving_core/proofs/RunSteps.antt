@@ -1,8 +1,9 @@
 -- transfers end within their bound
 use Rattle.std.proofs.Common.{◌≡◌, ℕ, ◌+◌, ◌≤◌, false, List, [], ◌∷◌, ◌++◌, ap, arith}
-use Rattle.word_layout.specs.Sizes.{transfer_bound}
+use Rattle.word_layout.specs.Sizes.{Sizes, transfer_bound}
+use Rattle.pool_model.specs.declared.entry.Entry.{Entry}
 use Rattle.interleaving_core.specs.Moves.{CoreState}
-use Rattle.interleaving_core.specs.Runs.{Turn, after_turn, turn_answer, entries_of, turns}
+use Rattle.interleaving_core.specs.Runs.{IsRun, Turn, after_turn, turns}
 use Rattle.interleaving_core.specs.TransferLaws.{rests, steps_made, is_step_of, steps_of, NeverRests, TransfersEnd, WholeTransfersEnd}
 use Rattle.interleaving_core.proofs.Runs.{run_fits}
 use Rattle.interleaving_core.proofs.RunTurns.{run_sizes}
@@ -14,6 +15,22 @@ unfolding NeverRests
 never_now process [] s h = h
 never_now process (turn ∷ more) s h = h.0
 
+-- where the steps from the end of a turn on are within the bound, so are those from its beginning on
+turn_within : (sizes : Sizes) (past more : List Turn) (history : List Entry) (s : CoreState) (turn : Turn) (process : ℕ)
+    → IsRun sizes past history s
+    → NeverRests process more (after_turn turn s)
+    → steps_made (after_turn turn s) process + steps_of process more (after_turn turn s) + 1 ≤ transfer_bound sizes
+    → steps_made s process + steps_of process (turn ∷ more) s + 1 ≤ transfer_bound sizes
+unfolding steps_of
+turn_within sizes past more history s turn process run never rest =
+    let counts = turn_counts process turn s history (run_fits sizes past history s run) (never_now process more (after_turn turn s) never)
+    in
+    one_less (steps_made s process) (is_step_of process turn s) (steps_of process more (after_turn turn s))
+    (steps_made (after_turn turn s) process) (transfer_bound sizes) counts rest
+  where
+    one_less : (a b c d bound : ℕ) → d ≡ a + b → d + c + 1 ≤ bound → a + (b + c) + 1 ≤ bound
+    one_less a b c d bound e h = omega arith
+
 pub transfers_end : TransfersEnd
 unfolding steps_of NeverRests
 transfers_end sizes past [] history s process run low never =
@@ -24,25 +41,14 @@ transfers_end sizes past [] history s process run low never =
     none_more : (a b c : ℕ) → b ≡ c → a + 1 ≤ b → a + 0 + 1 ≤ c
     none_more a b c e h = omega arith
 transfers_end sizes past (turn ∷ more) history s process run low (busy, never) =
-    let counts = turn_counts process turn s history (run_fits sizes past history s run) (never_now process more (after_turn turn s) never)
-    in
-    let rest = transfers_end sizes (past ++ turn ∷ []) more (history ++ entries_of (turn_answer turn s)) (after_turn turn s) process
-    (turns past history s turn run) low never in
-    one_less (steps_made s process) (is_step_of process turn s) (steps_of process more (after_turn turn s))
-    (steps_made (after_turn turn s) process) (transfer_bound sizes) counts rest
-  where
-    one_less : (a b c d bound : ℕ) → d ≡ a + b → d + c + 1 ≤ bound → a + (b + c) + 1 ≤ bound
-    one_less a b c d bound e h = omega arith
+    turn_within sizes past more history s turn process run never
+    (transfers_end sizes (past ++ turn ∷ []) more _ (after_turn turn s) process (turns past history s turn run) low never)
 
 pub whole_transfers_end : WholeTransfersEnd
-unfolding steps_of
 whole_transfers_end sizes past more history s turn process run low rest never =
-    let counts = turn_counts process turn s history (run_fits sizes past history s run) (never_now process more (after_turn turn s) never)
-    in
-    let after = transfers_end sizes (past ++ turn ∷ []) more (history ++ entries_of (turn_answer turn s)) (after_turn turn s) process
-    (turns past history s turn run) low never in
-    all_steps (steps_made s process) (is_step_of process turn s) (steps_of process more (after_turn turn s))
-    (steps_made (after_turn turn s) process) (transfer_bound sizes) counts after
+    let within = turn_within sizes past more history s turn process run never
+    (transfers_end sizes (past ++ turn ∷ []) more _ (after_turn turn s) process (turns past history s turn run) low never) in
+    later_steps (steps_made s process) (steps_of process (turn ∷ more) s) (transfer_bound sizes) within
   where
-    all_steps : (a b c d bound : ℕ) → d ≡ a + b → d + c + 1 ≤ bound → b + c + 1 ≤ bound
-    all_steps a b c d bound e after = omega arith
+    later_steps : (a b bound : ℕ) → a + b + 1 ≤ bound → b + 1 ≤ bound
+    later_steps a b bound h = omega arith

@@ -1,7 +1,7 @@
 -- the words and views of every run meet the invariant, with the history that it makes
 use Rattle.std.proofs.Common.{◌≡◌, ℕ, zero, suc, ◌+◌, ◌<◌, ◌==◌, Bool, true, false, Option, List, [], ◌∷◌, ◌++◌, length, refl, sym, ap, ◌∙◌}
 use Rattle.std.proofs.Common.{inl, inr, arith, get_or, set, length-set, get_or-set_same, get_or-set_other, subst}
-use Rattle.std.specs.Prelude.{if◌then◌else◌, nat_lt, ◌&&◌}
+use Rattle.std.specs.Prelude.{if◌then◌else◌, nat_lt, ◌&&◌, None}
 use Rattle.std.proofs.Math.Path.{fun_ext}
 use Rattle.std.proofs.lemmas.Bool.{cases_eq}
 use Rattle.std.proofs.lemmas.Bool.Decides.{nat_tests}
@@ -25,7 +25,7 @@ use Rattle.interleaving_core.specs.Turned.{Turned}
 use Rattle.interleaving_core.specs.Invariant.{MeetsInvariant, IsAmong, IsAmongHolding, with_view}
 use Rattle.interleaving_core.specs.Steps.{is_busy, is_in_call, next_action, next_met}
 use Rattle.interleaving_core.specs.Moves.{CoreState, view_at, may_go_alone, moving_view, holds_for, may_go, calling_view, step_answer}
-use Rattle.interleaving_core.specs.Moves.{with_step, holders_after}
+use Rattle.interleaving_core.specs.Moves.{holder_of, with_step, holders_after}
 use Rattle.interleaving_core.specs.Runs.{Turn, Moves, Events, IsRun, opens, turns, opening_views, opened, by_of, is_made, turning_view}
 use Rattle.interleaving_core.specs.Runs.{after_turn, turn_answer, entries_of}
 use Rattle.interleaving_core.proofs.Holders.{HoldersFit, opened_holders, step_holders, truly_held}
@@ -34,10 +34,6 @@ use Rattle.interleaving_core.proofs.Busy.{moving_busy, calling_busy}
 use Rattle.interleaving_core.proofs.Opens.{opening_holds}
 use Rattle.interleaving_core.proofs.Standing.{number_holds, fresh_rests, alone_between}
 use Rattle.interleaving_core.proofs.Tables.{acted_length, table_step, with_view_here, rests, between_calls, either_may}
-
--- the state of these parts
-abbrev pub core_of : Sizes → List ℕ → List ProcessView → List (Option ℕ) → CoreState
-core_of sizes words views holders = record { sizes = sizes; words = words; views = views; holders = holders }
 
 -- the words and views at the end of a run are those of the shape, and meet the invariant
 pub record RunFits (s : CoreState) (history : List Entry) : Type 0 where
@@ -200,21 +196,44 @@ run_fits sizes past history s (opens words shape opening) = opening_fits sizes w
 run_fits sizes past history s (turns before made old turn run) =
     turn_fits old made turn (is_made turn old) (run_fits sizes before made old run) refl
 
--- what a caller asks of a place, a process or a block is in range
+-- the words, views and holders are as many as the shape says: so it is after a run
+pub record HasLengths (s : CoreState) (sizes : Sizes) : Type 0 where
+  pub words : length s.words ≡ table_words sizes
+  pub views : length s.views ≡ sizes.processes
+  pub holders : length s.holders ≡ blocks sizes
+
 abbrev pub SomeRun : Sizes → CoreState → Type 0
 SomeRun sizes s = (past : List Turn) × (history : List Entry) × IsRun sizes past history s
 
-pub word_low : (sizes : Sizes) (s t : CoreState) (place : ℕ) → s ≡ t → SomeRun sizes s → place < table_words t.sizes
-    → place < length s.words
-word_low sizes s t place e (past, history, run) lt = rw ((run_fits sizes past history s run).whole, e) lt
+pub run_lengths : (sizes : Sizes) (s now : CoreState) → s ≡ now → SomeRun sizes s → HasLengths s now.sizes
+run_lengths sizes s now same (past, history, run) =
+    let fits = run_fits sizes past history s run in
+    record {
+      words = fits.whole ∙ ap (λ x. table_words x.sizes) same;
+      views = fits.seats ∙ ap (λ x. x.sizes.processes) same;
+      holders = fits.holders.size ∙ ap (λ x. blocks x.sizes) same;
+    }
 
-pub seat_low : (sizes : Sizes) (s t : CoreState) (process : ℕ) → s ≡ t → SomeRun sizes s → process < t.sizes.processes
-    → process < length s.views
-seat_low sizes s t process e (past, history, run) lt = rw ((run_fits sizes past history s run).seats, e) lt
+-- so what a caller asks for at a place, of a process or of a block is what the run has there
+item_seen : {A : Type 0} (list : CoreState → List A) (s now : CoreState) (i n : ℕ) (d x : A) → s ≡ now → length (list s) ≡ n → i < n
+    → x ≡ get_or (list s) i x → x ≡ get_or (list now) i d
+item_seen list s now i n d x same long low is = rw (sym same) (is ∙ get_or_default (list s) i x d (rw long low))
 
-pub holder_low : (sizes : Sizes) (s t : CoreState) (block : ℕ) → s ≡ t → SomeRun sizes s → block < blocks t.sizes
-    → block < length s.holders
-holder_low sizes s t block e (past, history, run) lt = rw ((run_fits sizes past history s run).holders.size, e) lt
+pub word_seen : (sizes : Sizes) (s now : CoreState) (place word : ℕ) → s ≡ now → SomeRun sizes s → place < table_words now.sizes
+    → word ≡ get_or s.words place word → word ≡ get_or now.words place 0
+word_seen sizes s now place word same run low is =
+    item_seen (λ (x : CoreState). x.words) s now place (table_words now.sizes) 0 word same (run_lengths sizes s now same run).words low is
+
+pub view_seen : (sizes : Sizes) (s now : CoreState) (process : ℕ) (v : ProcessView) → s ≡ now → SomeRun sizes s
+    → process < now.sizes.processes → v ≡ get_or s.views process v → v ≡ view_at now process
+view_seen sizes s now process v same run low is =
+    item_seen (λ (x : CoreState). x.views) s now process now.sizes.processes (opening_view now.sizes process) v same
+    (run_lengths sizes s now same run).views low is
+
+pub holder_seen : (sizes : Sizes) (s now : CoreState) (block : ℕ) (holder : Option ℕ) → s ≡ now → SomeRun sizes s → block < blocks now.sizes
+    → holder ≡ get_or s.holders block holder → holder ≡ holder_of now block
+holder_seen sizes s now block holder same run low is =
+    item_seen (λ (x : CoreState). x.holders) s now block (blocks now.sizes) None holder same (run_lengths sizes s now same run).holders low is
 
 -- a process of a run is one of the processes
 pub run_among : (sizes : Sizes) (past : List Turn) (history : List Entry) (s : CoreState) (i : ℕ) → IsRun sizes past history s
@@ -265,6 +284,26 @@ run_makes sizes past history s turn made run =
 pub run_made : (s now : CoreState) (turn : Turn) (b : Bool) → s ≡ now → b ≡ is_made turn now → b ≡ true → is_made turn s ≡ true
 run_made s now turn b same can holds = subst (λ (x : CoreState). is_made turn x ≡ true) (sym same) (sym can ∙ holds)
 
+-- what the step of that turn asks of the run
+abbrev pub IsAmongFor : Turn → CoreState → Type 0
+IsAmongFor (Moves by wish) s = IsAmong s.sizes s.words (view_at s by)
+IsAmongFor (Events by call) s = IsAmongHolding s.sizes s.words (view_at s by) (holds_for s.holders by call) call
+
+among_for : (sizes : Sizes) (past : List Turn) (history : List Entry) (s : CoreState) (turn : Turn) → IsRun sizes past history s
+    → by_of turn < s.sizes.processes → IsAmongFor turn s
+among_for sizes past history s (Moves by wish) run li = run_among sizes past history s by run li
+among_for sizes past history s (Events by call) run li = run_holding sizes past history s by call run li
+
+pub record IsDue (turn : Turn) (s : CoreState) : Type 0 where
+  pub low : by_of turn < length s.views
+  pub among : IsAmongFor turn s
+
+pub run_due : (sizes : Sizes) (s now : CoreState) (turn : Turn) (b : Bool) → s ≡ now → SomeRun sizes s → b ≡ is_made turn now → b ≡ true
+    → IsDue turn s
+run_due sizes s now turn b same (past, history, run) can holds =
+    let li = turn_low s turn (run_made s now turn b same can holds) in
+    record { low = rw (run_fits sizes past history s run).seats li; among = among_for sizes past history s turn run li }
+
 -- the words, views and holders that it leaves
 pub run_turned : (sizes : Sizes) (past : List Turn) (history : List Entry) (s now : CoreState) (turn : Turn) (b : Bool) (words : List ℕ)
     (seats : List ProcessView) (holders : List (Option ℕ)) (happened : Happened)
@@ -313,20 +352,16 @@ calling_next sizes table v call among =
 is_low : (a b : ℕ) → a < b → nat_lt a b ≡ true
 is_low a b lt = grind (arith, nat_tests)
 
-seat_here : (s : CoreState) (history : List Entry) (by : ℕ) (v : ProcessView) → RunFits s history → by < s.sizes.processes
-    → v ≡ get_or s.views by v → v ≡ view_at s by
-seat_here s history by v fits low here = here ∙ get_or_default s.views by v (opening_view s.sizes by) (rw fits.seats low)
-
-pub may_go_alone_here : (s t : CoreState) (history : List Entry) (by : ℕ) (wish : Wish) (v : ProcessView) (b : Bool) → s ≡ t
-    → RunFits s history → by < s.sizes.processes → v ≡ get_or s.views by v → b ≡ may_go_alone wish v → b ≡ is_made (Moves by wish) t
-may_go_alone_here s t history by wish v b e fits low here may =
+pub may_go_alone_here : (sizes : Sizes) (s now : CoreState) (by : ℕ) (wish : Wish) (v : ProcessView) (b : Bool) → s ≡ now
+    → SomeRun sizes s → by < s.sizes.processes → v ≡ get_or s.views by v → b ≡ may_go_alone wish v → b ≡ is_made (Moves by wish) now
+may_go_alone_here sizes s now by wish v b same run low here may =
     let among = is_low by s.sizes.processes low in
-    rw (sym e) (rw among (may ∙ ap (may_go_alone wish) (seat_here s history by v fits low here)))
+    rw (sym same) (rw among (may ∙ ap (may_go_alone wish) (view_seen sizes s s by v refl run low here)))
 
-pub may_go_here : (s t : CoreState) (history : List Entry) (by : ℕ) (call : Call) (v : ProcessView) (b holds : Bool) → s ≡ t
-    → RunFits s history → by < s.sizes.processes → v ≡ get_or s.views by v → holds ≡ holds_for s.holders by call
-    → b ≡ may_go s.sizes holds call v → b ≡ is_made (Events by call) t
-may_go_here s t history by call v b holds e fits low here held may =
+pub may_go_here : (sizes : Sizes) (s now : CoreState) (by : ℕ) (call : Call) (v : ProcessView) (b holds : Bool) → s ≡ now
+    → SomeRun sizes s → by < s.sizes.processes → v ≡ get_or s.views by v → holds ≡ holds_for s.holders by call
+    → b ≡ may_go s.sizes holds call v → b ≡ is_made (Events by call) now
+may_go_here sizes s now by call v b holds same run low here held may =
     let among = is_low by s.sizes.processes low in
-    rw (sym e) (rw among (may ∙ ap (λ h. may_go s.sizes h call v) held ∙ ap (may_go s.sizes (holds_for s.holders by call) call)
-    (seat_here s history by v fits low here)))
+    rw (sym same) (rw among (may ∙ ap (λ h. may_go s.sizes h call v) held ∙ ap (may_go s.sizes (holds_for s.holders by call) call)
+    (view_seen sizes s s by v refl run low here)))

@@ -14,10 +14,10 @@ use Rattle.pool_table.specs.Minds.{Mind, number_of, held_in}
 use Rattle.pool_table.specs.Views.{longest_in}
 use Rattle.pool_table.specs.Rule.{Minds, EachMind, IsSeated, MindsHold, views_of, one_if, count_in}
 use Rattle.pool_table.specs.Settled.{FitsIn}
-use Rattle.pool_table.proofs.Numbered.{own_mind_first, each_at, counts_for, counts_not}
+use Rattle.pool_table.proofs.Numbered.{counts_for, counts_not}
 use Rattle.pool_table.proofs.Seating.{each_mind_becomes}
 use Rattle.pool_table.proofs.Seen.{Begins, whole_is, longest_in_reaches, longest_in_begins}
-use Rattle.pool_table.proofs.Settled.{fits_in}
+use Rattle.pool_table.proofs.Settled.{fits_in, among_seated, among_fits}
 use Rattle.pool_seats.specs.Settling.{HasEachOnce, held_count, AllFit, AllSeatsFit, EachHoldsFew}
 
 -- where all processes have their minds there, the longest of what these have seen is the history
@@ -115,9 +115,7 @@ pub all_seats_fit : AllSeatsFit
 all_seats_fit v among e once =
     let h = among.held in
     let list = v.mind ∷ v.taken in
-    let Fact = IsSeated h.numbered.seats h.minds in
-    let each : EachMind Fact list =
-    subst (EachMind Fact) (own_mind_first v e) (each_at Fact among.number among.views v among.seated h.numbered.each) in
+    let each = among_seated v among e in
     let shape : v.sizes ≡ h.sizes = h.numbered.shaped among.number v among.seated e in
     let all : HasEachOnce h.sizes.processes list = subst (λ (s : Sizes). HasEachOnce s.processes list) shape once in
     let is = longest_is_all h.sizes among.words h.minds h.history h.numbered.seats list h.numbered.few h.holds each all in
@@ -128,14 +126,11 @@ all_seats_fit v among e once =
 pub each_holds_few : EachHoldsFew
 each_holds_few v among e =
     let h = among.held in
-    let Fact = IsSeated h.numbered.seats h.minds in
-    let each : EachMind Fact (v.mind ∷ v.taken) =
-    subst (EachMind Fact) (own_mind_first v e) (each_at Fact among.number among.views v among.seated h.numbered.each) in
     let shape : v.sizes ≡ h.sizes = h.numbered.shaped among.number v among.seated e in
-    let fits = fits_in h.sizes among.words h.minds h.history h.numbered.seats h.numbered.few h.holds v.mind each.0 in
+    let fits = (among_fits v among e).0 in
     let shared = legal_shared (limits_of h.sizes) h.history h.holds.meets.1.entries.legal in
     let grips = λ (n : ℕ). length (grip (own h.history n)) in
-    let seated = each.0.0 in
+    let seated = (among_seated v among e).0.0 in
     let few = h.numbered.few in
     let term = term_of_total h.sizes.processes (number_of v.mind) grips (omega arith) in
     let same = ap (λ entries. length (grip entries)) fits.entries in

@@ -60,14 +60,18 @@ each_at Fact place [] v e each = absurd (some-ne-none v (sym e))
 each_at Fact zero (w ∷ views) v e each = subst (λ z. EachMind Fact (minds_of z)) (some-injective w v e) each.0
 each_at Fact (suc place) (w ∷ views) v e each = each_at Fact place views v e each.1
 
--- a seat of a process has the mind of its process
+-- the minds of a process's seat, its own first, are those of processes whose seats were made
+pub minds_are_seated : (sizes : Sizes) (minds : Minds) (views : List SeatView) (place : ℕ) (v : SeatView)
+    → (numbered : Numbered sizes minds views) → get_elem? views place ≡ some v → v.of_process ≡ true
+    → EachMind (IsSeated numbered.seats minds) (v.mind ∷ v.taken)
+minds_are_seated sizes minds views place v numbered at e =
+    let Fact = IsSeated numbered.seats minds in
+    subst (EachMind Fact) (own_mind_first v e) (each_at Fact place views v at numbered.each)
+
 pub own_mind_is_seated : (sizes : Sizes) (minds : Minds) (views : List SeatView) (place : ℕ) (v : SeatView)
     → (numbered : Numbered sizes minds views) → get_elem? views place ≡ some v → v.of_process ≡ true
     → IsSeated numbered.seats minds v.mind
-own_mind_is_seated sizes minds views place v numbered at e =
-    let Fact = IsSeated numbered.seats minds in
-    let own = subst (EachMind Fact) (own_mind_first v e) (each_at Fact place views v at numbered.each) in
-    own.0
+own_mind_is_seated sizes minds views place v numbered at e = (minds_are_seated sizes minds views place v numbered at e).0
 
 -- where the mind of process n becomes another, minds of other processes stay
 others_stay_in : (seats n : ℕ) (mind : Mind) (minds : Minds) (list : List Mind) → count_in n list ≡ 0

@@ -1,22 +1,22 @@
-use Rattle.std.proofs.Common.{◌∙◌, ap, arith}
+use Rattle.std.proofs.Common.{◌∙◌, refl, ap, arith}
 use Rattle.interleaving_core.specs.Moves.{holds_for}
-use Rattle.interleaving_core.proofs.Runs.{run_fits, may_go_here}
+use Rattle.interleaving_core.proofs.Runs.{run_lengths, may_go_here}
 use Rattle.interleaving_core.proofs.run.CoreRun.can_go.Goals as goal
 
 pub index-requires : goal.index-requires
 index-requires c =
-    let (past, history, run) = c.self.invariant in
-    let fits = run_fits _ past history _ run in
-    let test = c.if-event-processes.false in
-    let value = c.processes.ensures.value in
-    omega (arith, c.self.inside.views.ok, fits.seats, test, value)
+    omega (
+      arith,
+      c.self.inside.views.ok,
+      (run_lengths _ _ _ refl c.self.invariant).views,
+      c.if-event-processes.false,
+      c.processes.ensures.value,
+    )
 
 pub returns : goal.returns
 returns c =
-    let (past, history, run) = c.self.invariant in
     let test = c.if-event-processes.false in
     let value = c.processes.ensures.value in
     let list = c.deref.ensures in
-    may_go_here _ _ history c.args.event.now.by c.args.event.now.call _ _ _ c.self.view_is (run_fits _ past history _ run)
-    (rw value at test) c.index.ensures
+    may_go_here _ _ _ c.args.event.now.by c.args.event.now.call _ _ _ c.self.view_is c.self.invariant (rw value at test) c.index.ensures
     (c.held_by-holds.ensures ∙ ap (λ holders. holds_for holders c.args.event.now.by c.args.event.now.call) list.value) c.may_go.ensures

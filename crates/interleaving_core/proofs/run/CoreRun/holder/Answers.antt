@@ -1,12 +1,9 @@
-use Rattle.std.proofs.Common.{◌∙◌, sym, arith}
-use Rattle.std.proofs.lemmas.List.{get_or_default}
-use Rattle.interleaving_core.proofs.Runs.{holder_low}
+use Rattle.std.proofs.Common.{arith}
+use Rattle.interleaving_core.proofs.Runs.{run_lengths, holder_seen}
 use Rattle.interleaving_core.proofs.run.CoreRun.holder.Goals as goal
 
 pub index-requires : goal.index-requires
-index-requires c = omega (arith, c.self.inside.holders.ok, holder_low _ _ _ c.args.block c.self.view_is c.self.invariant c.requires)
+index-requires c = omega (arith, c.self.inside.holders.ok, (run_lengths _ _ _ c.self.view_is c.self.invariant).holders, c.requires)
 
 pub returns : goal.returns
-returns c =
-    rw (sym c.self.view_is) (c.index.ensures ∙ get_or_default c.self.inside.holders.items c.args.block _ _
-    (holder_low _ _ _ c.args.block c.self.view_is c.self.invariant c.requires))
+returns c = holder_seen _ _ _ c.args.block _ c.self.view_is c.self.invariant c.requires c.index.ensures
