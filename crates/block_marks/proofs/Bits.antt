@@ -37,9 +37,11 @@ word_inside bound number size less fits = omega (arith, less, fits)
 abbrev pub OthersStay : Marked → Marked → ℕ → Type 0
 OthersStay old new number = (other : ℕ) → other ≢ number → Has new other ↔ Has old other
 
+-- the number is marked, all others are as before
 abbrev pub Sets : Marked → Marked → ℕ → Type 0
 Sets old new number = Has new number × OthersStay old new number
 
+-- the number isn't marked, all others are as before
 abbrev pub Clears : Marked → Marked → ℕ → Type 0
 Clears old new number = (Has new number → ⊥) × OthersStay old new number
 
