@@ -33,13 +33,17 @@ module _ (words : List ℕ) (number word : ℕ) (inside : number / 64 < length w
 word_inside : (bound number size : ℕ) → number < bound → bound ≤ 64 * size → number / 64 < size
 word_inside bound number size less fits = omega (arith, less, fits)
 
+-- all numbers but this one are marked as before
+abbrev pub OthersStay : Marked → Marked → ℕ → Type 0
+OthersStay old new number = (other : ℕ) → other ≢ number → Has new other ↔ Has old other
+
 -- the number is marked, all others are as before
 abbrev pub Sets : Marked → Marked → ℕ → Type 0
-Sets old new number = Has new number × ((other : ℕ) → other ≢ number → Has new other ↔ Has old other)
+Sets old new number = Has new number × OthersStay old new number
 
 -- the number isn't marked, all others are as before
 abbrev pub Clears : Marked → Marked → ℕ → Type 0
-Clears old new number = (Has new number → ⊥) × ((other : ℕ) → other ≢ number → Has new other ↔ Has old other)
+Clears old new number = (Has new number → ⊥) × OthersStay old new number
 
 module _ (bound : ℕ) (words : List ℕ) (now : Marked) (number word : ℕ) (is : record { bound = bound; words = words } ≡ now)
     (less : number < now.bound) (fits : bound ≤ 64 * length words) (met : word ≡ get_or words (number / 64) word) where
@@ -52,14 +56,25 @@ module _ (bound : ℕ) (words : List ℕ) (now : Marked) (number word : ℕ) (is
   read : word ≡ get_or words (number / 64) 0
   read = met ∙ get_or_default_zero words (number / 64) word inside
 
-  same_others : (new : List ℕ) → ((other : ℕ) → other ≢ number → bit_of new other ≡ bit_of words other)
-      → (other : ℕ) → other ≢ number → Has (record { bound = bound; words = new }) other ↔ Has now other
-  unfolding HasBit
-  same_others new same other apart =
-      subst (λ (marks : Marked). Has (record { bound = bound; words = new }) other ↔ Has marks other) is (
-        λ has. (has.0, sym (same other apart) ∙ has.1),
-        λ has. (has.0, same other apart ∙ has.1),
-      )
+  -- a word that differs from the one that was there in the number's bit alone
+  module _ (changed : ℕ) (others : (place : ℕ) → place < 64 → place ≢ number % 64 → bit_at changed place ≡ bit_at word place) where
+    abbrev marks : Marked
+    marks = record { bound = bound; words = set words (number / 64) changed }
+
+    as_before : (other : ℕ) → other ≢ number → bit_of marks.words other ≡ bit_of words other
+    as_before = other_bits words number changed inside (λ place low apart. others place low apart ∙ ap (λ (w : ℕ). bit_at w place) read)
+
+    -- the number is marked where its bit is set, all others are as before
+    mark_one : (Has marks number ↔ bit_at changed (number % 64) ≡ 1) × OthersStay now marks number
+    unfolding HasBit
+    mark_one =
+        let here = changed_bit words number changed inside in (
+          (λ has. sym here ∙ has.1, λ is. (below, here ∙ is)),
+          λ other apart. subst (λ (old : Marked). Has marks other ↔ Has old other) is (
+            λ has. (has.0, sym (as_before other apart) ∙ has.1),
+            λ has. (has.0, as_before other apart ∙ has.1),
+          ),
+        )
 
   abbrev with_bit : ℕ
   with_bit = bit_or word (1 * 2 ^ (number % 64) % 2 ^ 64)
@@ -68,20 +83,15 @@ module _ (bound : ℕ) (words : List ℕ) (now : Marked) (number word : ℕ) (is
   without_bit = bit_and word (bit_not w64 (1 * 2 ^ (number % 64) % 2 ^ 64))
 
   pub set_one : Sets now (record { bound = bound; words = set words (number / 64) with_bit }) number
-  unfolding HasBit
-  set_one = (
-    (below, changed_bit words number with_bit inside ∙ bit_at_set_same w64 word (number % 64) (omega arith)),
-    same_others (set words (number / 64) with_bit) (other_bits words number with_bit inside (λ place low apart.
-        bit_at_set_other w64 word (number % 64) (omega arith) place apart ∙ ap (λ (w : ℕ). bit_at w place) read)),
-  )
+  set_one =
+      let one = mark_one with_bit (λ place low apart. bit_at_set_other w64 word (number % 64) (omega arith) place apart) in
+      (one.0.1 (bit_at_set_same w64 word (number % 64) (omega arith)), one.1)
 
   pub clear_one : Clears now (record { bound = bound; words = set words (number / 64) without_bit }) number
-  unfolding HasBit
-  clear_one = (
-    λ has. cleared _ (changed_bit words number without_bit inside ∙ bit_at_clear_same w64 word (number % 64) (omega arith)) has.1,
-    same_others (set words (number / 64) without_bit) (other_bits words number without_bit inside (λ place low apart.
-        bit_at_clear_other w64 word (number % 64) (omega arith) place low apart ∙ ap (λ (w : ℕ). bit_at w place) read)),
-  )
+  clear_one =
+      let one = mark_one without_bit (λ place low apart. bit_at_clear_other w64 word (number % 64) (omega arith) place low apart) in
+      let none = bit_at_clear_same w64 word (number % 64) (omega arith) in
+      (λ has. cleared _ none (one.0.0 has), one.1)
     where
       cleared : (bit : ℕ) → bit ≡ 0 → bit ≡ 1 → ⊥
       cleared bit e f = omega (arith, e, f)

@@ -1,8 +1,8 @@
 -- whole calls: how they begin and how they end
 use Rattle.std.proofs.Common.{◌≡◌, ℕ, ◌<◌, Bool, true, List, [], ◌∷◌, ◌++◌, refl, sym, ap, ◌∙◌, subst, arith}
-use Rattle.std.specs.Prelude.{◌&&◌, ◌||◌, nat_lt, if◌then◌else◌, Option, None, Some, Contains, length}
+use Rattle.std.specs.Prelude.{◌&&◌, ◌||◌, nat_lt, if◌then◌else◌, Option, None, Some, Contains}
 use Rattle.std.proofs.lemmas.Bool.Decides.{nat_tests}
-use Rattle.word_layout.specs.Sizes.{Sizes, most_blocks}
+use Rattle.word_layout.specs.Sizes.{Sizes}
 use Rattle.word_layout.specs.Packing.{most_age}
 use Rattle.word_layout.specs.declared.announced.Wish.{Wish}
 use Rattle.pool_model.specs.declared.entry.Entry.{Entry}
@@ -11,7 +11,7 @@ use Rattle.transfer_schedule.specs.Numbers.{Numbers, is_idle, after_choice}
 use Rattle.transfer_schedule.proofs.Operations.{choice_sizes}
 use Rattle.transfer_machine.specs.declared.transfer.TransferView.{TransferView}
 use Rattle.transfer_machine.specs.declared.kind.Kind.{Kind}
-use Rattle.pool_machine.specs.Beginning.{newest, due, begun_if_due, before_call, first_stage, entered, call_begun}
+use Rattle.pool_machine.specs.Beginning.{due, begun_if_due, before_call, first_stage, entered, call_begun}
 use Rattle.pool_machine.specs.Conditions.{may_call, may_use_calls, is_young_for, names_fit}
 use Rattle.pool_machine.specs.OwnSteps.{own_answer_for, own_kind_for, next_block, allocate_answer}
 use Rattle.pool_machine.specs.Ready.{CanBegin}
@@ -35,21 +35,21 @@ use Rattle.pool_table.specs.Steps.{SeenAfter, Stepped}
 use Rattle.pool_table.proofs.Ready.{seat_can_begin, call_can_step}
 use Rattle.block_pool.specs.declared.process.Process.{Process}
 use Rattle.block_pool.specs.Passing.{BetweenCalls}
-use Rattle.block_pool.specs.Running.{calling, owning, beginning, transfer_begun, pool_begun_by, CanGo, IsOwning}
+use Rattle.block_pool.specs.Running.{calling, owning, beginning, CanBeginDue, transfer_begun, pool_begun_by, CanGo, IsOwning}
 use Rattle.block_pool.specs.Moves.{MovedOn}
 use Rattle.block_pool.specs.Owning.{OwnMade}
 use Rattle.block_pool.specs.Calls.{CallMade, entry_for}
 use Rattle.block_pool.proofs.Going.{becomes}
+use Rattle.block_pool.proofs.Standing.{plan_quantum}
 
 -- the transfer that is due can begin
 can_begin : (sizes : Sizes) (x : Process) → BetweenCalls sizes x → CanBegin x.seat.view.mind.view
 can_begin sizes x f = seat_can_begin x.seat.view f.among f.of_process
 
-pub begin_heads : (sizes : Sizes) (x : Process) → BetweenCalls sizes x → length x.pool.heads ≡ x.pool.plan.spares
-begin_heads sizes x f = subst (λ (p : PoolView). length p.heads ≡ p.plan.spares) f.pool (can_begin sizes x f).heads
-
-pub begin_fits : (sizes : Sizes) (x : Process) → BetweenCalls sizes x → x.pool.plan.spares ≡ 3 → newest x.pool < most_blocks
-begin_fits sizes x f = subst (λ (p : PoolView). p.plan.spares ≡ 3 → newest p < most_blocks) f.pool (can_begin sizes x f).fits
+pub due_begins : (sizes : Sizes) (x : Process) → BetweenCalls sizes x → CanBeginDue x.pool
+due_begins sizes x f =
+    let begins = can_begin sizes x f in
+    subst CanBeginDue f.pool (record { heads = begins.heads; fits = begins.fits })
 
 -- a process between two calls may begin one
 both_hold : (a b c : Bool) → a ≡ true → b ≡ true → c ≡ true → (a && (b && c)) ≡ true
@@ -168,9 +168,9 @@ begun_age x y e = ap (λ (t : TransferView). t.age) e ∙ same_age (due x.pool) 
 same_quantum : (plan : Numbers) → (after_choice plan).quantum ≡ plan.quantum
 same_quantum plan = grind (arith, choice_sizes)
 
-pub begun_quantum : (x y : Process) (quantum : ℕ) → x.pool.plan.quantum ≡ quantum → y.pool ≡ pool_begun_by (due x.pool) x.pool
-    → y.pool.plan.quantum ≡ quantum
-begun_quantum x y quantum e is = ap (λ (p : Numbers). p.quantum) (begun_plan x y is) ∙ (same_quantum x.pool.plan ∙ e)
+pub begun_quantum : (sizes : Sizes) (x y : Process) → BetweenCalls sizes x → y.pool ≡ pool_begun_by (due x.pool) x.pool
+    → y.pool.plan.quantum ≡ sizes.quantum
+begun_quantum sizes x y f is = ap (λ (p : Numbers). p.quantum) (begun_plan x y is) ∙ (same_quantum x.pool.plan ∙ plan_quantum sizes x f)
 
 -- the entries of the own step of a call
 abbrev pub own_entries : Call → ℕ → Process → List Entry

@@ -1,5 +1,5 @@
 -- Slots with blocks that a pass holds, in a test, and the passes of all threads after it.
-use Rattle.std.proofs.Common.{◌≡◌, ◌≢◌, ℕ, zero, suc, ◌+◌, ◌<◌, ◌≤◌, ◌==◌, not, filter, Option, None, Some, List, [], ◌∷◌, length, set, get_or, replicate, refl, sym, ap, ◌∙◌, subst, inl, inr, arith}
+use Rattle.std.proofs.Common.{◌≡◌, ◌≢◌, ℕ, zero, suc, ◌<◌, ◌==◌, not, filter, Option, None, Some, List, [], ◌∷◌, length, set, get_or, replicate, sym, ap, ◌∙◌, subst, inl, inr, arith}
 use Rattle.std.specs.Prelude.{slice_get, slice_index_or, Contains}
 use Rattle.std.specs.List.{All}
 use Rattle.std.proofs.Math.ListN.{length-set}
@@ -7,7 +7,7 @@ use Rattle.std.proofs.lemmas.List.{get_or-set_same}
 use Rattle.std.proofs.lemmas.Option.{none-some, same_Some, slice_get_within, slice_get-get_or}
 use Rattle.pool_model.specs.declared.entry.Entry.TheVariants as entry
 use Rattle.pool_model.proofs.Members.{contains_head, contains_tail, without_contains}
-use Rattle.block_pool.specs.Passing.{Pooled, Passed, IsOf}
+use Rattle.block_pool.specs.Passing.{Pooled, Passed}
 use Rattle.block_pool.specs.Opening.{opened_pass, AreOpenedPasses}
 use Rattle.block_pool.specs.Calls.{SamePass, Entered}
 use Rattle.block_pool.specs.Closing.{AreAllPasses}
@@ -100,35 +100,6 @@ pub slot_got : (by : ℕ) (old new : Passed) (slots : List (Option ℕ)) (place 
 slot_got by old new slots place block left within bare fit free entered =
     rw bare (subst (λ (held : List ℕ). SlotsFit held (set (set slots place None) place (Some block))) (sym entered.held)
     (filled_fit old.held (set slots place None) place block free (emptied_fit old.held slots place within fit)))
-
--- a pass that has turned slots, so many
-pub record HasTurned (pool : Pooled) (start now : Passed) (calls count : ℕ) (slots : List (Option ℕ)) : Type 0 where
-  pub same : SamePass start now
-  pub is_of : IsOf pool now
-  pub age : now.age ≤ calls
-  pub many : length slots ≡ count
-  pub fit : SlotsFit now.held slots
-
-pub none_turned : (pool : Pooled) (pass : Passed) (slots : List (Option ℕ)) → IsFresh pool pass → SlotsFit pass.held slots
-    → HasTurned pool pass pass 0 (length slots) slots
-none_turned pool pass slots fresh fit = record {
-  same = record { table = refl; sizes = refl; number = refl };
-  is_of = fresh.is_of;
-  age = omega (arith, fresh.age);
-  many = refl;
-  fit = fit;
-}
-
-pub one_turned : (pool : Pooled) (start now after : Passed) (calls count : ℕ) (slots turned : List (Option ℕ))
-    → HasTurned pool start now calls count slots → SamePass now after → after.age ≤ now.age + 1 → length turned ≡ length slots
-    → SlotsFit after.held turned → HasTurned pool start after (calls + 1) count turned
-one_turned pool start now after calls count slots turned h same age stays fit = record {
-  same = record { table = same.table ∙ h.same.table; sizes = same.sizes ∙ h.same.sizes; number = same.number ∙ h.same.number };
-  is_of = record { table = same.table ∙ h.is_of.table; sizes = same.sizes ∙ h.is_of.sizes };
-  age = omega (arith, age, h.age);
-  many = stays ∙ h.many;
-  fit = fit;
-}
 
 -- the passes of a pool at its opening are fresh
 pub opened_fresh : (pool : Pooled) (passes : List Passed) → AreOpenedPasses pool passes → All (IsFresh pool) passes

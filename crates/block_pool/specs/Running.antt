@@ -1,10 +1,11 @@
 -- a call as it runs: the view of its process, told by the running parts, the call, and how many steps of the transfer it has made
-use Rattle.std.specs.Prelude.{◌≡◌, ℕ, ◌==◌, if◌then◌else◌, Option, None, Some}
-use Rattle.word_layout.specs.Sizes.{Sizes}
+use Rattle.std.specs.Prelude.{◌≡◌, ℕ, ◌<◌, ◌==◌, if◌then◌else◌, Option, None, Some, length}
+use Rattle.word_layout.specs.Sizes.{Sizes, most_blocks}
 use Rattle.word_layout.specs.declared.announced.Wish.{Wish}
 use Rattle.transfer_schedule.specs.Numbers.{after_steps, is_idle}
 use Rattle.transfer_machine.specs.Machine.{begun}
 use Rattle.transfer_machine.specs.declared.transfer.TransferView.{TransferView}
+use Rattle.pool_machine.specs.Beginning.{newest}
 use Rattle.pool_machine.specs.Pools.{pool_begun}
 use Rattle.pool_machine.specs.declared.call.Call.{Call}
 use Rattle.pool_machine.specs.declared.call.CallStage.{CallStage}
@@ -51,6 +52,11 @@ beginning call process = record {
   pool = process.pool;
   calls = calling (if is_idle process.pool.plan.pending then Own else Moving) call 0;
 }
+
+-- the transfer that is due can begin: each spare has its head, and the newest of three is a block
+pub record CanBeginDue (pool : PoolView) : Type 0 where
+  pub heads : length pool.heads ≡ pool.plan.spares
+  pub fits : pool.plan.spares ≡ 3 → newest pool < most_blocks
 
 -- a transfer with this wish is begun, if there is one
 abbrev pub transfer_begun : Option Wish → TransferView → TransferView

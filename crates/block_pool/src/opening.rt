@@ -61,5 +61,6 @@ fn open_pass(shape: &Shape, number: u32, seat: PoolSeat) -> Pass
         },
         shape: *shape,
         holding: 0,
+        apart: [0; 16],
     }
 }

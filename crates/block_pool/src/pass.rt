@@ -44,6 +44,8 @@ pub struct Pass {
     pub(crate) shape: Shape,
     /// How many blocks it holds.
     pub(crate) holding: u32,
+    /// Nothing uses these words. They keep passes of different threads, one behind the other in memory, in other cache lines.
+    pub(crate) apart: [u64; 16],
 }
 
 impl Model for Pass {

@@ -1,9 +1,7 @@
 // Whole pools on one thread: which block each call gets, and in how many steps.
-ghost use Rattle.std.specs.Prelude.{◌≡◌, ℕ, ◌+◌, ◌*◌, ◌<◌, ◌≤◌, ◌^◌, Contains, IfSome, length};
+ghost use Rattle.std.specs.Prelude.{ℕ, ◌+◌, ◌*◌, ◌<◌, ◌≤◌, ◌^◌, Contains, IfSome, length};
 ghost use Rattle.block_pool.specs.Passing.{IsOf};
 ghost use Rattle.block_pool.specs.Calls.{SamePass};
-
-mod threads;
 
 use crate::{Answer, Pass, Pool};
 use std::alloc::Global;

@@ -14,7 +14,6 @@ use denote.RattleType.{RattleType, Valss}
 use denote.Builtin.{RawPtr}
 use denote.Memory.{lone}
 use denote.RawPtr.{Ptr, ptr_val, block_ptr, null_ptr, in_a_block, lies_at, Testable}
-use denote.Signature.{Slot, plain}
 use denote.Steps.{nothing}
 use denote.Struct.Struct.{within}
 use denote.Struct.Owning.{shape}
@@ -27,7 +26,7 @@ use Rattle.std_heap.proofs.GlobalToken.{dealloc_token-Testable}
 use Rattle.block_pool.specs.Passing.{Passed}
 use Rattle.pool_member.specs.contracts.member.Member as Member
 use Rattle.pool_member.proofs.member.Member.TheLaws as member
-use Rattle.box_parts.specs.contracts.BoxParts as Parts
+use Rattle.box_parts.specs.contracts.BoxParts as BoxParts
 use Rattle.loskebri_c.specs.Kept.{boxed, kept}
 use Rattle.loskebri_c.specs.contracts.handle.LoskebriPass as LoskebriPass
 
@@ -37,14 +36,8 @@ E = record { row = Member.the_row; laws = member.the_row_laws; al = record { row
 abbrev pub Pass : RattleType
 Pass = LoskebriPass.the_row
 
-abbrev pub FromHeap : Slot 0
-FromHeap = plain (λ _. Heap.the_row)
-
-abbrev pub FromParts : Slot 0
-FromParts = plain (λ _. Parts.the_row Member.the_row Heap.the_row ghosts)
-
-abbrev pub FromPass : Slot 0
-FromPass = plain (λ _. Pass)
+abbrev pub Parts : RattleType
+Parts = BoxParts.the_row Member.the_row Heap.the_row ghosts
 
 abbrev pub both : Val → Val → Val
 both v w = vstruct (vcons v (vcons w vnil))

@@ -20,10 +20,9 @@ use word_layout::Shape;
 #[derive(Drop)]
 pub struct Member {
     pool: Arc<Pool, Global>,
-    pass: Pass,
     marks: Marks,
-    /// Nothing uses these words. They keep members of different threads, one behind the other on the heap, in other cache lines.
-    apart: [u64; 16],
+    /// It comes last, so that the words behind it keep members of different threads in other cache lines.
+    pass: Pass,
 }
 
 impl Model for Member {
@@ -80,12 +79,7 @@ impl Member {
         ensures { IfOk result (λ member. member ≡ pass) }
     {
         let marks = Marks::new(alloc, pool.shape().blocks())?;
-        Ok(Member {
-            pool,
-            pass,
-            marks,
-            apart: [0; 16],
-        })
+        Ok(Member { pool, marks, pass })
     }
 
     /// The numbers of the pool.

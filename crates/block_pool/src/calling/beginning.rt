@@ -1,8 +1,7 @@
 // The beginning of an allocate or a free.
-ghost use Rattle.std.specs.Prelude.{◌≡◌, ◌<◌, length};
-ghost use Rattle.word_layout.specs.Sizes.{most_blocks};
-ghost use Rattle.pool_machine.specs.Beginning.{newest, due};
-ghost use Rattle.block_pool.specs.Running.{transfer_begun, pool_begun_by};
+ghost use Rattle.std.specs.Prelude.{◌≡◌};
+ghost use Rattle.pool_machine.specs.Beginning.{due};
+ghost use Rattle.block_pool.specs.Running.{CanBeginDue, transfer_begun, pool_begun_by};
 
 use crate::process::Process;
 use pool_machine::newest;
@@ -14,8 +13,7 @@ impl Process {
     /// spare, or a give of the newest of three.
     #[inline(always)]
     pub fn begin(&mut self)
-        requires heads { length self.old.pool.heads ≡ self.old.pool.plan.spares }
-        requires fits { self.old.pool.plan.spares ≡ 3 → newest self.old.pool < most_blocks }
+        requires { CanBeginDue self.old.pool }
         ensures seat { self.new.seat ≡ self.old.seat }
         ensures transfer { self.new.transfer ≡ transfer_begun (due self.old.pool) self.old.transfer }
         ensures pool { self.new.pool ≡ pool_begun_by (due self.old.pool) self.old.pool }

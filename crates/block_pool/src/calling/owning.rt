@@ -1,13 +1,12 @@
 // The own step of each call.
-ghost use Rattle.std.specs.Prelude.{◌≡◌, ◌↔◌, None};
-ghost use Rattle.transfer_schedule.specs.Numbers.{after_took_one, after_gave_one, source_of};
-ghost use Rattle.pool_machine.specs.OwnSteps.{allocate_action, next_block};
+ghost use Rattle.std.specs.Prelude.{◌≡◌};
+ghost use Rattle.transfer_schedule.specs.Numbers.{after_gave_one, source_of};
+ghost use Rattle.pool_machine.specs.OwnSteps.{allocate_action};
 ghost use Rattle.pool_machine.specs.declared.call.Call.TheVariants.{Allocate, Free, Read, Write};
 ghost use Rattle.pool_table.specs.Steps.{MayStep, OneStep, Stepped};
 ghost use Rattle.pool_table.specs.declared.about.About.TheVariants.{InCall};
 ghost use Rattle.block_pool.specs.Running.{IsOwning};
-ghost use Rattle.block_pool.specs.Owning.{OwnMade};
-ghost use Rattle.block_pool.specs.Calls.{HasNoBlock};
+ghost use Rattle.block_pool.specs.Owning.{AllocateMade, OwnMade};
 
 use crate::process::Process;
 use pool_machine::{Call, first_block, follower, put_block, take_head};
@@ -55,10 +54,7 @@ impl Process {
         requires may { MayStep shape.now (InCall Allocate) table.now self.old.seat steps.old }
         requires owning { IsOwning shape.now Allocate made self.old }
         ensures one { OneStep self.old.seat self.new.seat steps.old steps.new }
-        ensures made { OwnMade Allocate self.old self.new }
-        ensures block { result ≡ next_block self.old.pool }
-        ensures plan { self.new.pool.plan ≡ after_took_one self.old.pool.plan }
-        ensures none { (result ≡ None) ↔ HasNoBlock self.old.pool.plan }
+        ensures made { AllocateMade result self.old self.new }
     {
         match source_of(&self.pool.plan) {
             Source::Current => self.own_allocate_from(Source::Current, made, shape, table, steps),
@@ -81,10 +77,7 @@ impl Process {
         requires may { MayStep shape.now (InCall Allocate) table.now self.old.seat steps.old }
         requires owning { IsOwning shape.now Allocate made self.old }
         ensures one { OneStep self.old.seat self.new.seat steps.old steps.new }
-        ensures made { OwnMade Allocate self.old self.new }
-        ensures block { result ≡ next_block self.old.pool }
-        ensures plan { self.new.pool.plan ≡ after_took_one self.old.pool.plan }
-        ensures none { (result ≡ None) ↔ HasNoBlock self.old.pool.plan }
+        ensures made { AllocateMade result self.old self.new }
     {
         let _ = made;
         self.pool.plan.took_one();

@@ -1,49 +1,39 @@
 -- `of_parts` moves two fields, and what they own goes with them.
+use mathlib.Core.Path.{◌≡◌, refl}
+use mathlib.Core.List.{[], ◌∷◌}
 use Rattle.std.specs.Prelude.{Some}
-use mathlib.Core.Path.{refl, sym, subst}
-use mathlib.Core.List.{List, [], ◌∷◌, ◌++◌}
-use mir.Val.{Val}
-use base.Logic.{ent, emp, id⊢}
-use base.Fml.{ftrue, fsep}
-use prog.Wp.{WpFn}
-use contract.Running.{tables}
-use types.Kit.{Item, ‵, raw, ◌⊛◌, ◌$◌, ◌∵◌, !, qed, by, move, drop, use1, join, split, fsplit, fjoin, suffices, done}
+use base.Logic.{id⊢}
+use types.Kit.{‵, ◌$◌, !, use1}
 use types.Part.{whole, sub, agg}
 use types.Run.{stop, fld, no_more, and_then, of_opd, returns, enter}
 use types.ByLocal.{alloc_all, pass_all, free_all, look_at, get, get_in, sets}
-use denote.Exit.{yes}
-use denote.Signature.{type_at}
-use denote.Steps.{nothing}
-use denote.Triple.Walked.{says, Stays, stay_dropped, walk_of, ends_at, Goes-dropped}
-use Rattle.std_alloc.proofs.BoxSteps.Form.{D, B, word, box_typed}
+use Rattle.std_alloc.proofs.BoxSteps.Form.{D, word, box_typed}
 use Rattle.std_alloc.proofs.BoxSteps.Steps.{box_out, box_in}
-use Rattle.std.proofs.raw_atomic.Walks.{proved_at}
-use Rattle.loskebri_c.proofs.AsBox.{E, FromParts as From}
-use Rattle.loskebri_c.specs.contracts.handle.LoskebriPass.of_parts as F
+use Rattle.loskebri_c.proofs.AsBox.{E, Parts, Pass}
+use Rattle.loskebri_c.proofs.ByValue.{ByValue, takes, is_one, makes}
 use Rattle.loskebri_c.specs.contracts.handle.LoskebriPass.of_parts.Key.{name as #self}
 use Rattle.loskebri_c.proofs.handle.LoskebriPass.of_parts.Statement as stated
 use Rattle.loskebri_c.proofs.handle.LoskebriPass.of_parts.Code as code
 
-abbrev stayed : Stays (F.ended).signature.params (F.ended).kept
-stayed = (stay_dropped From yes, tt)
+abbrev V : ByValue
+V = record {
+  taken = Parts;
+  made = Pass;
+  tells = λ parts pass. pass.member ≡ Some parts.value;
+  last = λ parts. tt;
+  silent = λ parts w. refl;
+}
 
 pub of_parts_spec : {M : Type 1} → stated.statement M
 of_parts_spec 𝓤 𝓛 𝓜 𝓡 wired =
-    let 𝓣 = tables 𝓤 𝓛.H 𝓜 𝓡 𝓡.env in
-    let clauses = F.clauses 𝓛 𝓜.mem 𝓡.returns in
-    proved_at 𝓛 F.ended stayed clauses 𝓜 𝓡 (Goes-dropped 𝓛 0 From yes (λ κs x f. refl), tt) #self code.function
-    (code.unfolded 𝓤 𝓛.H 𝓜 𝓡 wired) (λ z are.
-    let Post = (walk_of 𝓛 F.ended stayed clauses).post z in
+    takes V 𝓛 𝓜 𝓡 code.function #self (code.unfolded 𝓤 𝓛.H 𝓜 𝓡 wired) (λ z.
     let v : D E = record { ptr = z.0.3.0.at; alloc = z.0.3.0.alloc; value = z.0.3.0.value } in
-    let To = type_at (F.signature).result tt in
-    let made : To.Denot = record { at = v.ptr; alloc = v.alloc; member = Some v.value } in
-    qed 𝓛 ((‵ ftrue ⊛ ‵ (fsep ((B E).own_val v z.0.4.0) ftrue)) ∷ raw (emp 𝓤) ∷ []) ∵ split ! $ drop ! $ fsplit ! $
-    box_out E ! v z.0.4.0 (λ b o hv e ws fa. box_in E ! v b o v.value e refl $ use1 𝓛 (‵ (To.own_val made (word E hv b o ∷ []))) (id⊢ 𝓤 _) $ move ! (1 ∷ 2 ∷ []) $ drop ! $ drop ! $
-    let w = word E hv b o in
-    let Γ : List (Item 𝓤) = ‵ (To.own_val made (w ∷ [])) ∷ [] in
-    by ! (subst (λ (us : List Val). ent 𝓤 (types.Kit.⋆ 𝓛 Γ) (WpFn 𝓤 𝓛.H 𝓣.C 𝓣.Λ code.function (us ++ []) Post)) (sym ws)
-    (qed 𝓛 Γ ∵ enter ! 𝓣.C 𝓣.Λ code.function (w ∷ []) _ $ alloc_all ! (λ ls. pass_all ! refl (box_typed E hv b o fa, tt) $
-    sets ! (of_opd ! (get_in ! (fld ! refl (stop !)) (sub ! 0 refl (whole !)))) refl (tt, tt) $ sets ! (of_opd ! (get_in ! (fld ! refl (stop !)) (sub ! 1 refl (whole !)))) refl fa $
-    sets ! (agg ! (and_then ! (get ! refl) (and_then ! (get ! refl) (no_more !)))) refl (box_typed E hv b o fa) $ returns ! (look_at ! 0 refl) $ free_all ! refl $
-    suffices ! _ (ends_at 𝓛 F.ended stayed clauses z w made (tt, tt) (tt, tt)) $ says ! refl $
-    nothing ! $ nothing ! $ fjoin ! $ join ! $ nothing ! $ join ! $ done !)))))
+    let made : Pass.Denot = record { at = v.ptr; alloc = v.alloc; member = Some v.value } in
+    box_out E ! v z.0.4.0 (λ b o hv e one fa.
+    box_in E ! v b o v.value e refl $ use1 𝓛 (‵ (Pass.own_val made (word E hv b o ∷ []))) (id⊢ 𝓤 _) $
+    is_one V 𝓛 𝓜 𝓡 code.function ! z (word E hv b o) one $
+    enter ! _ _ _ _ _ $ alloc_all ! (λ ls. pass_all ! refl (box_typed E hv b o fa, tt) $
+    sets ! (of_opd ! (get_in ! (fld ! refl (stop !)) (sub ! 0 refl (whole !)))) refl (tt, tt) $
+    sets ! (of_opd ! (get_in ! (fld ! refl (stop !)) (sub ! 1 refl (whole !)))) refl fa $
+    sets ! (agg ! (and_then ! (get ! refl) (and_then ! (get ! refl) (no_more !)))) refl (box_typed E hv b o fa) $
+    returns ! (look_at ! 0 refl) $ free_all ! refl $ makes V 𝓛 z (word E hv b o) made refl)))
