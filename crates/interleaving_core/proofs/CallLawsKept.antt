@@ -17,7 +17,6 @@ use Rattle.process_sums.specs.Sums.{total}
 use Rattle.process_sums.proofs.Sums.{total_same, total_le}
 use Rattle.pool_model.specs.declared.entry.Entry.{Entry}
 use Rattle.pool_model.specs.History.{held, allowance, slack}
-use Rattle.transfer_schedule.specs.Numbers.{withheld}
 use Rattle.transfer_machine.specs.States.{StackState}
 use Rattle.transfer_machine.specs.Tries.{is_pending}
 use Rattle.transfer_machine.specs.Words.{first_of, stack}

@@ -1,5 +1,5 @@
 -- a take that an exchange of the state answers with nothing: few blocks are unheld then
-use Rattle.std.proofs.Common.{◌≡◌, ℕ, ◌+◌, ◌*◌, ◌<◌, ◌≤◌, true, List, length, refl}
+use Rattle.std.proofs.Common.{◌≡◌, ℕ, ◌+◌, ◌*◌, ◌<◌, ◌≤◌, true, List, length}
 use Rattle.std.proofs.Common.{arith}
 use Rattle.word_layout.specs.Sizes.{Sizes, IsShape, blocks, transfer_bound, limits_of, most_blocks}
 use Rattle.word_layout.specs.Packing.{reply_of}
@@ -8,7 +8,7 @@ use Rattle.process_sums.proofs.Sums.{total_le}
 use Rattle.pool_model.specs.declared.entry.Entry.{Entry}
 use Rattle.pool_model.specs.History.{held, HasFewUnheld}
 use Rattle.transfer_schedule.specs.Numbers.{withheld}
-use Rattle.transfer_machine.specs.States.{StackState, next_of}
+use Rattle.transfer_machine.specs.States.{next_of}
 use Rattle.transfer_machine.specs.Tries.{is_pending}
 use Rattle.transfer_invariant.specs.Memory.{Words, state_tag}
 use Rattle.batch_invariant.specs.Batches.{ProcessViews}

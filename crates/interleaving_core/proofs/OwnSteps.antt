@@ -174,7 +174,8 @@ module _ (sizes : Sizes) (words new : Words) (views after : ProcessViews) (histo
             (λ o lo ne. d.holds.empties o lo));
         few =
             each_owned (λ o y ledger knows. TakesHadFew (limits_of sizes)
-            (history ++ entries_of (happened (own_kind v) (own_answer v word))) ledger y.pool.plan) sizes.processes i x g mine views after ghosts.ledgers ghosts.known moved
+            (history ++ entries_of (happened (own_kind v) (own_answer v word))) ledger y.pool.plan)
+            sizes.processes i x g mine views after ghosts.ledgers ghosts.known moved
             (few_owned (limits_of sizes) history _ i word v.pool v.calls.call (ghosts.ledgers i) (d.holds.few i d.low))
             (λ o lo ne. few_longer (limits_of sizes) history _ (ghosts.ledgers o) (views o).pool.plan (d.holds.few o lo));
         names =

@@ -222,18 +222,20 @@ item_seen list s now i n d x same long low is = rw (sym same) (is ∙ get_or_def
 pub word_seen : (sizes : Sizes) (s now : CoreState) (place word : ℕ) → s ≡ now → SomeRun sizes s → place < table_words now.sizes
     → word ≡ get_or s.words place word → word ≡ get_or now.words place 0
 word_seen sizes s now place word same run low is =
-    item_seen (λ (x : CoreState). x.words) s now place (table_words now.sizes) 0 word same (run_lengths sizes s now same run).words low is
+    let lengths = run_lengths sizes s now same run in
+    item_seen (λ (x : CoreState). x.words) s now place (table_words now.sizes) 0 word same lengths.words low is
 
 pub view_seen : (sizes : Sizes) (s now : CoreState) (process : ℕ) (v : ProcessView) → s ≡ now → SomeRun sizes s
     → process < now.sizes.processes → v ≡ get_or s.views process v → v ≡ view_at now process
 view_seen sizes s now process v same run low is =
-    item_seen (λ (x : CoreState). x.views) s now process now.sizes.processes (opening_view now.sizes process) v same
-    (run_lengths sizes s now same run).views low is
+    let lengths = run_lengths sizes s now same run in
+    item_seen (λ (x : CoreState). x.views) s now process now.sizes.processes (opening_view now.sizes process) v same lengths.views low is
 
 pub holder_seen : (sizes : Sizes) (s now : CoreState) (block : ℕ) (holder : Option ℕ) → s ≡ now → SomeRun sizes s → block < blocks now.sizes
     → holder ≡ get_or s.holders block holder → holder ≡ holder_of now block
 holder_seen sizes s now block holder same run low is =
-    item_seen (λ (x : CoreState). x.holders) s now block (blocks now.sizes) None holder same (run_lengths sizes s now same run).holders low is
+    let lengths = run_lengths sizes s now same run in
+    item_seen (λ (x : CoreState). x.holders) s now block (blocks now.sizes) None holder same lengths.holders low is
 
 -- a process of a run is one of the processes
 pub run_among : (sizes : Sizes) (past : List Turn) (history : List Entry) (s : CoreState) (i : ℕ) → IsRun sizes past history s

@@ -4,14 +4,7 @@ use Rattle.interleaving_core.proofs.Runs.{run_lengths, may_go_here}
 use Rattle.interleaving_core.proofs.run.CoreRun.can_go.Goals as goal
 
 pub index-requires : goal.index-requires
-index-requires c =
-    omega (
-      arith,
-      c.self.inside.views.ok,
-      (run_lengths _ _ _ refl c.self.invariant).views,
-      c.if-event-processes.false,
-      c.processes.ensures.value,
-    )
+index-requires c = omega (arith, c.self.inside.views.ok, (run_lengths _ _ _ refl c.self.invariant).views)
 
 pub returns : goal.returns
 returns c =

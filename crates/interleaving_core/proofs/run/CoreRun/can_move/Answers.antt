@@ -3,8 +3,7 @@ use Rattle.interleaving_core.proofs.Runs.{run_lengths, may_go_alone_here}
 use Rattle.interleaving_core.proofs.run.CoreRun.can_move.Goals as goal
 
 pub index-requires : goal.index-requires
-index-requires c =
-    omega (arith, c.self.inside.views.ok, (run_lengths _ _ _ refl c.self.invariant).views, c.if-by-processes.true, c.processes.ensures.value)
+index-requires c = omega (arith, c.self.inside.views.ok, (run_lengths _ _ _ refl c.self.invariant).views)
 
 pub returns-then-by-processes : goal.returns-then-by-processes
 returns-then-by-processes c =

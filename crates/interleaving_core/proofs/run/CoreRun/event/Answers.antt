@@ -15,7 +15,8 @@ returns-then-not-can_go-clause-invariant c = λ past history run.
 
 pub call_process-happened-requires-clause-low : goal.call_process-happened-requires-clause-low
 call_process-happened-requires-clause-low c =
-    (run_due _ _ _ (Events c.args.event.now.by c.args.event.now.call) _ c.self.view_is c.self.invariant c.can_go.ensures c.if-not-can_go.false).low
+    (run_due _ _ _ (Events c.args.event.now.by c.args.event.now.call) _ c.self.view_is c.self.invariant c.can_go.ensures
+    c.if-not-can_go.false).low
 
 pub call_process-happened-requires-clause-whole : goal.call_process-happened-requires-clause-whole
 call_process-happened-requires-clause-whole c = (run_lengths _ _ _ refl c.self.invariant).words
@@ -24,7 +25,8 @@ pub call_process-happened-requires-clause-invariant : goal.call_process-happened
 call_process-happened-requires-clause-invariant c =
     let list = c.deref.ensures in
     rw (c.held_by-holds.ensures, list.value)
-    (run_due _ _ _ (Events c.args.event.now.by c.args.event.now.call) _ c.self.view_is c.self.invariant c.can_go.ensures c.if-not-can_go.false).among
+    (run_due _ _ _ (Events c.args.event.now.by c.args.event.now.call) _ c.self.view_is c.self.invariant c.can_go.ensures
+    c.if-not-can_go.false).among
 
 pub invariant_of-self : goal.invariant_of-self
 invariant_of-self c =
