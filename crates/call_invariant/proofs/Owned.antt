@@ -10,6 +10,7 @@ use Rattle.pool_model.specs.History.{grip}
 use Rattle.transfer_schedule.specs.Numbers.{Numbers, source_of, target_of, after_took_one, after_gave_one}
 use Rattle.transfer_schedule.specs.Account.{Account, follows, frees}
 use Rattle.transfer_schedule.specs.Account as schedule
+use Rattle.transfer_schedule.specs.Laws.{HasSizes}
 use Rattle.transfer_schedule.specs.Table.{InTable}
 use Rattle.transfer_schedule.specs.declared.pending.Pending.{Pending}
 use Rattle.transfer_schedule.specs.declared.pending.Pending.TheVariants.{Idle, Taking, Giving}
@@ -17,7 +18,7 @@ use Rattle.transfer_schedule.specs.declared.own_step.Source.{Source}
 use Rattle.transfer_schedule.specs.declared.own_step.Target.{Target}
 use Rattle.transfer_schedule.specs.declared.own_step.Source.TheVariants as source
 use Rattle.transfer_schedule.specs.declared.own_step.Target.TheVariants as target
-use Rattle.transfer_schedule.proofs.Operations.{one_more_few}
+use Rattle.transfer_schedule.proofs.Operations.{SameTransfer, one_more_few, took_same, gave_same, took_sizes, gave_sizes}
 use Rattle.transfer_schedule.proofs.Reaching.{reached_stands, stands_table}
 use Rattle.pool_machine.specs.declared.call.Call.{Call}
 use Rattle.pool_machine.specs.declared.call.Call.TheVariants.{Allocate, Free, Read, Write}
@@ -25,6 +26,7 @@ use Rattle.pool_machine.specs.declared.call.CallStage.TheVariants.{Between, Own}
 use Rattle.pool_machine.specs.declared.call.CallView.{CallView}
 use Rattle.pool_machine.specs.declared.view.PoolView.{PoolView}
 use Rattle.pool_machine.specs.declared.view.ProcessView.{ProcessView}
+use Rattle.pool_machine.proofs.Plans.{allocated_plan, freed_plan}
 use Rattle.pool_machine.specs.OwnSteps.{block_from, next_block, allocated, freed, pool_own_met, call_left, own_met}
 use Rattle.pool_invariant.specs.Holds.{PoolRuns}
 use Rattle.history_invariant.specs.Fits.{CountsEntries}
@@ -38,17 +40,14 @@ use Rattle.call_invariant.proofs.Moved.{not_fresh}
 
 -- an own step leaves the pending transfer of the plan, and its sizes
 record PendsAs (old new : Numbers) : Type 0 where
-  length : new.length ≡ old.length
-  bound : new.bound ≡ old.bound
-  quantum : new.quantum ≡ old.quantum
-  pending : new.pending ≡ old.pending
-  done : new.done ≡ old.done
+  sizes : HasSizes old.length old.bound old.quantum new
+  transfer : SameTransfer old new
 
 took_pends : (x : Numbers) → PendsAs x (after_took_one x)
-took_pends x = grind (arith, nat_tests)
+took_pends x = record { sizes = took_sizes x; transfer = took_same x }
 
 gave_pends : (x : Numbers) → PendsAs x (after_gave_one x)
-gave_pends x = grind (arith, nat_tests)
+gave_pends x = record { sizes = gave_sizes x; transfer = gave_same x }
 
 took_room : (x : Numbers) (l : ℕ) → x.length ≡ l → x.current ≤ l → (after_took_one x).current ≤ l
 took_room x l e h = grind (arith, nat_tests)
@@ -61,17 +60,17 @@ runs_with_pool : (sizes : Sizes) (v : ProcessView) (pool : PoolView) (calls : Ca
     → PoolRuns sizes (record v { pool = pool; calls = calls })
 runs_with_pool sizes v pool calls pends giving room h = record {
   kept = record {
-    batch = pends.length ∙ h.kept.batch;
-    bound = pends.bound ∙ h.kept.bound;
-    quantum = pends.quantum ∙ h.kept.quantum;
+    batch = pends.sizes.0 ∙ h.kept.batch;
+    bound = pends.sizes.1.0 ∙ h.kept.bound;
+    quantum = pends.sizes.1.1 ∙ h.kept.quantum;
     room = room;
-    idle = λ e. pends.pending ∙ h.kept.idle e;
-    none = λ e. pends.done ∙ h.kept.none e;
-    pending = λ e. pends.pending ∙ h.kept.pending e;
+    idle = λ e. pends.transfer.pending ∙ h.kept.idle e;
+    none = λ e. pends.transfer.done ∙ h.kept.none e;
+    pending = λ e. pends.transfer.pending ∙ h.kept.pending e;
     given = λ e. giving ∙ h.kept.given e;
     settled = λ e. giving ∙ h.kept.settled e;
   };
-  counted = λ e. rw pends.done (h.counted e);
+  counted = λ e. rw pends.transfer.done (h.counted e);
   index = h.index;
   age = h.age;
 }
@@ -107,7 +106,7 @@ left_calls sizes i v g new pool h own pends giving room heads plan phase = recor
   phase = phase;
   runs = runs_with_pool sizes v pool _ pends giving room h.runs;
   heads = heads;
-  announced = λ e. rw pends.done (h.announced e);
+  announced = λ e. rw pends.transfer.done (h.announced e);
   stage = record { none = λ e. refl; changes = λ e. cc; pending = λ e. cc; few = λ e. cc; some = λ e. cc };
   fresh = λ e. absurd (not_fresh sizes i v g h (λ between. apart (sym own ∙ between)) e);
 }
@@ -118,9 +117,6 @@ left_calls sizes i v g new pool h own pends giving room heads plan phase = recor
 -- an allocate, whether it is given a block or refused
 allocated_giving : (word : ℕ) (pool : PoolView) (s : Source) → (allocated word pool s).giving ≡ pool.giving
 allocated_giving word pool s = grind arith
-
-allocated_plan : (word : ℕ) (pool : PoolView) (s : Source) → (allocated word pool s).plan ≡ after_took_one pool.plan
-allocated_plan word pool s = grind arith
 
 allocate_leaves : (sizes : Sizes) (i : ℕ) (v : ProcessView) (word : ℕ) (g new : Ledger) → InCalls sizes i v g → v.calls.stage ≡ Own → v.calls.call ≡ Some Allocate
     → new.account.plan ≡ after_took_one g.account.plan → new.account.phase ≡ schedule.Between
@@ -143,9 +139,6 @@ refusals_leave sizes i v word g history entry h own call = allocate_leaves sizes
 -- a free
 freed_giving : (block : ℕ) (pool : PoolView) (t : Target) → (freed block pool t).giving ≡ pool.giving
 freed_giving block pool t = grind arith
-
-freed_plan : (block : ℕ) (pool : PoolView) (t : Target) → (freed block pool t).plan ≡ after_gave_one pool.plan
-freed_plan block pool t = grind arith
 
 free_phase : (calls : CallView) → calls.stage ≡ Own → changes_pool calls.call ≡ true → call_phase_at calls calls.stage ≡ schedule.Own
 free_phase calls own changes = rw own (at_own calls.call changes)

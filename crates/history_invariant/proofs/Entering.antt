@@ -9,6 +9,7 @@ use Rattle.pool_model.specs.History.{held, grip, is_got, is_back}
 use Rattle.transfer_schedule.specs.declared.own_step.Source.TheVariants.{Nothing}
 use Rattle.transfer_schedule.specs.Numbers.{AreSizes, source_of, after_took_one, after_gave_one}
 use Rattle.transfer_schedule.specs.Account.{Account, Own, gets, refuses, frees, follows}
+use Rattle.transfer_schedule.proofs.Operations.{took_same, gave_same}
 use Rattle.history_invariant.specs.Ledger.{Ledger}
 use Rattle.history_invariant.specs.Fits.{CountsEntries, LedgerFits}
 use Rattle.history_invariant.specs.Steps.{got_one, got_none, gave_back}
@@ -19,20 +20,14 @@ use Rattle.history_invariant.proofs.Fitting.{KeepsTransfer, Owes}
 use Rattle.history_invariant.proofs.Refusals.{refusal_may_follow, refusal_has_net}
 
 -- an own step leaves the transfer as it was
-took_keeps : (a : Account) → KeepsTransfer a (record a { plan = after_took_one a.plan })
-took_keeps a = grind (arith, nat_tests)
-
-gave_keeps : (a : Account) → KeepsTransfer a (record a { plan = after_gave_one a.plan })
-gave_keeps a = grind (arith, nat_tests)
-
 got_keeps : (a : Account) → KeepsTransfer a (got_one a)
-got_keeps a = let k = took_keeps a in record { begun = refl; ended = refl; pending = k.pending; done = k.done; dry = k.dry }
+got_keeps a = record { begun = refl; ended = refl; plan = took_same a.plan }
 
 none_keeps : (a : Account) → KeepsTransfer a (got_none a)
-none_keeps a = let k = took_keeps a in record { begun = refl; ended = refl; pending = k.pending; done = k.done; dry = k.dry }
+none_keeps a = record { begun = refl; ended = refl; plan = took_same a.plan }
 
 back_keeps : (a : Account) → KeepsTransfer a (gave_back a)
-back_keeps a = let k = gave_keeps a in record { begun = refl; ended = refl; pending = k.pending; done = k.done; dry = k.dry }
+back_keeps a = record { begun = refl; ended = refl; plan = gave_same a.plan }
 
 -- the account counts the entry
 got_counts : (a : Account) (entries : List Entry) (by block : ℕ)

@@ -10,6 +10,7 @@ use Rattle.pool_model.specs.History.{process_of, own}
 use Rattle.pool_model.specs.Legal.{MayFollow, HasNet}
 use Rattle.pool_model.proofs.Histories.{own_more, own_other, legal_more}
 use Rattle.transfer_schedule.specs.Account.{Account, Reached}
+use Rattle.transfer_schedule.proofs.Operations.{SameTransfer, same_transfer}
 use Rattle.history_invariant.specs.Ledger.{Ledger, Ledgers}
 use Rattle.history_invariant.specs.Fits.{CountsEntries, SeesBeginning, KeepsPlaces, HadFewSince, FoundFew, LedgerFits}
 use Rattle.history_invariant.specs.Holds.{HistoryHolds}
@@ -56,12 +57,10 @@ few_more limits history entry start h = record {
 pub record KeepsTransfer (a b : Account) : Type 0 where
   pub begun : b.begun ≡ a.begun
   pub ended : b.ended ≡ a.ended
-  pub pending : b.plan.pending ≡ a.plan.pending
-  pub done : b.plan.done ≡ a.plan.done
-  pub dry : b.plan.dry ≡ a.plan.dry
+  pub plan : SameTransfer a.plan b.plan
 
 keeps_same : (a : Account) → KeepsTransfer a a
-keeps_same a = record { begun = refl; ended = refl; pending = refl; done = refl; dry = refl }
+keeps_same a = record { begun = refl; ended = refl; plan = same_transfer a.plan }
 
 places_more : (history : List Entry) (entry : Entry) (i : ℕ) (old new : Ledger)
     → new.begun_place ≡ old.begun_place
@@ -71,7 +70,7 @@ places_more history entry i old new b e k p = record {
   begun_within = omega (arith, b, p.begun_within, length-append history (entry ∷ []));
   begun_here =
       λ announced. rw b
-      (rw (take-append-le old.begun_place history (entry ∷ []) p.begun_within) (p.begun_here (rw k.done at announced) ∙ sym k.begun));
+      (rw (take-append-le old.begun_place history (entry ∷ []) p.begun_within) (p.begun_here (rw k.plan.done at announced) ∙ sym k.begun));
   ended_within = omega (arith, e, p.ended_within, length-append history (entry ∷ []));
   ended_here = rw e (rw (take-append-le old.ended_place history (entry ∷ []) p.ended_within) (p.ended_here ∙ sym k.ended));
 }
@@ -87,8 +86,8 @@ found_more limits history entry old new b e n k f = record {
   pending =
       λ taking announced nothing. rw b
       (few_more limits history entry old.begun_place
-      (f.pending (rw k.pending at taking) (rw k.done at announced) (sym n ∙ nothing)));
-  dry = λ dry. rw e (few_more limits history entry old.ended_place (f.dry (sym k.dry ∙ dry)));
+      (f.pending (rw k.plan.pending at taking) (rw k.plan.done at announced) (sym n ∙ nothing)));
+  dry = λ dry. rw e (few_more limits history entry old.ended_place (f.dry (sym k.plan.dry ∙ dry)));
 }
 
 -- another's entry

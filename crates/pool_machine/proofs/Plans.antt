@@ -44,12 +44,12 @@ due_begins v Take h e = grind (arith, nat_tests)
 due_begins v (Give head) h e = grind (arith, nat_tests)
 
 -- the own steps are the schedule's
-allocated_plan : (word : ℕ) (pool : PoolView) (s : Source) → (allocated word pool s).plan ≡ schedule.after_took_one pool.plan
+pub allocated_plan : (word : ℕ) (pool : PoolView) (s : Source) → (allocated word pool s).plan ≡ schedule.after_took_one pool.plan
 allocated_plan word pool source.Current = refl
 allocated_plan word pool source.Spare = refl
 allocated_plan word pool source.Nothing = refl
 
-freed_plan : (block : ℕ) (pool : PoolView) (t : Target) → (freed block pool t).plan ≡ schedule.after_gave_one pool.plan
+pub freed_plan : (block : ℕ) (pool : PoolView) (t : Target) → (freed block pool t).plan ≡ schedule.after_gave_one pool.plan
 freed_plan block pool target.Current = refl
 freed_plan block pool target.Fresh = refl
 

@@ -10,7 +10,7 @@ use Rattle.transfer_schedule.specs.declared.call.PlannedCall.{PlannedCall}
 use Rattle.transfer_schedule.specs.Numbers.{Numbers, AreSizes, is_idle, is_taking, opening, after_choice, after_steps, after_end, source_of, kept, withheld}
 use Rattle.transfer_schedule.specs.Table.{InTable}
 use Rattle.transfer_schedule.specs.Calls.{after_transfer, ready_for, after_own, after_call, after_calls, Fits, FitAll, LeavesIdle, IsMoment, between, moving, ready}
-use Rattle.transfer_schedule.proofs.Operations.{idle_is, busy_not_idle, not_idle_busy, no_steps, end_steps, choice_busy, choice_sizes, end_sizes, took_sizes, took_pending, gave_sizes, gave_pending}
+use Rattle.transfer_schedule.proofs.Operations.{idle_is, busy_not_idle, not_idle_busy, no_steps, end_steps, choice_busy, choice_sizes, end_sizes, took_sizes, took_same, gave_sizes, gave_same}
 use Rattle.transfer_schedule.proofs.Standing.{Standing, Ready, opening_stands, choice_stands, choice_ready, steps_stand, steps_ready, end_ready, took_stands, gave_stands, young, nothing_dry}
 use Rattle.transfer_schedule.proofs.Spared.{Spared, spared_standing, spared_ready, spared_table, spared_rests, spared_withholds}
 
@@ -132,8 +132,8 @@ own_rested size entries begun Free x p =
     record { ended = p.ended; standing = gave_stands x entries begun p.ended p.ready; sized = (gave_sizes x).0 ∙ p.sized }
 
 pub own_pending : (own : OwnStep) (x : Numbers) → (after_own own x).pending ≡ x.pending
-own_pending Allocate x = took_pending x
-own_pending Free x = gave_pending x
+own_pending Allocate x = (took_same x).pending
+own_pending Free x = (gave_same x).pending
 
 -- a whole call
 pub call_rested : (size entries begun : ℕ) (call : PlannedCall) (x : Numbers)

@@ -1,5 +1,5 @@
 -- What each operation on the numbers of a plan leaves as it was.
-use Rattle.std.proofs.Common.{◌≡◌, ◌≢◌, ℕ, ◌+◌, ◌≤◌, Bool, true, false, arith}
+use Rattle.std.proofs.Common.{◌≡◌, ◌≢◌, ℕ, ◌+◌, ◌≤◌, Bool, true, false, refl, arith}
 use Rattle.std.proofs.lemmas.Bool.Decides.{nat_tests}
 use Rattle.transfer_schedule.specs.declared.pending.Pending.{Pending}
 use Rattle.transfer_schedule.specs.declared.pending.Pending.TheVariants.{Idle}
@@ -33,11 +33,21 @@ end_steps x found steps = grind (arith, nat_tests)
 pub took_nothing : (x : Numbers) → source_of x ≡ Nothing → after_took_one x ≡ x
 took_nothing x none = grind (arith, nat_tests)
 
-pub took_pending : (x : Numbers) → (after_took_one x).pending ≡ x.pending
-took_pending x = grind (arith, nat_tests)
+-- two plans have the same transfer pending, as far along, and say the same of what the last take found
+pub record SameTransfer (old new : Numbers) : Type 0 where
+  pub pending : new.pending ≡ old.pending
+  pub done : new.done ≡ old.done
+  pub dry : new.dry ≡ old.dry
 
-pub gave_pending : (x : Numbers) → (after_gave_one x).pending ≡ x.pending
-gave_pending x = grind (arith, nat_tests)
+pub same_transfer : (x : Numbers) → SameTransfer x x
+same_transfer x = record { pending = refl; done = refl; dry = refl }
+
+-- so it is before and after an own step
+pub took_same : (x : Numbers) → SameTransfer x (after_took_one x)
+took_same x = grind (arith, nat_tests)
+
+pub gave_same : (x : Numbers) → SameTransfer x (after_gave_one x)
+gave_same x = grind (arith, nat_tests)
 
 -- the sizes stay
 pub choice_sizes : (x : Numbers) → HasSizes x.length x.bound x.quantum (after_choice x)
