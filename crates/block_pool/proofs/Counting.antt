@@ -20,6 +20,7 @@ balanced sizes x f =
     let v = x.seat.view in
     (legal_shared (limits_of v.sizes) v.mind.seen (stands sizes x f).legal).balance (number_of v.mind) (seat_at sizes x f).low
 
+-- a process holds no more blocks than a pool may have
 pub holds_few : (sizes : Sizes) (x : Process) → BetweenCalls sizes x → length (held_in x.seat.view.mind) ≤ most_blocks
 holds_few sizes x f =
     let all = each_holds_few x.seat.view f.among f.of_process in

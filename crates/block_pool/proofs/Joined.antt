@@ -3,18 +3,18 @@ use Rattle.std.proofs.Common.{◌≡◌, ℕ, ◌+◌, ◌*◌, ◌^◌, ◌≤�
 use Rattle.std.specs.List.{All}
 use Rattle.std.proofs.lemmas.List.{map-append}
 use Rattle.std.proofs.lemmas.List.Elements.{All-same, All-head, All-tail}
-use Rattle.word_layout.specs.Sizes.{Sizes, IsShape, blocks}
+use Rattle.word_layout.specs.Sizes.{Sizes, IsShape}
 use Rattle.word_table.specs.Seats.{Seated, SameSeat}
 use Rattle.pool_table.specs.Minds.{Mind, held_in}
 use Rattle.pool_table.specs.Views.{SeatView}
 use Rattle.pool_table.specs.Steps.{Among}
 use Rattle.pool_table.specs.Joins.{Joined}
 use Rattle.pool_seats.specs.Settling.{held_count}
-use Rattle.pool_seats.proofs.Settling.{each_holds_few}
 use Rattle.block_pool.specs.declared.process.Process.{Process}
 use Rattle.block_pool.specs.Passing.{Pooled, Passed, IsOf, PassFits, pass_of}
 use Rattle.block_pool.specs.Closing.{AreAllPasses}
 use Rattle.block_pool.specs.Joining.{Told, told_by_mind, told_by_pass, HasJoined}
+use Rattle.block_pool.proofs.Counting.{holds_few}
 
 -- the loop that joins them: the kept seat has the minds of all passes but the further ones, in their order
 pub record IsJoining (pool : Pooled) (passes further : List Passed) (steps : ℕ) (kept : Seated SeatView) (holding : ℕ) : Type 0 where
@@ -29,14 +29,6 @@ pub record IsJoining (pool : Pooled) (passes further : List Passed) (steps : ℕ
   pub few : holding + 2 ^ 22 * length further ≤ 2 ^ 27
   pub short : steps + 2 * length further ≤ 64
 
--- what the seat of a pass tells of it
-fits_few : (pool : Pooled) (sizes : Sizes) (process : Process) (holding : ℕ) → IsShape pool.sizes → IsOf pool (pass_of process.seat)
-    → PassFits sizes process holding → holding ≤ 2 ^ 22
-fits_few pool sizes process holding shape is_of fits =
-    let between = fits.between_calls in
-    let few = each_holds_few process.seat.view between.among between.of_process in
-    omega (arith, few, fits.counted, shape.few_blocks, ap blocks is_of.sizes)
-
 -- the first one keeps its seat
 pub first_kept : (pool : Pooled) (passes further : List Passed) (pass : Passed) (sizes : Sizes) (process : Process) (holding steps : ℕ)
     → IsShape pool.sizes → AreAllPasses pool passes → passes ≡ pass ∷ further → pass ≡ pass_of process.seat
@@ -47,7 +39,7 @@ first_kept pool passes further pass sizes process holding steps shape all split 
     let passed : passes ≡ pass_of process.seat ∷ further = split ∙ ap (λ p. p ∷ further) is in
     let each = All-same (IsOf pool) (pass_of process.seat ∷ further) passes (sym passed) all.each in
     let is_of = All-head (IsOf pool) (pass_of process.seat) further each in
-    let few = fits_few pool sizes process holding shape is_of fits in
+    let few = holds_few sizes process between in
     let many = ap length passed in
     record {
       at_table = is_of.table;
@@ -58,7 +50,7 @@ first_kept pool passes further pass sizes process holding steps shape all split 
           ∙ sym (ap (map told_by_pass) passed);
       each = All-tail (IsOf pool) (pass_of process.seat) further each;
       counted = omega (arith, fits.counted, ap held_count fits.bare);
-      few = omega (arith, few, many, all.many, shape.few_processes);
+      few = omega (arith, few, fits.counted, many, all.many, shape.few_processes);
       short = omega (arith, none, many, all.many, shape.few_processes);
     }
 
@@ -71,13 +63,12 @@ next_is_of pool passes before further pass kept process steps holding joining sp
 
 -- its blocks can be added
 pub next_is_few : (pool : Pooled) (passes before further : List Passed) (pass : Passed) (kept : Seated SeatView) (sizes : Sizes)
-    (process : Process) (steps held holding : ℕ) → IsShape pool.sizes → IsJoining pool passes before steps kept held
-    → before ≡ pass ∷ further → pass ≡ pass_of process.seat → PassFits sizes process holding
+    (process : Process) (steps held holding : ℕ) → IsJoining pool passes before steps kept held
+    → before ≡ pass ∷ further → PassFits sizes process holding
     → held + holding + 2 ^ 22 * length further ≤ 2 ^ 27
-next_is_few pool passes before further pass kept sizes process steps held holding shape joining split is fits =
-    let is_of = next_is_of pool passes before further pass kept process steps held joining split is in
-    let few = fits_few pool sizes process holding shape is_of fits in
-    omega (arith, few, joining.few, ap length split)
+next_is_few pool passes before further pass kept sizes process steps held holding joining split fits =
+    let few = holds_few sizes process fits.between_calls in
+    omega (arith, few, fits.counted, joining.few, ap length split)
 
 -- what the kept seat holds and what it tells, with one more
 held_more : (minds : List Mind) (mind : Mind) → held_count (minds ++ mind ∷ []) ≡ held_count minds + length (held_in mind)
@@ -92,12 +83,11 @@ told_more first taken mind further =
 
 -- the next one is joined
 pub one_joined : (pool : Pooled) (passes before further : List Passed) (pass : Passed) (kept after : Seated SeatView) (sizes : Sizes)
-    (process : Process) (steps ticked held holding : ℕ) → IsShape pool.sizes → IsJoining pool passes before steps kept held
+    (process : Process) (steps ticked held holding : ℕ) → IsJoining pool passes before steps kept held
     → before ≡ pass ∷ further → pass ≡ pass_of process.seat → PassFits sizes process holding
     → SameSeat kept after → ticked ≡ steps + 2 → Joined kept.view process.seat.view after.view
     → IsJoining pool passes further ticked after (held + holding)
-one_joined pool passes before further pass kept after sizes process steps ticked held holding shape joining split is fits same ticks
-    joined =
+one_joined pool passes before further pass kept after sizes process steps ticked held holding joining split is fits same ticks joined =
     let mind = process.seat.view.mind in
     let old = kept.view in
     let passed : before ≡ pass_of process.seat ∷ further = split ∙ ap (λ p. p ∷ further) is in
@@ -119,7 +109,7 @@ one_joined pool passes before further pass kept after sizes process steps ticked
         ap (λ (v : SeatView). held_count (v.mind ∷ v.taken)) joined.view,
         held_more (old.mind ∷ old.taken) mind,
       );
-      few = next_is_few pool passes before further pass kept sizes process steps held holding shape joining split is fits;
+      few = next_is_few pool passes before further pass kept sizes process steps held holding joining split fits;
       short = omega (arith, joining.short, ticks, ap length split);
     }
 

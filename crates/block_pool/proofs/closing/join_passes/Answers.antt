@@ -16,9 +16,8 @@ loop-pass-init c =
 
 pub overflow_add-held : goal.overflow_add-held
 overflow_add-held c =
-    let shape = subst (λ (pool : Pooled). IsShape pool.sizes) c.pool.view_is c.processes.ensures.shape in
-    let few = next_is_few _ _ _ _ _ _ _ c.pass.inside.process _ _ _ shape c.loop-pass.invariant c.in-Some-pass.ensures.steps.0
-    (sym c.pass.view_is) c.pass.invariant in
+    let few = next_is_few _ _ _ _ _ _ _ c.pass.inside.process _ _ _ c.loop-pass.invariant c.in-Some-pass.ensures.steps.0
+    c.pass.invariant in
     let fits : c.loop-pass.held + c.pass.inside.holding < 2 ^ 32 = omega (arith, few) in
     search rules
 
@@ -30,8 +29,7 @@ join_seats-requires-clause-other c =
 
 pub loop-pass-preserved : goal.loop-pass-preserved
 loop-pass-preserved c =
-    let shape = subst (λ (pool : Pooled). IsShape pool.sizes) c.pool.view_is c.processes.ensures.shape in
-    one_joined _ _ _ _ _ _ _ _ c.pass.inside.process _ _ _ _ shape c.loop-pass.invariant c.in-Some-pass.ensures.steps.0 (sym c.pass.view_is)
+    one_joined _ _ _ _ _ _ _ _ c.pass.inside.process _ _ _ _ c.loop-pass.invariant c.in-Some-pass.ensures.steps.0 (sym c.pass.view_is)
     c.pass.invariant c.join_seats.ensures.seat c.join_seats.ensures.steps c.join_seats.ensures.joined
 
 pub returns : goal.returns

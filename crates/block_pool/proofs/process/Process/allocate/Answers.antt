@@ -1,7 +1,10 @@
 use Rattle.std.proofs.Common.{ap, subst, arith}
 use Rattle.block_pool.specs.Moves.{MovedOn, PlanRuns}
-use Rattle.block_pool.proofs.Calls.{begun_plan, begun_age, begun_quantum, number_is, call_made, allocate_entries}
+use Rattle.block_pool.proofs.Calls.{due_begins, begun_plan, begun_age, begun_quantum, number_is, call_made, allocate_entries}
 use Rattle.block_pool.proofs.process.Process.allocate.Goals as goal
+
+pub begin-requires : goal.begin-requires
+begin-requires g c = due_begins _ c.args.self.now c.requires.ready.between
 
 pub run_pending-made-requires-clause-quantum : goal.run_pending-made-requires-clause-quantum
 run_pending-made-requires-clause-quantum g c =
