@@ -23,7 +23,7 @@ use Rattle.pool_table.specs.Rule.{views_of}
 use Rattle.pool_table.specs.Views.{SeatView, seat_of_process}
 use Rattle.pool_table.specs.Steps.{Among, CanStep}
 use Rattle.pool_table.specs.Transfers.{Agrees}
-use Rattle.pool_table.proofs.Transfers.{transfer_can_act}
+use Rattle.pool_table.proofs.Transfers.{transfer_can_act, turns_same}
 use Rattle.pool_table.proofs.Turns.{seat_of}
 use Rattle.batch_stack.specs.declared.progress.Progress.{Progress}
 use Rattle.batch_stack.specs.declared.progress.Progress.TheVariants.{Going, Took, Gave}
@@ -64,9 +64,6 @@ at_rest sizes v t r = ap (λ (u : TransferView). is_rest u.next) r.same ∙ ap i
 
 pub turns_at_rest : (wish : Wish) (v : ProcessView) → is_rest v.transfer.next ≡ true → moving_view wish v ≡ alone_begun wish v
 turns_at_rest wish v rest = rw rest refl
-
-pub turns_busy : (wish : Wish) (v : ProcessView) → is_rest v.transfer.next ≡ false → moving_view wish v ≡ v
-turns_busy wish v busy = rw busy refl
 
 -- what begins at rest
 begins : (sizes : Sizes) (wish : Wish) (v : SeatView) (t : TransferView) → RestsAlone sizes v t → t.age < most_age
@@ -124,7 +121,7 @@ going_spares : (sizes : Sizes) (wish : Wish) (x : SeatView) (u : TransferView) �
     → x.mind.view.transfer ≡ u → spares_about (Alone u.wish) x ≡ spares_in x
 going_spares sizes wish x u goes mirrors =
     let busy : is_rest x.mind.view.transfer.next ≡ false = ap (λ (z : TransferView). is_rest z.next) mirrors ∙ goes.busy in
-    ap (λ (z : ProcessView). z.pool.heads) (turns_busy u.wish x.mind.view busy)
+    ap (λ (z : ProcessView). z.pool.heads) (turns_same u.wish x.mind.view busy)
 
 pub step_advances : (sizes : Sizes) (v x : SeatView) (t u : TransferView) (answer : Progress)
     → MadeStep sizes (Alone t.wish) v t x u answer → (answer ≡ Going → GoesOn sizes (Alone t.wish) x u)

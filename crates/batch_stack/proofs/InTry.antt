@@ -20,14 +20,14 @@ use Rattle.pool_table.specs.declared.about.About.TheVariants.{Alone}
 use Rattle.pool_table.specs.Views.{SeatView}
 use Rattle.pool_table.specs.Steps.{CanStep, MayStep, Stepped}
 use Rattle.pool_table.specs.Transfers.{Agrees}
-use Rattle.pool_table.proofs.Transfers.{transfer_can_act, transfer_can_meet}
+use Rattle.pool_table.proofs.Transfers.{transfer_can_act, transfer_can_meet, turns_same}
 use Rattle.announce.specs.Heard.{LoadsAnnouncement}
 use Rattle.versioned_records.specs.declared.reader.ReadStep.{ReadStep}
 use Rattle.versioned_records.specs.Reading.{Reading, CanReadOn, HasReadOn, opened, begun}
 use Rattle.batch_stack.specs.declared.progress.Progress.TheVariants.{Going}
 use Rattle.batch_stack.specs.Alone.{GoesAlone, ReadsAlone}
 use Rattle.batch_stack.specs.Running.{Running, IsInTry, progress_at}
-use Rattle.batch_stack.proofs.Alone.{turns_at_rest, turns_busy}
+use Rattle.batch_stack.proofs.Alone.{turns_at_rest}
 use Rattle.batch_stack.proofs.Bounds.{goes_on}
 use Rattle.batch_stack.proofs.Parts.{part_loads, part_hears}
 
@@ -65,7 +65,7 @@ pub any_wish_agrees : (sizes : Sizes) (v : SeatView) (t : TransferView) (s : Try
     → Agrees (Alone next) v t
 any_wish_agrees sizes v t s next goes tries =
     let busy = is_busy sizes v t s goes tries in
-    let same = turns_busy next v.mind.view busy ∙ sym (turns_busy t.wish v.mind.view busy) in
+    let same = turns_same next v.mind.view busy ∙ sym (turns_same t.wish v.mind.view busy) in
     record {
       same = ap (λ (z : ProcessView). z.transfer) same ∙ goes.agrees.same;
       moves = subst (λ z. moves_transfer z ≡ true) (sym same) goes.agrees.moves;

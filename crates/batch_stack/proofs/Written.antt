@@ -23,7 +23,8 @@ use Rattle.versioned_records.specs.Writing.{Writing, CanWrite, CanWriteOn, HasWr
 use Rattle.versioned_records.proofs.Writing.{more_tests}
 use Rattle.batch_stack.specs.Alone.{GoesAlone, HasDrafted, WritesAlone}
 use Rattle.batch_stack.specs.Running.{Running, IsInTry}
-use Rattle.batch_stack.proofs.Alone.{turns_at_rest, turns_busy}
+use Rattle.pool_table.proofs.Transfers.{turns_same}
+use Rattle.batch_stack.proofs.Alone.{turns_at_rest}
 use Rattle.batch_stack.proofs.InTry.{any_wish_can, any_wish_agrees}
 use Rattle.batch_stack.proofs.Parts.{part_stores}
 
@@ -31,7 +32,7 @@ use Rattle.batch_stack.proofs.Parts.{part_stores}
 draft_by : (wish : Wish) (v : ProcessView) (rest : Bool) → is_rest v.transfer.next ≡ rest
     → (moving_view wish v).transfer.draft ≡ v.transfer.draft
 draft_by wish v true e = ap (λ (z : ProcessView). z.transfer.draft) (turns_at_rest wish v e)
-draft_by wish v false e = ap (λ (z : ProcessView). z.transfer.draft) (turns_busy wish v e)
+draft_by wish v false e = ap (λ (z : ProcessView). z.transfer.draft) (turns_same wish v e)
 
 draft_stays : (wish : Wish) (v : ProcessView) → (moving_view wish v).transfer.draft ≡ v.transfer.draft
 draft_stays wish v = draft_by wish v (is_rest v.transfer.next) refl

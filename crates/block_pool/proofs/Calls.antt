@@ -27,6 +27,7 @@ use Rattle.interleaving_core.specs.Invariant.{BlockIsHeld}
 use Rattle.interleaving_core.specs.Moves.{may_go, calling_view}
 use Rattle.interleaving_core.specs.Runs.{entries_of}
 use Rattle.interleaving_core.specs.Steps.{is_in_call, next_answer}
+use Rattle.interleaving_core.proofs.CallLawsData.{begun_first}
 use Rattle.pool_table.specs.declared.about.About.TheVariants.{InCall}
 use Rattle.pool_table.specs.Minds.{number_of, entries_in, held_in}
 use Rattle.pool_table.specs.Turns.{turning, words_by_call, words_known_after}
@@ -59,9 +60,6 @@ may_begin : (sizes : Sizes) (call : Call) (v : ProcessView) → v.calls.stage �
     → may_go sizes true call v ≡ true
 may_begin sizes call v e may = ap (λ stage. is_in_call stage || may_call sizes true call v) e ∙ may
 
-begins_so : (call : Call) (v : ProcessView) → v.calls.stage ≡ Between → calling_view call v ≡ call_begun call v
-begins_so call v e = rw e refl
-
 call_starts : (sizes : Sizes) (call : Call) (x : Process) → BetweenCalls sizes x → is_young_for call x.seat.view.mind.view ≡ true
     → names_fit sizes true call ≡ true → BlockIsHeld (held_in x.seat.view.mind) call
     → CanGo sizes call (call_begun call x.seat.view.mind.view) x.seat.view
@@ -71,7 +69,7 @@ call_starts sizes call x f young names held =
     f.way young names in
     record {
       can = call_can_step sizes call v f.of_process f.shape f.among (may_begin sizes call v.mind.view f.between may) held;
-      view = begins_so call v.mind.view f.between;
+      view = begun_first call v.mind.view f.between;
     }
 
 low_test : (a b : ℕ) → a < b → nat_lt a b ≡ true

@@ -135,7 +135,7 @@ give_found (Give head) Nothing a e = absurd a
 give_found (Give head) (Took batch) a e = refl
 give_found (Give head) Gave a e = refl
 
-take_wished : (wish : Wish) → is_taking (pending_of wish) ≡ true → is_take wish ≡ true
+pub take_wished : (wish : Wish) → is_taking (pending_of wish) ≡ true → is_take wish ≡ true
 take_wished Take e = refl
 take_wished (Give head) e = grind arith
 

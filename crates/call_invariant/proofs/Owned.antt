@@ -18,7 +18,7 @@ use Rattle.transfer_schedule.specs.declared.own_step.Source.{Source}
 use Rattle.transfer_schedule.specs.declared.own_step.Target.{Target}
 use Rattle.transfer_schedule.specs.declared.own_step.Source.TheVariants as source
 use Rattle.transfer_schedule.specs.declared.own_step.Target.TheVariants as target
-use Rattle.transfer_schedule.proofs.Operations.{SameTransfer, one_more_few, took_same, gave_same, took_sizes, gave_sizes}
+use Rattle.transfer_schedule.proofs.Operations.{SameTransfer, same_transfer, one_more_few, took_same, gave_same, took_sizes, gave_sizes}
 use Rattle.transfer_schedule.proofs.Reaching.{reached_stands, stands_table}
 use Rattle.pool_machine.specs.declared.call.Call.{Call}
 use Rattle.pool_machine.specs.declared.call.Call.TheVariants.{Allocate, Free, Read, Write}
@@ -61,8 +61,8 @@ runs_with_pool : (sizes : Sizes) (v : ProcessView) (pool : PoolView) (calls : Ca
 runs_with_pool sizes v pool calls pends giving room h = record {
   kept = record {
     batch = pends.sizes.0 ∙ h.kept.batch;
-    bound = pends.sizes.1.0 ∙ h.kept.bound;
-    quantum = pends.sizes.1.1 ∙ h.kept.quantum;
+    bound = pends.sizes.1 ∙ h.kept.bound;
+    quantum = pends.sizes.2 ∙ h.kept.quantum;
     room = room;
     idle = λ e. pends.transfer.pending ∙ h.kept.idle e;
     none = λ e. pends.transfer.done ∙ h.kept.none e;
@@ -226,4 +226,4 @@ pub keeping_steps_leave : (sizes : Sizes) (i : ℕ) (v : ProcessView) (word : �
     → InCalls sizes i (own_met v word) g
 keeping_steps_leave sizes i v word g h own keeps =
     rw (same_pool word v.pool v.calls.call keeps) (left_calls sizes i v g g v.pool h own
-    (record { length = refl; bound = refl; quantum = refl; pending = refl; done = refl }) refl h.runs.kept.room h.heads h.plan (h.phase ∙ kept_phase v.calls own keeps))
+    (record { sizes = (refl, refl, refl); transfer = same_transfer v.pool.plan }) refl h.runs.kept.room h.heads h.plan (h.phase ∙ kept_phase v.calls own keeps))

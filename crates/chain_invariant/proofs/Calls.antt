@@ -251,14 +251,14 @@ module _ (sizes : Sizes) (words : Words) (s : StackState) (views : ProcessViews)
   -- of any call
   pub own_can_at : (call : Option Call) → (views i).pool.plan.length ≡ sizes.length → (views i).pool.plan.current ≤ sizes.length
       → NamesHeld sizes (held i) call
-      → ((views i).pool.plan.current ≡ sizes.length → length (views i).pool.heads < 3)
+      → ((block : ℕ) → call ≡ Some (Free block) → (views i).pool.plan.current ≡ sizes.length → length (views i).pool.heads < 3)
       → CanOwnFor sizes (views i).pool call × CanMeetOwnFor (views i).pool (words (name_of (own_action_for (views i).pool call))) call
       × InRange sizes (name_of (own_action_for (views i).pool call))
   own_can_at None size within names room = (tt, tt, tt)
   own_can_at (Some Allocate) size within names room =
       allocate_can (nat_lt 0 (views i).pool.plan.current) (nat_lt 0 (views i).pool.plan.spares) refl refl
   own_can_at (Some (Free block)) size within names room = (
-    (held_low block names, free_can (nat_lt (views i).pool.plan.current (views i).pool.plan.length) size within refl room),
+    (held_low block names, free_can (nat_lt (views i).pool.plan.current (views i).pool.plan.length) size within refl (room block refl)),
     tt,
     held_low block names,
   )

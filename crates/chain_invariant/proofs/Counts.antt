@@ -20,7 +20,8 @@ use Rattle.batch_invariant.specs.Places.{given, moving}
 use Rattle.batch_invariant.specs.Batches.{ProcessViews, weight}
 use Rattle.batch_invariant.proofs.Moving.{moving_begun, moving_pending}
 use Rattle.chain_invariant.specs.Chains.{BlockLists, ChainsHold, pool_weight, times_pooled, blocks_weight, is_head}
-use Rattle.chain_invariant.specs.Laws.{IsFree, WishIsBlock, kept_blocks}
+use Rattle.chain_invariant.specs.Laws.{IsFree, kept_blocks}
+use Rattle.transfer_invariant.specs.Laws.{WishIsBlock}
 use Rattle.chain_invariant.proofs.Weights.{counts_itself, has_weighs, weighs_none, weight_each}
 use Rattle.chain_invariant.proofs.Pool.{pool_same, pool_each, content_pooled, spare_pooled, moving_pooled}
 use Rattle.chain_invariant.proofs.Lists.{begins, code_first, empty_code}

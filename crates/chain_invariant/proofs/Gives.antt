@@ -12,12 +12,12 @@ use Rattle.transfer_machine.specs.declared.stage.NextStep.TheVariants.{Announce}
 use Rattle.transfer_invariant.specs.Installing.{drafted_state}
 use Rattle.transfer_invariant.specs.Memory.{Words}
 use Rattle.transfer_invariant.specs.Progress.{has_announced}
-use Rattle.transfer_invariant.specs.Laws.{DraftFits}
+use Rattle.transfer_invariant.specs.Laws.{DraftFits, WishIsBlock}
 use Rattle.batch_invariant.specs.Places.{moving}
 use Rattle.batch_invariant.specs.Batches.{ProcessViews}
 use Rattle.batch_invariant.specs.Premises.{InstallsNext}
 use Rattle.chain_invariant.specs.Chains.{BlockLists, Chains, times_pooled}
-use Rattle.chain_invariant.specs.Laws.{IsFree, WishIsBlock}
+use Rattle.chain_invariant.specs.Laws.{IsFree}
 use Rattle.chain_invariant.proofs.Moves.{installs_carry}
 use Rattle.chain_invariant.proofs.Pool.{spare_pooled}
 use Rattle.chain_invariant.proofs.Places.{head_once}

@@ -5,7 +5,6 @@ use Rattle.process_sums.specs.Sums.{total}
 use Rattle.word_layout.specs.Sizes.{Sizes, IsShape, blocks}
 use Rattle.word_layout.specs.Packing.{value_of, reply_of}
 use Rattle.word_layout.specs.declared.announced.Wish.{Wish}
-use Rattle.word_layout.specs.declared.announced.Wish.TheVariants.{Take, Give}
 use Rattle.word_layout.specs.declared.name.WordName.TheVariants.{State, Next}
 use Rattle.word_layout.specs.declared.reply.Reply.TheVariants.{Nothing, Gave}
 use Rattle.transfer_schedule.specs.Numbers.{is_idle, withheld}
@@ -22,7 +21,7 @@ use Rattle.pool_machine.specs.declared.view.ProcessView.{ProcessView}
 use Rattle.transfer_invariant.specs.Progress.{has_announced}
 use Rattle.transfer_invariant.specs.Installing.{drafted_state, states_after}
 use Rattle.transfer_invariant.specs.Memory.{Words, States, Acted, state_tag}
-use Rattle.transfer_invariant.specs.Laws.{DraftFits}
+use Rattle.transfer_invariant.specs.Laws.{DraftFits, WishIsBlock}
 use Rattle.batch_invariant.specs.Places.{moving}
 use Rattle.batch_invariant.specs.Batches.{ProcessViews, MovedProcess}
 use Rattle.batch_invariant.specs.Premises.{InStep, PendingIsPresent, InstallsNext, SameStack}
@@ -224,11 +223,6 @@ HeadsAreBlocks = (sizes : Sizes) (words : Words) (s : StackState) (views : Proce
 abbrev pub HeadsAreApart : Type 0
 HeadsAreApart = (sizes : Sizes) (words : Words) (s : StackState) (views : ProcessViews) (held : BlockLists) (head : ℕ)
     → IsShape sizes → Chains sizes words s views held → times_pooled sizes s views head ≤ 1
-
--- the head of a give is a block
-abbrev pub WishIsBlock : Sizes → Wish → Type 0
-WishIsBlock sizes Take = Unit {0}
-WishIsBlock sizes (Give head) = head < blocks sizes
 
 -- a give that is begun, or announced and not applied, is of a block
 abbrev pub GivesAreBlocks : Type 0

@@ -12,7 +12,7 @@ use Rattle.transfer_machine.specs.Tries.{granted, replied, after_announcement, i
 use Rattle.transfer_machine.specs.declared.loaded.Loaded.{Loaded}
 use Rattle.transfer_machine.specs.declared.try_draft.TryDraft.{TryDraft}
 use Rattle.transfer_machine.proofs.Drafts.{granted_replies}
-use Rattle.draft_invariant.specs.Heads.{WishIsBlock}
+use Rattle.transfer_invariant.specs.Laws.{WishIsBlock}
 use Rattle.draft_invariant.proofs.Lists.{set_each, either}
 use Rattle.draft_invariant.proofs.Wishes.{value_of_lt}
 

@@ -13,7 +13,7 @@ use Rattle.transfer_machine.specs.declared.stage.NextStep.{NextStep}
 use Rattle.transfer_machine.specs.declared.stage.NextStep.TheVariants.{Rest, Announce, Try, LoadFinalState, LoadReply}
 use Rattle.transfer_machine.specs.declared.stage.TryStep.{TryStep}
 use Rattle.transfer_machine.specs.declared.stage.TryStep.TheVariants.{LoadState, LoadRecordWord, LoadCoveredSlot, ExchangeSlot, LoadAnnouncement, LoadPoppedSlot, StoreRecordWord, ExchangeState}
-use Rattle.transfer_machine.proofs.Drafts.{steps_keep_draft, drafted_reads}
+use Rattle.transfer_machine.proofs.Drafts.{steps_keep_draft, drafted_reads, kept_after_slot, kept_at_slot, kept_after_try, kept_after_stored}
 use Rattle.draft_invariant.proofs.Lists.{either}
 
 -- the draft reads the loaded record, announcements and popped slots
@@ -27,26 +27,6 @@ kept_here : (sizes : Sizes) (v : TransferView) (word : ℕ) (s : NextStep) → v
 kept_here sizes v word s e room =
     subst (λ (t : NextStep). CanActAt sizes v t → CanMeetAt sizes v word t → DraftsLoadedAt sizes v t → DraftsLoaded sizes (met_at sizes v word t)) e
     (λ act can h. steps_keep_draft sizes v word room act can h)
-
--- where the draft stays
-slot_after : (sizes : Sizes) (x : TransferView) (t : Bool) (offset : ℕ) → SameDraft 0 x.draft (drafted sizes.processes x.loaded 0)
-    → DraftsLoadedInTry sizes x (if t then LoadAnnouncement 0 else LoadCoveredSlot offset)
-slot_after sizes x true offset h = h
-slot_after sizes x false offset h = h
-
-exchange_after : (sizes : Sizes) (x : TransferView) (loaded : Loaded) (t : Bool) (offset : ℕ) → SameDraft 0 x.draft (drafted sizes.processes x.loaded 0)
-    → DraftsLoadedInTry sizes x (if t then ExchangeSlot offset else after_slot loaded offset)
-exchange_after sizes x loaded true offset h = h
-exchange_after sizes x loaded false offset h = slot_after sizes x (offset + 1 == overlay_length loaded) (offset + 1) h
-
-stored_after : (sizes : Sizes) (x : TransferView) (t : Bool) (index : ℕ) → SameDraft sizes.processes x.draft (drafted sizes.processes x.loaded sizes.processes)
-    → DraftsLoadedInTry sizes x (if t then ExchangeState else StoreRecordWord index)
-stored_after sizes x true index h = h
-stored_after sizes x false index h = h
-
-ended_after : (sizes : Sizes) (x : TransferView) (second : Bool) → DraftsLoadedAt sizes x (after_try second)
-ended_after sizes x true = tt
-ended_after sizes x false = tt
 
 same_none : (processes : ℕ) (v : TransferView) (loaded : Loaded) → v.loaded.record_words ≡ loaded.record_words → v.loaded.announcements ≡ loaded.announcements
     → v.loaded.popped ≡ loaded.popped → SameDraft 0 v.draft (drafted processes v.loaded 0) → SameDraft 0 v.draft (drafted processes loaded 0)
@@ -72,19 +52,19 @@ loaded_met_in_try sizes v word second (LoadRecordWord index) e room c h =
 loaded_met_in_try sizes v word second (LoadCoveredSlot offset) e room c h =
     let loaded : Loaded = record v.loaded { slots = set v.loaded.slots offset word } in
     let older = nat_lt (tag_of word) (loaded_tag v.loaded) in
-    exchange_after sizes (met_in_try sizes v word second (LoadCoveredSlot offset)) v.loaded older offset
+    kept_at_slot sizes (met_in_try sizes v word second (LoadCoveredSlot offset)) older v.loaded offset
     (same_none sizes.processes v loaded refl refl refl h)
 loaded_met_in_try sizes v word second (ExchangeSlot offset) e room c h =
-    slot_after sizes (met_in_try sizes v word second (ExchangeSlot offset)) (offset + 1 == overlay_length v.loaded) (offset + 1) h
+    kept_after_slot sizes (met_in_try sizes v word second (ExchangeSlot offset)) (offset + 1 == overlay_length v.loaded) (offset + 1) h
 loaded_met_in_try sizes v word second (LoadAnnouncement process) e room c h =
     kept_here sizes v word (Try second (LoadAnnouncement process)) e room (c.heard second process e).among (c.heard second process e) h
 loaded_met_in_try sizes v word second (LoadPoppedSlot process) e room c h =
     kept_here sizes v word (Try second (LoadPoppedSlot process)) e room (c.popped_act second process e) (c.popped second process e) h
 loaded_met_in_try sizes v word second (StoreRecordWord index) e room c h =
-    stored_after sizes (met_in_try sizes v word second (StoreRecordWord index)) (index + 1 == record_words sizes) (index + 1) h
+    kept_after_stored sizes (met_in_try sizes v word second (StoreRecordWord index)) (index + 1 == record_words sizes) (index + 1) h
 loaded_met_in_try sizes v word second ExchangeState e room c h =
     either TransferView (DraftsLoaded sizes) (word == v.loaded.state) (installed v) (try_ended second v) tt
-    (ended_after sizes (try_ended second v) second)
+    (kept_after_try sizes (try_ended second v) second)
 
 -- after each step
 pub loaded_met : (sizes : Sizes) (v : TransferView) (word : ℕ) (s : NextStep) → v.next ≡ s → HasRoom v → DraftChanges sizes v word

@@ -13,7 +13,7 @@ use Rattle.transfer_machine.specs.Loads.{loaded_base, overlay_length, overlay_he
 use Rattle.transfer_machine.specs.Tries.{batch_below, take_reply, wish_reply}
 use Rattle.transfer_machine.specs.declared.loaded.Loaded.{Loaded}
 use Rattle.transfer_machine.specs.declared.try_draft.TryDraft.{TryDraft}
-use Rattle.draft_invariant.specs.Heads.{WishIsBlock}
+use Rattle.transfer_invariant.specs.Laws.{WishIsBlock}
 
 -- a value has 24 bits
 pub value_of_lt : (word : ℕ) → value_of word < value_limit

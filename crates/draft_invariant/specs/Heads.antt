@@ -2,16 +2,9 @@
 use Rattle.std.specs.Prelude.{ℕ, ◌<◌, ◌≤◌, slice_index}
 use Rattle.word_layout.specs.Sizes.{Sizes, blocks}
 use Rattle.word_layout.specs.Packing.{value_of, value_limit}
-use Rattle.word_layout.specs.declared.announced.Wish.{Wish}
-use Rattle.word_layout.specs.declared.announced.Wish.TheVariants.{Take, Give}
 use Rattle.word_layout.specs.declared.name.WordName.TheVariants.{Announcement}
 use Rattle.transfer_machine.specs.declared.transfer.TransferView.{TransferView}
 use Rattle.transfer_invariant.specs.Memory.{Words}
-
--- a wish is to take a batch, or to give one whose head is a block
-abbrev pub WishIsBlock : Sizes → Wish → Type 0
-WishIsBlock sizes Take = Unit {0}
-WishIsBlock sizes (Give head) = head < blocks sizes
 
 -- the value of each announcement is 0 for a take, or a block plus 1
 abbrev pub AnnouncementsAreBlocks : Sizes → Words → Type 0

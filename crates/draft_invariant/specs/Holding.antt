@@ -7,7 +7,8 @@ use Rattle.transfer_machine.specs.declared.transfer.TransferView.{TransferView}
 use Rattle.transfer_machine.specs.declared.stage.NextStep.TheVariants.{Announce}
 use Rattle.transfer_invariant.specs.Memory.{Words, Views, States, state_tag, slot_value}
 use Rattle.transfer_invariant.specs.Drafts.{RepliesDrafted}
-use Rattle.draft_invariant.specs.Heads.{WishIsBlock, AnnouncementsAreBlocks, HeadsAreBlocks}
+use Rattle.draft_invariant.specs.Heads.{AnnouncementsAreBlocks, HeadsAreBlocks}
+use Rattle.transfer_invariant.specs.Laws.{WishIsBlock}
 use Rattle.draft_invariant.specs.Pops.{DraftFitsLoaded, PopsHold}
 use Rattle.transfer_invariant.specs.Progress.{heard_process}
 

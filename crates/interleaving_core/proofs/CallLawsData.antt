@@ -153,7 +153,7 @@ pub data_is_kept : laws.DataIsKept
 data_is_kept = every_run KeepsData data_here
 
 -- a read and a write, made by a process between two calls
-begun_first : (call : Call) (v : ProcessView) → v.calls.stage ≡ Between → calling_view call v ≡ call_begun call v
+pub begun_first : (call : Call) (v : ProcessView) → v.calls.stage ≡ Between → calling_view call v ≡ call_begun call v
 begun_first call v e = rw e refl
 
 abbrev pub LoadsData : Sizes → List Entry → CoreState → Type 0

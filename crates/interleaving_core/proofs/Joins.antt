@@ -19,14 +19,12 @@ use Rattle.transfer_machine.specs.declared.stage.NextStep.TheVariants.{Try}
 use Rattle.transfer_machine.specs.declared.stage.TryStep.TheVariants.{ExchangeState}
 use Rattle.transfer_invariant.specs.Memory.{Words, Views, state_tag}
 use Rattle.transfer_invariant.proofs.Keeps.{row_fits}
-use Rattle.draft_invariant.specs.Heads.{WishIsBlock}
 use Rattle.stack_invariant.specs.Stack.{Supplied}
 use Rattle.stack_invariant.proofs.Follows.{installed_next, replies_answer, each_process}
 use Rattle.pool_invariant.specs.Kept.{Answers, GivenToPool}
 use Rattle.batch_invariant.specs.Batches.{ProcessViews}
 use Rattle.batch_invariant.specs.Premises.{InStep, InstallsNext}
 use Rattle.batch_invariant.proofs.Steps.{ends_answer}
-use Rattle.chain_invariant.specs.Laws as chains
 use Rattle.chain_invariant.proofs.Gives.{gives_are_blocks, drafts_have_room}
 use Rattle.history_invariant.specs.Ledger.{Ledgers}
 use Rattle.history_invariant.specs.Steps.{with_ledger}
@@ -96,11 +94,6 @@ installs_next sizes words views history ghosts i second shape li h e hit =
       drafted = record { height = gives.next.height; content = gives.next.content; reply = gives.next.reply; applied = gives.next.applied };
     }
 
--- a batch that is wished to be given is a block
-wish_is_block : (sizes : Sizes) (wish : Wish) → chains.WishIsBlock sizes wish → WishIsBlock sizes wish
-wish_is_block sizes Take h = tt
-wish_is_block sizes (Give head) h = h
-
 -- what the pools and the chains give for the step of a view
 pub supplied : (sizes : Sizes) (words : Words) (views : ProcessViews) (history : List Entry) (ghosts : Ghosts) (i : ℕ) → IsShape sizes
     → i < sizes.processes → Holds sizes words views history ghosts → Supplied sizes words ghosts.states (views i).transfer
@@ -109,7 +102,7 @@ supplied sizes words views history ghosts i shape li h =
     let (begun, pending) = gives_are_blocks sizes words s views (held_in ghosts.ledgers) i shape h.chains li in
     record {
       age = λ e. (keeps sizes words views history ghosts i shape li h).runs.age.below (rw e refl);
-      wish = λ e. wish_is_block sizes (views i).transfer.wish (begun e);
+      wish = begun;
       room =
           λ second e hit. (drafts_have_room sizes words s views (held_in ghosts.ledgers) (views i).transfer shape h.chains
           (installs_next sizes words views history ghosts i second shape li h e hit)).within;

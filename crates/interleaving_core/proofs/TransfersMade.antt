@@ -28,7 +28,7 @@ use Rattle.history_invariant.proofs.Replacing.{replaced_with}
 use Rattle.call_invariant.specs.Ledgers.{ledger_moved}
 use Rattle.call_invariant.specs.Uses.{UsesPool}
 use Rattle.call_invariant.proofs.Alone.{transfers_step}
-use Rattle.call_invariant.proofs.Carried.{transfer_steps_carry, enters_nothing}
+use Rattle.call_invariant.proofs.Carried.{transfer_steps_carry, enters_nothing, take_wished}
 use Rattle.call_invariant.proofs.Standing.{shape_fits}
 use Rattle.call_invariant.proofs.Uses.{transfers_used, uses_transfers, calls_used, uses_calls, uses_stay}
 use Rattle.interleaving_core.specs.Invariant.{Ghosts, Holds, Meets}
@@ -46,17 +46,13 @@ knows_at_end sizes words views history ghosts i li h e take nothing =
     h.empties i li (rw e refl) (step.applied e) take (ap reply_of (sym (step.reply e)) ∙ nothing)
 
 -- the same, as the plan says that a take is pending
-taking_takes : (wish : Wish) → is_taking (pending_of wish) ≡ true → is_take wish ≡ true
-taking_takes Take e = refl
-taking_takes (Give head) e = grind arith
-
 found_at_end : (sizes : Sizes) (words : Words) (views : ProcessViews) (history : List Entry) (ghosts : Ghosts) (i : ℕ) → IsShape sizes
     → i < sizes.processes → Holds sizes words views history ghosts
     → (views i).transfer.next ≡ LoadReply → is_taking (views i).pool.plan.pending ≡ true
     → reply_of (value_of (words (name_of (action_of sizes (views i).transfer)))) ≡ Nothing → (ghosts.ledgers i).found_nothing ≡ true
 found_at_end sizes words views history ghosts i shape li h e taking nothing =
     let pending = (keeps sizes words views history ghosts i shape li h).runs.kept.pending (rw e refl) in
-    knows_at_end sizes words views history ghosts i li h e (taking_takes (views i).transfer.wish (rw pending at taking)) nothing
+    knows_at_end sizes words views history ghosts i li h e (take_wished (views i).transfer.wish (rw pending at taking)) nothing
 
 -- what the ledger that a step of a transfer leads to owes to the one before
 record LedgerMoves (sizes : Sizes) (history : List Entry) (i : ℕ) (v x : ProcessView) (old new : Ledger) : Type 0 where

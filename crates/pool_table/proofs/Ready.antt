@@ -18,6 +18,7 @@ use Rattle.pool_machine.specs.declared.view.ProcessView.{ProcessView}
 use Rattle.interleaving_core.specs.Invariant.{BlockIsHeld}
 use Rattle.interleaving_core.specs.Moves.{may_go, calling_view, may_wish}
 use Rattle.interleaving_core.specs.Steps.{is_alone, is_in_call}
+use Rattle.interleaving_core.proofs.Busy.{begun_calls}
 use Rattle.interleaving_core.proofs.Standing.{rests_idle, wish_fits, call_can_begin}
 use Rattle.pool_table.specs.declared.about.About.TheVariants.{InCall}
 use Rattle.pool_table.specs.Minds.{Mind, number_of, held_in}
@@ -68,15 +69,9 @@ in_call_not_alone call v ne = by (is_in_call v.calls.stage)
     not_alone Alone ne = absurd (ne refl)
     not_alone Calls ne = refl
 
-    begun : (call : Call) (v : ProcessView) → is_alone (call_begun call v).calls.way ≡ false
-    begun Allocate v = refl
-    begun (Free block) v = refl
-    begun (Read block index) v = refl
-    begun (Write block index value) v = refl
-
     by : (t : Bool) → is_alone (if t then v else call_begun call v).calls.way ≡ false
     by true = not_alone v.calls.way ne
-    by false = begun call v
+    by false = begun_calls call v
 
 -- and the step can be made
 pub call_can_act : (sizes : Sizes) (call : Call) (v : SeatView) → CanStep sizes (InCall call) v → v.mind.view.calls.way ≢ Alone

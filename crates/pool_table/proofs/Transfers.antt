@@ -188,7 +188,7 @@ may_use_alone way e = grind arith
 goes_alone : (wish : Wish) (x : ProcessView) → is_alone x.calls.way ≡ true → is_rest x.transfer.next ≡ false → may_go_alone wish x ≡ true
 goes_alone wish x e rest = let may = may_use_alone x.calls.way e in rw (may, rest) refl
 
-turns_same : (wish : Wish) (x : ProcessView) → is_rest x.transfer.next ≡ false → moving_view wish x ≡ x
+pub turns_same : (wish : Wish) (x : ProcessView) → is_rest x.transfer.next ≡ false → moving_view wish x ≡ x
 turns_same wish x rest = rw rest refl
 
 moves_its_transfer : (x : ProcessView) → is_alone x.calls.way ≡ true → moves_transfer x ≡ true

@@ -17,7 +17,7 @@ use Rattle.transfer_invariant.specs.Memory.{Words, Views, States, state_tag}
 use Rattle.transfer_invariant.specs.OpeningState.{opening_state}
 use Rattle.transfer_invariant.specs.Progress.{has_announced}
 use Rattle.slot_invariant.proofs.Opened.{opening_slot_low}
-use Rattle.draft_invariant.specs.Heads.{WishIsBlock}
+use Rattle.transfer_invariant.specs.Laws.{WishIsBlock}
 use Rattle.draft_invariant.proofs.NextState.{either_reply, next_applied}
 use Rattle.draft_invariant.proofs.Wishes.{wish_of_block}
 use Rattle.stack_invariant.specs.Emptied.{MetNothing}

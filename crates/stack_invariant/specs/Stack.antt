@@ -10,7 +10,7 @@ use Rattle.transfer_invariant.specs.Memory.{Words, Views, States, state_tag}
 use Rattle.transfer_invariant.specs.Invariant.{Invariant}
 use Rattle.slot_invariant.specs.Slots.{SlotsInvariant}
 use Rattle.helping_invariant.specs.Holds.{HelpingHolds}
-use Rattle.draft_invariant.specs.Heads.{WishIsBlock}
+use Rattle.transfer_invariant.specs.Laws.{WishIsBlock}
 use Rattle.draft_invariant.specs.Holding.{DraftsHold}
 use Rattle.stack_invariant.specs.Following.{StatesFollow}
 use Rattle.stack_invariant.specs.Loads.{LoadsFit, AnswerStays}

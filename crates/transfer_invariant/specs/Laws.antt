@@ -3,6 +3,8 @@ use Rattle.std.specs.Prelude.{◌≡◌, ℕ, Bool, ◌+◌, ◌<◌, ◌≤◌,
 use Rattle.word_layout.specs.Sizes.{Sizes, blocks}
 use Rattle.word_layout.specs.Names.{InRange, table_words, word_at, record_words}
 use Rattle.word_layout.specs.Packing.{value_limit, most_age}
+use Rattle.word_layout.specs.declared.announced.Wish.{Wish}
+use Rattle.word_layout.specs.declared.announced.Wish.TheVariants.{Take, Give}
 use Rattle.word_layout.specs.declared.name.WordName.TheVariants.{State}
 use Rattle.transfer_machine.specs.Tries.{drafted_value}
 use Rattle.transfer_machine.specs.Words.{name_of, acted}
@@ -21,6 +23,11 @@ use Rattle.transfer_invariant.specs.Invariant.{Invariant}
 -- the words and views of the opening meet the invariant, with the state of the opening
 abbrev pub OpeningMeetsInvariant : Type 0
 OpeningMeetsInvariant = OpeningMeets Invariant
+
+-- a wish is to take a batch, or to give one whose head is a block
+abbrev pub WishIsBlock : Sizes → Wish → Type 0
+WishIsBlock sizes Take = Unit {0}
+WishIsBlock sizes (Give head) = head < blocks sizes
 
 -- a draft has room: all places are slots, the heads are blocks
 pub record DraftFits (sizes : Sizes) (draft : TryDraft) : Type 0 where

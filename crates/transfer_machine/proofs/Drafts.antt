@@ -187,15 +187,15 @@ kept_after_heard sizes v process h = elim (cases_eq (process + 1) sizes.processe
   | inr more ↦ (let test : (process + 1 == sizes.processes) ≡ false = grind (arith, nat_tests) in rw test h)
 ]
 
-kept_after_slot : (sizes : Sizes) (v : TransferView) (b : Bool) (offset : ℕ) → SameDraft 0 v.draft (drafted sizes.processes v.loaded 0) → DraftsLoadedInTry sizes v (if b then LoadAnnouncement 0 else LoadCoveredSlot offset)
+pub kept_after_slot : (sizes : Sizes) (v : TransferView) (b : Bool) (offset : ℕ) → SameDraft 0 v.draft (drafted sizes.processes v.loaded 0) → DraftsLoadedInTry sizes v (if b then LoadAnnouncement 0 else LoadCoveredSlot offset)
 kept_after_slot sizes v true offset h = h
 kept_after_slot sizes v false offset h = h
 
-kept_after_try : (sizes : Sizes) (v : TransferView) (second : Bool) → DraftsLoadedAt sizes v (after_try second)
+pub kept_after_try : (sizes : Sizes) (v : TransferView) (second : Bool) → DraftsLoadedAt sizes v (after_try second)
 kept_after_try sizes v true = tt
 kept_after_try sizes v false = tt
 
-kept_after_stored : (sizes : Sizes) (v : TransferView) (b : Bool) (index : ℕ) → SameDraft sizes.processes v.draft (drafted sizes.processes v.loaded sizes.processes) → DraftsLoadedInTry sizes v (if b then ExchangeState else StoreRecordWord index)
+pub kept_after_stored : (sizes : Sizes) (v : TransferView) (b : Bool) (index : ℕ) → SameDraft sizes.processes v.draft (drafted sizes.processes v.loaded sizes.processes) → DraftsLoadedInTry sizes v (if b then ExchangeState else StoreRecordWord index)
 kept_after_stored sizes v true index h = h
 kept_after_stored sizes v false index h = h
 
@@ -210,7 +210,7 @@ record_word_kept sizes second v index loaded =
     either sizes (index + 1 == record_words sizes) last (record v { loaded = loaded; next = Try second (LoadRecordWord (index + 1)) })
     (kept_after_slot sizes last (overlay_length loaded == 0) 0 (begun_same sizes.processes loaded v.draft)) tt
 
-kept_at_slot : (sizes : Sizes) (v : TransferView) (b : Bool) (loaded : Loaded) (offset : ℕ) → SameDraft 0 v.draft (drafted sizes.processes v.loaded 0) → DraftsLoadedInTry sizes v (if b then ExchangeSlot offset else after_slot loaded offset)
+pub kept_at_slot : (sizes : Sizes) (v : TransferView) (b : Bool) (loaded : Loaded) (offset : ℕ) → SameDraft 0 v.draft (drafted sizes.processes v.loaded 0) → DraftsLoadedInTry sizes v (if b then ExchangeSlot offset else after_slot loaded offset)
 kept_at_slot sizes v true loaded offset h = h
 kept_at_slot sizes v false loaded offset h = kept_after_slot sizes v (offset + 1 == overlay_length loaded) (offset + 1) h
 

@@ -16,7 +16,7 @@ returns-clause-got c sizes words s views held i block shape li chains fits e =
 
 pub returns-clause-made : goal.returns-clause-made
 returns-clause-made c sizes words s views held i shape li chains fits room =
-    own_can_at sizes words s views held i shape li chains fits.heads (views i).calls.call fits.size fits.within fits.names room
+    own_can_at sizes words s views held i shape li chains fits.heads (views i).calls.call fits.size fits.within fits.names (λ block e. room)
 
 pub returns-clause-same : goal.returns-clause-same
 returns-clause-same c sizes words s views held held_after chains same = held_same sizes words s views held held_after chains same
