@@ -1,10 +1,8 @@
 // A pool whose passes play the script of a trace each, and that is closed then.
-ghost use Rattle.std.specs.Prelude.{◌≡◌, ℕ, Some, IfOk, length, slice_get};
-ghost use Rattle.mtrace_reader.specs.declared.steps.Script.{Script};
+ghost use Rattle.std.specs.Prelude.{IfOk};
 ghost use Rattle.block_pool.specs.Closing.{AreInOrder};
-ghost use Rattle.block_pool.specs.Passing.{Passed};
 ghost use Rattle.pass_players.specs.Settled.{PlayedAll};
-ghost use Rattle.pool_player.specs.Player.{IsTraced, MayPlayTrace};
+ghost use Rattle.pool_player.specs.Player.{IsTraced, MayPlayTraces};
 
 use crate::player::TracePlayer;
 use block_pool::{Pass, Pool, Settled};
@@ -24,6 +22,19 @@ pub struct Played {
     pub settled: Settled,
 }
 
+impl From<pass_players::Played<Tally>> for Played {
+    ghost use Rattle.std.specs.Prelude.{◌≡◌};
+
+    ghost from_gives = { λ played own. own ≡ record { tallies = played.outcomes; settled = played.settled } };
+
+    fn from(played: pass_players::Played<Tally>) -> Played {
+        Played {
+            tallies: played.outcomes,
+            settled: played.settled,
+        }
+    }
+}
+
 /// Plays each script with the pass of the same place, in a thread of its own where one can be had, and closes the pool.
 /// The one history that this gives has, of process `k`, what its pass had entered before, and then calls that fit
 /// script `k`; its tally is that of these calls. The gate is told of each call before it.
@@ -38,17 +49,12 @@ pub fn play_all<R: Threads + Sync, G: Gate + Sync>(
     gate: &G,
 ) -> Result<Played, NoMemory>
     requires passes { AreInOrder pool passes.items }
-    requires one_each { length passes.items ≡ length scripts.now }
-    requires may { (k : ℕ) (pass : Passed) (script : Script) → slice_get passes.items k ≡ Some pass → slice_get scripts.now k ≡ Some script
-        → MayPlayTrace pool pass script }
+    requires may { MayPlayTraces pool passes.items scripts.now }
     ensures { IfOk result (λ played.
         PlayedAll IsTraced (G.told gate.now) pool passes.items scripts.now played.tallies.items played.settled) }
 {
     let played = pass_players::play_all::<R, TracePlayer, G>(
         rt, alloc, pool, passes, scripts, gate,
     )?;
-    Ok(Played {
-        tallies: played.outcomes,
-        settled: played.settled,
-    })
+    Ok(Played::from(played))
 }

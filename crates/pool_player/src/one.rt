@@ -1,5 +1,5 @@
 // One script, played by the process of one pass.
-ghost use Rattle.std.specs.Prelude.{◌≡◌, ℕ, ◌+◌, ◌-◌, ◌^◌, ◌≤◌, ◌∷◌, ◌++◌, [], None, List, length, replicate};
+ghost use Rattle.std.specs.Prelude.{◌≡◌, ◌+◌, ◌-◌, ◌^◌, ◌≤◌, ◌∷◌, ◌++◌, [], None, List, length, replicate};
 ghost use Rattle.pool_io.specs.Gates.{ToldBefore};
 ghost use Rattle.mtrace_reader.specs.declared.steps.Step.{Step};
 ghost use Rattle.mtrace_reader.specs.declared.steps.Script.{Script};

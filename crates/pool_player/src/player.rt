@@ -1,7 +1,6 @@
 // Who plays the script of a trace.
-ghost use Rattle.std.specs.Prelude.{◌≡◌, None, length, replicate};
-ghost use Rattle.mtrace_reader.specs.Script.{IsWellFormed};
-ghost use Rattle.pool_player.specs.Player.{IsTraced};
+ghost use Rattle.std.specs.Prelude.{◌≡◌, None, replicate};
+ghost use Rattle.pool_player.specs.Player.{IsTraced, Suits, most_calls_of};
 
 use crate::one::play_one;
 use block_pool::{Block, Pass, Pool};
@@ -24,9 +23,9 @@ impl Player for TracePlayer {
 
     type Outcome = Tally;
 
-    ghost suits = { λ sizes script. IsWellFormed script };
+    ghost suits = { Suits };
 
-    ghost most_calls = { λ script. length script.steps };
+    ghost most_calls = { most_calls_of };
 
     ghost is_ready = { λ script player. player.slots.items ≡ replicate script.news None };
 

@@ -1,5 +1,6 @@
 -- What entries without a refusal tell of the script that they fit.
-use Rattle.std.proofs.Common.{◌≡◌, ℕ, ◌+◌, ◌<◌, ◌≤◌, zero, suc, Bool, true, false, cond, not, List, [], ◌∷◌, ◌++◌, length, take, get_or, refl, sym, ap, ◌∙◌, subst, inl, inr, arith, append_assoc, Some}
+use Rattle.std.proofs.Common.{◌≡◌, ℕ, ◌+◌, ◌<◌, ◌≤◌, zero, suc, Bool, true, false, cond, not, List, [], ◌∷◌, ◌++◌, length, take, get_or}
+use Rattle.std.proofs.Common.{refl, sym, ap, ◌∙◌, subst, inl, inr, arith, append_assoc, Some}
 use Rattle.std.specs.List.{Contains, flat_map, count_by, slice_get, slice_index}
 use Rattle.std.proofs.Math.Seq.{take-append_seam}
 use Rattle.std.proofs.lemmas.List.Sums.{sum_by-cons}
@@ -37,28 +38,31 @@ slice_get_seam [] rest step = refl
 slice_get_seam (first ∷ before) rest step = slice_get_seam before rest step
 
 -- a step more was made, which placed no refused slot
-place_more : (refused : List Bool) (before : List Step) (slot : ℕ) → is_refused refused slot ≡ false → Unrefused refused before → Unrefused refused (before ++ Place slot ∷ [])
-place_more refused before slot given so_far other has = elim (Contains-append_cases before (Place slot ∷ []) (Place other) has) [
-  | inl earlier ↦ so_far other earlier
-  | inr last ↦ same last.0 last.1 last.2
+one_more : (refused : List Bool) (before : List Step) (step : Step)
+    → ((slot : ℕ) → step ≡ Place slot → is_refused refused slot ≡ false) → Unrefused refused before
+    → Unrefused refused (before ++ step ∷ [])
+one_more refused before step given so_far slot has = elim (Contains-append_cases before (step ∷ []) (Place slot) has) [
+  | inl earlier ↦ so_far slot earlier
+  | inr last ↦ here last.0 last.1 last.2
 ]
   where
-    same : (k : ℕ) → k < 1 → get_or (Place slot ∷ []) k (Place other) ≡ Place other → is_refused refused other ≡ false
-    same zero low at = let e : slot ≡ other = cc in subst (λ (s : ℕ). is_refused refused s ≡ false) e given
-    same (suc k) low at = absurd (omega (arith, low))
+    here : (k : ℕ) → k < 1 → get_or (step ∷ []) k (Place slot) ≡ Place slot → is_refused refused slot ≡ false
+    here zero low at = given slot at
+    here (suc k) low at = absurd (omega (arith, low))
 
-leave_more : (refused : List Bool) (before : List Step) (slot : ℕ) → Unrefused refused before → Unrefused refused (before ++ Leave slot ∷ [])
-leave_more refused before slot so_far other has = elim (Contains-append_cases before (Leave slot ∷ []) (Place other) has) [
-  | inl earlier ↦ so_far other earlier
-  | inr last ↦ none last.0 last.1 last.2
-]
-  where
-    none : (k : ℕ) → k < 1 → get_or (Leave slot ∷ []) k (Place other) ≡ Place other → is_refused refused other ≡ false
-    none zero low at = absurd cc
-    none (suc k) low at = absurd (omega (arith, low))
+place_more : (refused : List Bool) (before : List Step) (slot : ℕ) → is_refused refused slot ≡ false → Unrefused refused before
+    → Unrefused refused (before ++ Place slot ∷ [])
+place_more refused before slot given = one_more refused before (Place slot) (λ other is.
+    let same : slot ≡ other = cc in
+    subst (λ (s : ℕ). is_refused refused s ≡ false) same given)
+
+leave_more : (refused : List Bool) (before : List Step) (slot : ℕ) → Unrefused refused before
+    → Unrefused refused (before ++ Leave slot ∷ [])
+leave_more refused before slot = one_more refused before (Leave slot) (λ other is. absurd cc)
 
 -- a slot that is left was placed before, and so wasn't refused
-left_unrefused : (refused : List Bool) (before steps : List Step) (slot : ℕ) → LeavesPlaced (before ++ Leave slot ∷ steps) → Unrefused refused before → is_refused refused slot ≡ false
+left_unrefused : (refused : List Bool) (before steps : List Step) (slot : ℕ) → LeavesPlaced (before ++ Leave slot ∷ steps)
+    → Unrefused refused before → is_refused refused slot ≡ false
 left_unrefused refused before steps slot leaves so_far =
     let placed = (leaves (length before) slot (slice_get_seam before steps (Leave slot))).0 in
     so_far slot (subst (λ (front : List Step). Contains front (Place slot)) (take-append_seam before (Leave slot ∷ steps)) placed)
@@ -72,36 +76,39 @@ module _ (i : ℕ) (refused free : List Bool) (blocks : List ℕ) (frees : (slot
   calls_at (Place slot) dry = cond dry (Dry i) (Got i (slice_index blocks slot)) ∷ []
   calls_at (Leave slot) dry = cond dry [] (Back i (slice_index blocks slot) ∷ [])
 
-  -- one entry more, of one step more
-  place_counted : (slot : ℕ) (steps : List Step) (entry : Entry) (entries : List Entry) → entry ≡ Got i (slice_index blocks slot)
-      → CountsSteps free steps entries → CountsSteps free (Place slot ∷ steps) (entry ∷ entries)
-  place_counted slot steps entry entries is counted = record {
+  -- one entry more, of one step more: it gets a block where the step fills a slot, and gives one back where the step empties one
+  one_counted : (step : Step) (steps : List Step) (entry : Entry) (entries : List Entry) → is_got entry ≡ fills free step
+      → is_back entry ≡ empties free step → CountsSteps free steps entries → CountsSteps free (step ∷ steps) (entry ∷ entries)
+  one_counted step steps entry entries got back counted = record {
     count = suc counted.count;
     within = omega (arith, counted.within);
-    gots = omega (arith, counted.gots, count_cons is_got entry entries true (ap is_got is), count_cons (fills free) (Place slot) (take counted.count steps) true (ap not (frees slot)));
-    backs = omega (arith, counted.backs, count_cons is_back entry entries false (ap is_back is), count_cons (empties free) (Place slot) (take counted.count steps) false refl);
-  }
-
-  leave_counted : (slot : ℕ) (steps : List Step) (entry : Entry) (entries : List Entry) → entry ≡ Back i (slice_index blocks slot)
-      → CountsSteps free steps entries → CountsSteps free (Leave slot ∷ steps) (entry ∷ entries)
-  leave_counted slot steps entry entries is counted = record {
-    count = suc counted.count;
-    within = omega (arith, counted.within);
-    gots = omega (arith, counted.gots, count_cons is_got entry entries false (ap is_got is), count_cons (fills free) (Leave slot) (take counted.count steps) false refl);
-    backs = omega (arith, counted.backs, count_cons is_back entry entries true (ap is_back is), count_cons (empties free) (Leave slot) (take counted.count steps) true (ap not (frees slot)));
+    gots = omega (
+      arith,
+      counted.gots,
+      count_cons is_got entry entries (fills free step) got,
+      count_cons (fills free) step (take counted.count steps) (fills free step) refl,
+    );
+    backs = omega (
+      arith,
+      counted.backs,
+      count_cons is_back entry entries (empties free step) back,
+      count_cons (empties free) step (take counted.count steps) (empties free step) refl,
+    );
   }
 
   -- the first of the calls for steps, where none of these is a refusal
-  pub counts_steps : (before steps : List Step) (entries rest : List Entry) → LeavesPlaced (before ++ steps) → Unrefused refused before → NoneIsDry entries
-      → entries ++ rest ≡ flat_map (calls_of i refused blocks) steps → CountsSteps free steps entries
+  pub counts_steps : (before steps : List Step) (entries rest : List Entry) → LeavesPlaced (before ++ steps) → Unrefused refused before
+      → NoneIsDry entries → entries ++ rest ≡ flat_map (calls_of i refused blocks) steps → CountsSteps free steps entries
   counts_steps before steps [] rest leaves so_far none made = record { count = 0; within = omega arith; gots = refl; backs = refl }
   counts_steps before [] (entry ∷ entries) rest leaves so_far none made = absurd cc
   counts_steps before (Place slot ∷ steps) (entry ∷ entries) rest leaves so_far none made =
-      by_answer (λ unrefused more. counts_steps (before ++ Place slot ∷ []) steps entries rest (one_on before steps (Place slot) leaves) unrefused (none_rest (entry ∷ []) entries none) more)
+      by_answer (λ unrefused. counts_steps (before ++ Place slot ∷ []) steps entries rest (one_on before steps (Place slot) leaves)
+      unrefused (none_rest (entry ∷ []) entries none))
       (is_refused refused slot) refl
     where
-      by_answer : (Unrefused refused (before ++ Place slot ∷ []) → entries ++ rest ≡ flat_map (calls_of i refused blocks) steps → CountsSteps free steps entries)
-          → (dry : Bool) → is_refused refused slot ≡ dry → CountsSteps free (Place slot ∷ steps) (entry ∷ entries)
+      by_answer : (Unrefused refused (before ++ Place slot ∷ []) → entries ++ rest ≡ flat_map (calls_of i refused blocks) steps
+          → CountsSteps free steps entries) → (dry : Bool) → is_refused refused slot ≡ dry
+          → CountsSteps free (Place slot ∷ steps) (entry ∷ entries)
       by_answer on true answered =
           let first : entry ∷ (entries ++ rest) ≡ Dry i ∷ flat_map (calls_of i refused blocks) steps
           = made ∙ ap (λ dry. calls_at (Place slot) dry ++ flat_map (calls_of i refused blocks) steps) answered in
@@ -112,27 +119,30 @@ module _ (i : ℕ) (refused free : List Bool) (blocks : List ℕ) (frees : (slot
           = made ∙ ap (λ dry. calls_at (Place slot) dry ++ flat_map (calls_of i refused blocks) steps) answered in
           let is : entry ≡ Got i (slice_index blocks slot) = cc in
           let more : entries ++ rest ≡ flat_map (calls_of i refused blocks) steps = cc in
-          place_counted slot steps entry entries is (on (place_more refused before slot answered so_far) more)
+          one_counted (Place slot) steps entry entries (ap is_got is ∙ sym (ap not (frees slot))) (ap is_back is)
+          (on (place_more refused before slot answered so_far) more)
   counts_steps before (Leave slot ∷ steps) (entry ∷ entries) rest leaves so_far none made =
       let given = left_unrefused refused before steps slot leaves so_far in
       let first : entry ∷ (entries ++ rest) ≡ Back i (slice_index blocks slot) ∷ flat_map (calls_of i refused blocks) steps
       = made ∙ ap (λ dry. calls_at (Leave slot) dry ++ flat_map (calls_of i refused blocks) steps) given in
       let is : entry ≡ Back i (slice_index blocks slot) = cc in
       let more : entries ++ rest ≡ flat_map (calls_of i refused blocks) steps = cc in
-      leave_counted slot steps entry entries is
-      (counts_steps (before ++ Leave slot ∷ []) steps entries rest (one_on before steps (Leave slot) leaves) (leave_more refused before slot so_far)
-      (none_rest (entry ∷ []) entries none) more)
+      one_counted (Leave slot) steps entry entries (ap is_got is) (ap is_back is ∙ sym (ap not (frees slot)))
+      (counts_steps (before ++ Leave slot ∷ []) steps entries rest (one_on before steps (Leave slot) leaves)
+      (leave_more refused before slot so_far) (none_rest (entry ∷ []) entries none) more)
 
   -- all calls for steps, where none is a refusal, are those where nothing is refused
-  pub calls_without_refusals : (before steps : List Step) → LeavesPlaced (before ++ steps) → Unrefused refused before → NoneIsDry (flat_map (calls_of i refused blocks) steps)
+  pub calls_without_refusals : (before steps : List Step) → LeavesPlaced (before ++ steps) → Unrefused refused before
+      → NoneIsDry (flat_map (calls_of i refused blocks) steps)
       → flat_map (calls_of i refused blocks) steps ≡ flat_map (calls_of i free blocks) steps
   calls_without_refusals before [] leaves so_far none = refl
   calls_without_refusals before (Place slot ∷ steps) leaves so_far none =
-      by_answer (λ unrefused rest_none. calls_without_refusals (before ++ Place slot ∷ []) steps (one_on before steps (Place slot) leaves) unrefused rest_none)
+      by_answer (calls_without_refusals (before ++ Place slot ∷ []) steps (one_on before steps (Place slot) leaves))
       (is_refused refused slot) refl
     where
       by_answer : (Unrefused refused (before ++ Place slot ∷ []) → NoneIsDry (flat_map (calls_of i refused blocks) steps)
-          → flat_map (calls_of i refused blocks) steps ≡ flat_map (calls_of i free blocks) steps) → (dry : Bool) → is_refused refused slot ≡ dry
+          → flat_map (calls_of i refused blocks) steps ≡ flat_map (calls_of i free blocks) steps) → (dry : Bool)
+          → is_refused refused slot ≡ dry
           → flat_map (calls_of i refused blocks) (Place slot ∷ steps) ≡ flat_map (calls_of i free blocks) (Place slot ∷ steps)
       by_answer on true answered =
           let call : Entry = cond (is_refused refused slot) (Dry i) (Got i (slice_index blocks slot)) in
@@ -146,6 +156,7 @@ module _ (i : ℕ) (refused free : List Bool) (blocks : List ℕ) (frees : (slot
   calls_without_refusals before (Leave slot ∷ steps) leaves so_far none =
       let given = left_unrefused refused before steps slot leaves so_far in
       let rest_none = none_rest (calls_at (Leave slot) (is_refused refused slot)) (flat_map (calls_of i refused blocks) steps) none in
-      let more = calls_without_refusals (before ++ Leave slot ∷ []) steps (one_on before steps (Leave slot) leaves) (leave_more refused before slot so_far) rest_none in
+      let more = calls_without_refusals (before ++ Leave slot ∷ []) steps (one_on before steps (Leave slot) leaves)
+      (leave_more refused before slot so_far) rest_none in
       ap (λ dry. calls_at (Leave slot) dry ++ flat_map (calls_of i refused blocks) steps) (given ∙ sym (frees slot))
       ∙ ap (λ calls. calls_at (Leave slot) (is_refused free slot) ++ calls) more

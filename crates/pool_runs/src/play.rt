@@ -33,8 +33,5 @@ pub fn play_on_pool<R: Threads + Sync, G: Gate + Sync>(
     ensures told { IfOk result (λ played. WasToldOfAll (G.told gate.now) shape.now.processes played.settled.history) }
 {
     let played = play_over::<R, TracePlayer, G>(rt, alloc, shape, scripts, gate)?;
-    Ok(Played {
-        tallies: played.outcomes,
-        settled: played.settled,
-    })
+    Ok(Played::from(played))
 }

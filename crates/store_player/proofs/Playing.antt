@@ -1,5 +1,6 @@
 -- How far the process of a pass has played a store script, one command on.
-use Rattle.std.proofs.Common.{◌≡◌, ℕ, ◌+◌, ◌*◌, ◌≤◌, Bool, cond, Option, Some, None, option_map, List, [], ◌∷◌, ◌++◌, length, refl, sym, ap, ◌∙◌, subst, arith, append_assoc, append-nil, length-append}
+use Rattle.std.proofs.Common.{◌≡◌, ℕ, ◌+◌, ◌*◌, ◌≤◌, Bool, cond, Option, Some, None, List, [], ◌∷◌, ◌++◌, length, refl, sym, ap, ◌∙◌}
+use Rattle.std.proofs.Common.{subst, arith, append_assoc, append-nil, length-append}
 use Rattle.std.specs.List.{count_by, fold, slice_index}
 use Rattle.std.proofs.lemmas.List.Sums.{fold-append, sum_by-append}
 use Rattle.pool_model.specs.declared.entry.Entry.{Entry}
@@ -12,7 +13,8 @@ use Rattle.store_script.specs.Script.{place_of}
 use Rattle.block_pool.specs.Passing.{Passed}
 use Rattle.pass_players.specs.Growing.{Grows}
 use Rattle.object_store.specs.Objects.{ObjectView}
-use Rattle.store_player.specs.Playing.{AreApart, AreHeld, BlockIs, Does, HasPresent, PlaysSoFar, TakesSteps, object_in, uses_words}
+use Rattle.store_player.specs.Playing.{AreApart, AreHeld, BlockIs, Does, HasPresent, NumbersAre, PlaysSoFar, TakesSteps, object_in}
+use Rattle.store_player.specs.Playing.{uses_words}
 
 -- ---- one command more
 
@@ -43,17 +45,20 @@ steps_more quantum entries es answers answer start old new before more =
     }
 
 -- what a block is known as, it is behind more blocks
-pub block_behind : (blocks more : List ℕ) (k : Option Kept) (o : Option (ObjectView Quad)) → BlockIs blocks k o → BlockIs (blocks ++ more) k o
+pub block_behind : (blocks more : List ℕ) (k : Option Kept) (o : Option (ObjectView Quad)) → BlockIs blocks k o
+    → BlockIs (blocks ++ more) k o
 block_behind blocks more None o is = tt
 block_behind blocks more (Some before) None is = tt
-block_behind blocks more (Some before) (Some object) is = λ others. ap (λ bs. slice_index bs before.put) (append_assoc blocks more others) ∙ is (more ++ others)
+block_behind blocks more (Some before) (Some object) is = λ others.
+    ap (λ bs. slice_index bs before.put) (append_assoc blocks more others) ∙ is (more ++ others)
 
 -- a command was played: it appended these refusals, blocks and entries
 module _ (keys : List ℕ) (done : List Command) (command : Command) (start old new : Passed) (slots later : List (Option (ObjectView Quad)))
     (answers : List Answered) (answer : Answered) (made number : ℕ) (rs : List Bool) (bs : List ℕ) (es : List Entry) (walk : Walk) where
   pub so_far_step : (p : PlaysSoFar keys done start old slots answers made)
       → ((more : List Bool) → after (p.refused ++ (rs ++ more)) p.walk command ≡ walk)
-      → ((more : List Bool) (others : List ℕ) → calls_of start.number (p.refused ++ (rs ++ more)) (p.blocks ++ (bs ++ others)) p.walk command ≡ es)
+      → ((more : List Bool) (others : List ℕ)
+      → calls_of start.number (p.refused ++ (rs ++ more)) (p.blocks ++ (bs ++ others)) p.walk command ≡ es)
       → walk.puts ≡ p.walk.puts + length rs → length bs ≡ length rs → length es ≤ 1 → number ≡ made + length es
       → walk.answers ≡ p.walk.answers ++ answer ∷ []
       → HasPresent keys walk later → AreHeld later new → AreApart later
@@ -101,8 +106,8 @@ call_steps used start old new same call is =
 -- ---- how the pass grows
 
 -- no call was made, and of what it makes of the pass only moves and known words differ
-pub grows_still : (entries : List Entry) (start old new : Passed) → new ≡ record old { moves = new.moves; known = new.known } → Grows entries start old
-    → Grows (entries ++ []) start new
+pub grows_still : (entries : List Entry) (start old new : Passed) → new ≡ record old { moves = new.moves; known = new.known }
+    → Grows entries start old → Grows (entries ++ []) start new
 grows_still entries start old new is grown =
     let none : entries ++ [] ≡ entries = append-nil entries in
     subst (λ (es : List Entry). Grows es start new) (sym none)
@@ -116,15 +121,13 @@ grows_still entries start old new is grown =
 
 -- ---- what a key keeps, by what its slot has
 
-pub kept_filled : (o : Option (ObjectView Quad)) (k : Option Kept) (object : ObjectView Quad)
-    → option_map (λ object. object.value) o ≡ option_map (λ before. before.value) k → o ≡ Some object
+pub kept_filled : (o : Option (ObjectView Quad)) (k : Option Kept) (object : ObjectView Quad) → NumbersAre k o → o ≡ Some object
     → (before : Kept) × (k ≡ Some before) × (object.value ≡ before.value)
 kept_filled None k object same is = absurd (cc)
 kept_filled (Some has) None object same is = absurd (cc)
 kept_filled (Some has) (Some before) object same is = (before, refl, cc)
 
-pub kept_empty : (o : Option (ObjectView Quad)) (k : Option Kept)
-    → option_map (λ object. object.value) o ≡ option_map (λ before. before.value) k → o ≡ None → k ≡ None
+pub kept_empty : (o : Option (ObjectView Quad)) (k : Option Kept) → NumbersAre k o → o ≡ None → k ≡ None
 kept_empty None None same is = refl
 kept_empty None (Some before) same is = absurd (cc)
 kept_empty (Some has) k same is = absurd (cc)

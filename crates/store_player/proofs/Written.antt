@@ -1,5 +1,6 @@
 -- What the slots have, after one was written.
-use Rattle.std.proofs.Common.{◌≡◌, ◌≢◌, ℕ, ◌<◌, ◌⊎◌, cond, eqb, Option, Some, None, option_map, List, ◌++◌, length, set, sym, ap, ◌∙◌, subst, ⊎_elim, inl, inr}
+use Rattle.std.proofs.Common.{◌≡◌, ◌≢◌, ℕ, ◌<◌, ◌⊎◌, cond, eqb, Option, Some, None, option_map, List, ◌++◌, length, set}
+use Rattle.std.proofs.Common.{sym, ap, ◌∙◌, subst, ⊎_elim, inl, inr}
 use Rattle.std.proofs.lemmas.Bool.{cases_eq, ne_eqb, eq-eqb}
 use Rattle.std.proofs.lemmas.List.{get_or-set_same, get_or-set_other}
 use Rattle.std.proofs.lemmas.Option.{same_Some}
@@ -9,7 +10,7 @@ use Rattle.store_script.specs.Script.{place_of}
 use Rattle.store_script.proofs.Places.{one_key}
 use Rattle.block_pool.specs.Passing.{Passed}
 use Rattle.object_store.specs.Objects.{HoldsWords, ObjectView}
-use Rattle.store_player.specs.Playing.{AreApart, AreHeld, BlockIs, HasPresent, object_in, quad_words}
+use Rattle.store_player.specs.Playing.{AreApart, AreHeld, BlockIs, HasPresent, NumbersAre, object_in, quad_words}
 
 -- ---- a slot is written
 
@@ -31,8 +32,7 @@ module _ (slots : List (Option (ObjectView Quad))) (slot : ℕ) (given : Option 
   -- the slot of a key has what is kept for it, and other keys keep what they kept
   pub present_written : (keys : List ℕ) (key : ℕ) (found : Option Kept) (walk later : Walk) → place_of key keys ≡ Some slot
       → ((q : ℕ) → kept later q ≡ cond (eqb q key) found (kept walk q))
-      → option_map (λ object. object.value) given ≡ option_map (λ before. before.value) found
-      → HasPresent keys walk slots → HasPresent keys later (set slots slot given)
+      → NumbersAre found given → HasPresent keys walk slots → HasPresent keys later (set slots slot given)
   present_written keys key found walk later placed updated same present q place is = ⊎_elim
       (λ (e : q ≡ key).
       let at : place ≡ slot = same_Some place slot (sym is ∙ ap (λ k. place_of k keys) e ∙ placed) in
@@ -46,8 +46,8 @@ module _ (slots : List (Option (ObjectView Quad))) (slot : ℕ) (given : Option 
       (cases_eq q key)
 
   -- so have the blocks of the puts
-  pub blocks_written : (keys : List ℕ) (key : ℕ) (found : Option Kept) (walk later : Walk) (blocks more : List ℕ) → place_of key keys ≡ Some slot
-      → ((q : ℕ) → kept later q ≡ cond (eqb q key) found (kept walk q))
+  pub blocks_written : (keys : List ℕ) (key : ℕ) (found : Option Kept) (walk later : Walk) (blocks more : List ℕ)
+      → place_of key keys ≡ Some slot → ((q : ℕ) → kept later q ≡ cond (eqb q key) found (kept walk q))
       → BlockIs (blocks ++ more) found given
       → ((q place : ℕ) → place_of q keys ≡ Some place → BlockIs (blocks ++ more) (kept walk q) (object_in slots place))
       → (q place : ℕ) → place_of q keys ≡ Some place → BlockIs (blocks ++ more) (kept later q) (object_in (set slots slot given) place)
@@ -61,7 +61,8 @@ module _ (slots : List (Option (ObjectView Quad))) (slot : ℕ) (given : Option 
       two (sym (updated q ∙ ap (λ b. cond b found (kept walk q)) (ne_eqb q key ne))) (sym (kept_there place apart)) (there q place is))
       (cases_eq q key)
     where
-      two : {a b : Option Kept} {x y : Option (ObjectView Quad)} → a ≡ b → x ≡ y → BlockIs (blocks ++ more) a x → BlockIs (blocks ++ more) b y
+      two : {a b : Option Kept} {x y : Option (ObjectView Quad)} → a ≡ b → x ≡ y → BlockIs (blocks ++ more) a x
+          → BlockIs (blocks ++ more) b y
       two {b = b} {x = x} e f h = subst (BlockIs (blocks ++ more) b) f (subst (λ a. BlockIs (blocks ++ more) a x) e h)
 
   -- the pass holds what was given, and what it held besides

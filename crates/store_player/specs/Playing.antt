@@ -1,5 +1,6 @@
 -- A store script that the process of a pass plays.
-use Rattle.std.specs.Prelude.{◌≡◌, ℕ, ◌+◌, ◌*◌, ◌^◌, ◌<◌, ◌≤◌, Bool, true, false, Option, Some, None, List, [], ◌∷◌, ◌++◌, option_map, length, count_by, slice_index, slice_index_or}
+use Rattle.std.specs.Prelude.{◌≡◌, ℕ, ◌+◌, ◌*◌, ◌^◌, ◌<◌, ◌≤◌, Bool, true, false, Option, Some, None, List, [], ◌∷◌, ◌++◌}
+use Rattle.std.specs.Prelude.{option_map, length, count_by, slice_index, slice_index_or}
 use Rattle.pool_model.specs.declared.entry.Entry.{Entry}
 use Rattle.store_script.specs.declared.quad.Quad.{Quad}
 use Rattle.store_script.specs.declared.command.Command.{Command}
@@ -41,10 +42,13 @@ pub record TakesSteps (quantum calls used before after : ℕ) : Type 0 where
   pub some : before + 4 * used ≤ after
   pub few : after ≤ before + calls * (quantum + 1) + 8 * used
 
+-- the numbers that are kept are those that an object has; or there is neither
+abbrev pub NumbersAre : Option Kept → Option (ObjectView Quad) → Type 0
+NumbersAre before found = option_map (λ object. object.value) found ≡ option_map (λ before. before.value) before
+
 -- each key has its slot: that has an object with the numbers that are kept for the key, or else nothing
 abbrev pub HasPresent : List ℕ → Walk → List (Option (ObjectView Quad)) → Type 0
-HasPresent keys walk slots = (key slot : ℕ) → place_of key keys ≡ Some slot
-    → option_map (λ object. object.value) (object_in slots slot) ≡ option_map (λ before. before.value) (kept walk key)
+HasPresent keys walk slots = (key slot : ℕ) → place_of key keys ≡ Some slot → NumbersAre (kept walk key) (object_in slots slot)
 
 -- the pass holds the block of each object, and knows its words as those of the numbers
 abbrev pub AreHeld : List (Option (ObjectView Quad)) → Passed → Type 0
@@ -112,8 +116,9 @@ pub record IsNext (command : Command) (pool : Pooled) (pass : Passed) (slots : L
   pub played : PlaysSoFar keys done start pass slots answers made
 
 -- however the playing came here, it goes on with this command, which is answered so
-abbrev pub GoesOn : Command → Answered → Passed → Passed → List (Option (ObjectView Quad)) → List (Option (ObjectView Quad)) → ℕ → ℕ → Type 0
+abbrev pub GoesOn : Command → Answered → Passed → Passed → List (Option (ObjectView Quad)) → List (Option (ObjectView Quad)) → ℕ → ℕ
+    → Type 0
 GoesOn command answer old new slots later made after =
-    (keys : List ℕ) (done : List Command) (start : Passed) (answers : List Answered) → place_of (key_of command) keys ≡ Some (slot_of command)
-    → PlaysSoFar keys done start old slots answers made
+    (keys : List ℕ) (done : List Command) (start : Passed) (answers : List Answered)
+    → place_of (key_of command) keys ≡ Some (slot_of command) → PlaysSoFar keys done start old slots answers made
     → PlaysSoFar keys (done ++ command ∷ []) start new later (answers ++ answer ∷ []) after

@@ -1,10 +1,8 @@
 // A pool whose passes play a store script each, and that is closed then.
-ghost use Rattle.std.specs.Prelude.{◌≡◌, ℕ, Some, IfOk, length, slice_get};
-ghost use Rattle.store_script.specs.declared.command.StoreScript.{StoreScript};
+ghost use Rattle.std.specs.Prelude.{IfOk};
 ghost use Rattle.block_pool.specs.Closing.{AreInOrder};
-ghost use Rattle.block_pool.specs.Passing.{Passed};
 ghost use Rattle.pass_players.specs.Settled.{PlayedAll};
-ghost use Rattle.store_player.specs.Player.{IsServed, MayPlayStore};
+ghost use Rattle.store_player.specs.Player.{IsServed, MayPlayStores};
 
 use crate::player::{AnswerList, StorePlayer};
 use block_pool::{Pass, Pool, Settled};
@@ -23,6 +21,19 @@ pub struct Replied {
     pub settled: Settled,
 }
 
+impl From<pass_players::Played<AnswerList>> for Replied {
+    ghost use Rattle.std.specs.Prelude.{◌≡◌};
+
+    ghost from_gives = { λ played own. own ≡ record { answers = played.outcomes; settled = played.settled } };
+
+    fn from(played: pass_players::Played<AnswerList>) -> Replied {
+        Replied {
+            answers: played.outcomes,
+            settled: played.settled,
+        }
+    }
+}
+
 /// Plays each script with the pass of the same place, in a thread of its own where one can be had, and closes the pool.
 /// The one history that this gives has, of process `k`, what its pass had entered before, and then calls that fit
 /// script `k`; the answers are those with the refusals of these calls. The gate is told of each call before it.
@@ -37,17 +48,12 @@ pub fn play_stores<R: Threads + Sync, G: Gate + Sync>(
     gate: &G,
 ) -> Result<Replied, NoMemory>
     requires passes { AreInOrder pool passes.items }
-    requires one_each { length passes.items ≡ length scripts.now }
-    requires may { (k : ℕ) (pass : Passed) (script : StoreScript) → slice_get passes.items k ≡ Some pass → slice_get scripts.now k ≡ Some script
-        → MayPlayStore pool pass script }
+    requires may { MayPlayStores pool passes.items scripts.now }
     ensures { IfOk result (λ replied.
         PlayedAll IsServed (G.told gate.now) pool passes.items scripts.now replied.answers.items replied.settled) }
 {
     let played = pass_players::play_all::<R, StorePlayer, G>(
         rt, alloc, pool, passes, scripts, gate,
     )?;
-    Ok(Replied {
-        answers: played.outcomes,
-        settled: played.settled,
-    })
+    Ok(Replied::from(played))
 }

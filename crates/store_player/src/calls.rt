@@ -1,5 +1,5 @@
 // Calls of a store that a gate is told of before they are made.
-ghost use Rattle.std.specs.Prelude.{◌≡◌, ℕ, ◌+◌, ◌≤◌, ◌^◌, ◌<◌};
+ghost use Rattle.std.specs.Prelude.{◌≡◌, ◌+◌, ◌≤◌, ◌^◌, ◌<◌};
 ghost use Rattle.pool_io.specs.Gates.{ToldBefore};
 ghost use Rattle.pool_model.specs.declared.entry.Entry.TheVariants.{Back};
 ghost use Rattle.block_pool.specs.Calls.{entry_of};

@@ -1,11 +1,11 @@
 // One store script, played by the process of one pass.
-ghost use Rattle.std.specs.Prelude.{◌≡◌, ◌+◌, ◌-◌, ◌^◌, ◌<◌, ◌≤◌, ◌∷◌, ◌++◌, [], None, List, ℕ, length, replicate};
+ghost use Rattle.std.specs.Prelude.{◌≡◌, ◌+◌, ◌-◌, ◌^◌, ◌<◌, ◌≤◌, None, length, replicate};
 ghost use Rattle.pool_io.specs.Gates.{ToldBefore};
 ghost use Rattle.store_script.specs.declared.answered.Answered.{Answered};
 ghost use Rattle.store_script.specs.declared.command.Command.{Command};
 ghost use Rattle.store_script.specs.declared.command.Command.TheVariants as command;
 ghost use Rattle.store_script.specs.Script.{IsWellFormed};
-ghost use Rattle.block_pool.specs.Passing.{IsOf, Passed};
+ghost use Rattle.block_pool.specs.Passing.{IsOf};
 ghost use Rattle.store_script.specs.Replies.{changed};
 ghost use Rattle.object_store.specs.Calls.{KeepsOthers};
 ghost use Rattle.object_store.specs.Objects.{HoldsWords};

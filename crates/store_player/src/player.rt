@@ -1,7 +1,7 @@
 // Who plays a store script.
-ghost use Rattle.std.specs.Prelude.{◌≡◌, IfOk, length, replicate};
+ghost use Rattle.std.specs.Prelude.{◌≡◌, IfOk, replicate};
 ghost use Rattle.store_script.specs.declared.answered.Answered.TheVariants.{Absent};
-ghost use Rattle.store_player.specs.Player.{HasPlaces, IsServed, Suits};
+ghost use Rattle.store_player.specs.Player.{HasPlaces, IsServed, Suits, most_calls_of};
 
 use crate::one::play_store;
 use block_pool::{Pass, Pool};
@@ -41,7 +41,7 @@ impl Player for StorePlayer {
 
     ghost suits = { Suits };
 
-    ghost most_calls = { λ script. length script.commands };
+    ghost most_calls = { most_calls_of };
 
     ghost is_ready = { λ script player. HasPlaces script player.slots.items player.answers.items };
 

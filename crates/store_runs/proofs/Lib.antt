@@ -1,4 +1,5 @@
 mod Enough
+mod Playable
 mod Present
 pub mod Settling
 mod Unrefused

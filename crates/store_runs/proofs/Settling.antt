@@ -1,5 +1,5 @@
 -- A pool that was opened, whose passes played store scripts, and that was closed.
-use Rattle.std.proofs.Common.{◌≡◌, ℕ, List, length, arith, Some}
+use Rattle.std.proofs.Common.{◌≡◌, ℕ, List, length, Some}
 use Rattle.std.specs.Prelude.{slice_get}
 use Rattle.word_layout.specs.Sizes.{Sizes, limits_of}
 use Rattle.store_script.specs.declared.command.StoreScript.{StoreScript}

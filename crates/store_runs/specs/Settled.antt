@@ -1,5 +1,5 @@
 -- What playing store scripts over a pool of their own leaves.
-use Rattle.std.specs.Prelude.{◌≡◌, ℕ, ◌*◌, ◌≤◌, Some, List, length, count_by, slice_get}
+use Rattle.std.specs.Prelude.{◌≡◌, ℕ, Some, List, length, count_by, slice_get}
 use Rattle.word_layout.specs.Sizes.{Sizes, limits_of}
 use Rattle.pool_model.specs.History.{own}
 use Rattle.pool_model.specs.Legal.{IsLegal}

@@ -35,8 +35,5 @@ pub fn play_stores_on_pool<R: Threads + Sync, G: Gate + Sync>(
     ensures told { IfOk result (λ replied. WasToldOfAll (G.told gate.now) shape.now.processes replied.settled.history) }
 {
     let played = play_over::<R, StorePlayer, G>(rt, alloc, shape, scripts, gate)?;
-    Ok(Replied {
-        answers: played.outcomes,
-        settled: played.settled,
-    })
+    Ok(Replied::from(played))
 }

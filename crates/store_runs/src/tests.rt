@@ -49,6 +49,7 @@ fn play_opened<R: Threads + Sync>(
 
 /// Compares the answers to some scripts with these.
 fn compare(rt: &impl Abort, replied: &Replied, expected: &[Vec<Answered>]) {
+    assert_eq!(rt; replied.answers.len(), expected.len());
     for (played, expected) in replied.answers.iter().zip(expected.iter()) {
         assert_eq!(rt; played.as_slice(), expected.as_slice());
     }

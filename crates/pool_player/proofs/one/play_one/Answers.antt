@@ -18,7 +18,8 @@ play_step-requires-clause-next g c =
     let place = c.loop-step.step-index in
     let e = c.as_slice-step-items.ensures in
     let within = rw e at c.loop-step-test.true in
-    let slots : length c.loop-step.slots ≡ script.news = c.loop-step.auto.slots ∙ ap length c.requires.empty ∙ length-replicate script.news _ in
+    let slots : length c.loop-step.slots ≡ script.news
+    = c.loop-step.auto.slots ∙ ap length c.requires.empty ∙ length-replicate script.news _ in
     let same = c.loop-step.invariant.played.grown.same in
     rw e (record {
       script = script;
@@ -40,7 +41,8 @@ loop-step-preserved g c =
     let may = may_come script place (Place 0) c.requires.well_formed within in
     record {
       played = rw (e, take_more script.steps place (Place 0) within)
-          (rw e at (c.play_step.ensures.played script (take place script.steps) c.args.pass.now (rw e may) (rw e at c.loop-step.invariant.played)));
+          (rw e at (c.play_step.ensures.played script (take place script.steps) c.args.pass.now (rw e may)
+          (rw e at c.loop-step.invariant.played)));
       told = c.play_step.ensures.told;
     }
 

@@ -39,7 +39,8 @@ returns-in-Got-clause-played g c = λ script done start may played.
     let within = place_within next.done _ _ (rw c.in-Place.is at next.may_come) (rw c.in-Place.is at next.room) in
     let at = rw c.in-Place.is at may in
     rw (c.in-Place.is, c.in-Got.ensures.made)
-    (so_far_got script done start _ _ _ _ _ _ c.in-Place.slot c.in-Got.block at within c.in-Got.ensures.calls (c.in-Got.ensures.free _ refl) c.count_given.ensures played)
+    (so_far_got script done start _ _ _ _ _ _ c.in-Place.slot c.in-Got.block at within c.in-Got.ensures.calls
+    (c.in-Got.ensures.free _ refl) c.count_given.ensures played)
 
 pub returns-in-Dry-clause-played : goal.returns-in-Dry-clause-played
 returns-in-Dry-clause-played g c = λ script done start may played.
@@ -60,7 +61,8 @@ count_freed-requires-clause-some g c =
     let next = c.requires.next in
     let own = rw c.in-Leave.is at next.may_come in
     let within = leave_within _ _ next.done _ _ next.played.plays.names own.0 (rw c.in-Leave.is at next.room) in
-    left-some next.played.plays c.in-Leave.slot _ within (block_at c.args.slots.now c.in-Leave.slot _ _ _ within c.take.ensures.value c.in-Some.is)
+    left-some next.played.plays c.in-Leave.slot _ within
+    (block_at c.args.slots.now c.in-Leave.slot _ _ _ within c.take.ensures.value c.in-Some.is)
 
 pub returns-in-Some-clause-played : goal.returns-in-Some-clause-played
 returns-in-Some-clause-played g c = λ script done start may played.
@@ -70,7 +72,8 @@ returns-in-Some-clause-played g c = λ script done start may played.
     let at = rw c.in-Leave.is at may in
     let has = block_at c.args.slots.now c.in-Leave.slot _ _ _ within c.take.ensures.value c.in-Some.is in
     rw (c.in-Leave.is, c.take.ensures.after, c.free.ensures.made)
-    (so_far_back script done start _ _ _ _ _ _ c.in-Leave.slot c.in-Some.block at.0 within has c.free.ensures.calls c.count_freed.ensures played)
+    (so_far_back script done start _ _ _ _ _ _ c.in-Leave.slot c.in-Some.block at.0 within has c.free.ensures.calls
+    c.count_freed.ensures played)
 
 pub returns-in_default-clause-played : goal.returns-in_default-clause-played
 returns-in_default-clause-played g c = λ script done start may played.

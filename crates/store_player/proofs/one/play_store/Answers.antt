@@ -20,7 +20,8 @@ play_command-requires-clause-next g c =
     let e = c.as_slice-command-items.ensures in
     let within = rw e at c.loop-place-test.true in
     let size = length-take-le place script.commands (omega arith) in
-    let slots : length c.loop-place.slots ≡ script.slots = c.loop-place.auto.slots ∙ ap length c.requires.empty ∙ length-replicate script.slots _ in
+    let slots : length c.loop-place.slots ≡ script.slots
+    = c.loop-place.auto.slots ∙ ap length c.requires.empty ∙ length-replicate script.slots _ in
     let same = c.loop-place.invariant.played.grown.same in
     rw e (record {
       keys = keys_of script.commands;
@@ -42,7 +43,8 @@ returns-clause-played g c =
     let script = c.args.script.now in
     let e = c.as_slice-command-items.ensures in
     let past = rw e at c.loop-place-test.false in
-    let all : take c.loop-place.place c.args.script.now.commands ≡ c.args.script.now.commands = take_all c.loop-place.place c.args.script.now.commands past in
+    let all : take c.loop-place.place c.args.script.now.commands ≡ c.args.script.now.commands
+    = take_all c.loop-place.place c.args.script.now.commands past in
     let answered : take c.loop-place.place c.loop-place.answers ≡ c.loop-place.answers =
     take_all c.loop-place.place c.loop-place.answers (omega (arith, past, c.loop-place.invariant.room, c.requires.answers)) in
     played_all c.args.script.now c.args.pass.now c.loop-place.pass c.loop-place.slots c.loop-place.answers c.loop-place.made
