@@ -1,12 +1,12 @@
 -- the kept draft is that of the loaded words, after every step
-use Rattle.std.proofs.Common.{◌≡◌, ℕ, ◌+◌, ◌<◌, ◌==◌, Bool, true, false, refl, subst, set}
-use Rattle.std.specs.Prelude.{if◌then◌else◌, nat_lt}
+use Rattle.std.proofs.Common.{◌≡◌, ℕ, ◌+◌, ◌<◌, ◌==◌, Bool, refl, subst, set}
+use Rattle.std.specs.Prelude.{nat_lt}
 use Rattle.word_layout.specs.Sizes.{Sizes}
 use Rattle.word_layout.specs.Names.{records, record_words}
 use Rattle.word_layout.specs.Packing.{tag_of}
 use Rattle.transfer_machine.specs.Loads.{loaded_tag, overlay_length, loaded_record}
 use Rattle.transfer_machine.specs.Drafted.{drafted, SameDraft, HasRoom, DraftsLoaded, DraftsLoadedAt, DraftsLoadedInTry}
-use Rattle.transfer_machine.specs.Machine.{met_at, met_in_try, CanActAt, CanMeetAt, CanActInTry, CanMeetInTry, after_slot, after_try, try_ended, installed}
+use Rattle.transfer_machine.specs.Machine.{met_at, met_in_try, CanActAt, CanMeetAt, CanActInTry, CanMeetInTry, try_ended, installed}
 use Rattle.transfer_machine.specs.declared.loaded.Loaded.{Loaded}
 use Rattle.transfer_machine.specs.declared.transfer.TransferView.{TransferView}
 use Rattle.transfer_machine.specs.declared.stage.NextStep.{NextStep}

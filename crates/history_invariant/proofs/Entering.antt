@@ -1,13 +1,12 @@
 -- What each kind of entry owes.
 use Rattle.std.proofs.Common.{◌≡◌, ◌≢◌, ℕ, ◌<◌, refl, arith, List, [], ◌∷◌, ◌++◌, length-append}
 use Rattle.std.specs.List.{Contains, count_by}
-use Rattle.std.proofs.lemmas.Bool.Decides.{nat_tests}
 use Rattle.pool_model.specs.declared.entry.Entry.{Entry}
 use Rattle.pool_model.specs.declared.entry.Entry.TheVariants.{Got, Back, Dry}
 use Rattle.pool_model.specs.Limits.{Limits}
 use Rattle.pool_model.specs.History.{held, grip, is_got, is_back}
 use Rattle.transfer_schedule.specs.declared.own_step.Source.TheVariants.{Nothing}
-use Rattle.transfer_schedule.specs.Numbers.{AreSizes, source_of, after_took_one, after_gave_one}
+use Rattle.transfer_schedule.specs.Numbers.{AreSizes, source_of}
 use Rattle.transfer_schedule.specs.Account.{Account, Own, gets, refuses, frees, follows}
 use Rattle.transfer_schedule.proofs.Operations.{took_same, gave_same}
 use Rattle.history_invariant.specs.Ledger.{Ledger}

@@ -1,24 +1,19 @@
 -- the own step of a call can be made
-use Rattle.std.proofs.Common.{◌≡◌, ◌≢◌, ℕ, ◌-◌, ◌<◌, ◌≤◌, Bool, true, false, Option, None, Some, List, length, refl, arith}
-use Rattle.std.specs.Prelude.{if◌then◌else◌, nat_lt, Contains}
+use Rattle.std.proofs.Common.{◌≡◌, ◌≢◌, ℕ, ◌<◌, Some, List, length, refl, arith}
 use Rattle.std.proofs.lemmas.Bool.Decides.{nat_tests}
-use Rattle.word_layout.specs.Sizes.{Sizes, IsShape, blocks}
+use Rattle.word_layout.specs.Sizes.{Sizes, IsShape}
 use Rattle.pool_model.specs.declared.entry.Entry.{Entry}
 use Rattle.transfer_schedule.specs.Numbers as schedule
-use Rattle.transfer_schedule.specs.declared.own_step.Source.TheVariants as source
 use Rattle.transfer_schedule.specs.declared.own_step.Target.TheVariants as target
 use Rattle.transfer_machine.specs.Words.{name_of}
-use Rattle.pool_machine.specs.declared.call.Call.{Call}
-use Rattle.pool_machine.specs.declared.call.Call.TheVariants.{Allocate, Free, Read, Write}
+use Rattle.pool_machine.specs.declared.call.Call.TheVariants.{Free}
 use Rattle.pool_machine.specs.declared.call.CallStage.TheVariants.{Own}
 use Rattle.pool_machine.specs.declared.call.Way.TheVariants.{Alone}
 use Rattle.transfer_invariant.specs.Memory.{Words, state_tag}
-use Rattle.pool_machine.specs.OwnSteps.{block_from, allocate_action, own_action, own_action_for}
-use Rattle.pool_machine.specs.Ready.{CanAllocate, CanFollow, CanOwnFor, CanMeetOwnFor, CanOwn, CanMeetOwn}
+use Rattle.pool_machine.specs.OwnSteps.{own_action}
+use Rattle.pool_machine.specs.Ready.{CanOwn, CanMeetOwn}
 use Rattle.batch_invariant.specs.Batches.{ProcessViews}
-use Rattle.chain_invariant.specs.Calls.{NamesHeld}
 use Rattle.chain_invariant.proofs.Calls.{own_can_at}
-use Rattle.chain_invariant.proofs.Gives.{held_are_apart, current_lists_are_free, spares_are_free}
 use Rattle.call_invariant.proofs.Owned.{frees_have_room, holders_may_free}
 use Rattle.interleaving_core.specs.Invariant.{Ghosts, held_in, Holds}
 use Rattle.interleaving_core.proofs.OwnLedgers.{OwnDue, due_of, names, shares}

@@ -1,14 +1,12 @@
 -- the steps of transfers, alone and in calls
-use Rattle.std.proofs.Common.{◌≡◌, ◌≢◌, ℕ, ◌<◌, true, List, refl, sym, ap, ◌∙◌, arith}
+use Rattle.std.proofs.Common.{◌≡◌, ◌≢◌, ℕ, ◌<◌, true, List, refl, sym, ap, ◌∙◌}
 use Rattle.word_layout.specs.Sizes.{Sizes, IsShape, transfer_bound, limits_of}
 use Rattle.word_layout.specs.Packing.{value_of, reply_of}
 use Rattle.word_layout.specs.declared.reply.Reply.TheVariants.{Nothing}
 use Rattle.pool_model.specs.declared.entry.Entry.{Entry}
 use Rattle.transfer_machine.specs.Machine.{action_of}
-use Rattle.pool_machine.specs.Pools.{view_met, pending_of}
+use Rattle.pool_machine.specs.Pools.{view_met}
 use Rattle.transfer_schedule.specs.Numbers.{is_taking}
-use Rattle.word_layout.specs.declared.announced.Wish.{Wish}
-use Rattle.word_layout.specs.declared.announced.Wish.TheVariants.{Take, Give}
 use Rattle.transfer_machine.specs.Tries.{is_take}
 use Rattle.transfer_machine.specs.Words.{name_of}
 use Rattle.pool_machine.specs.declared.call.CallStage.TheVariants.{Moving}
