@@ -4,6 +4,6 @@ use Rattle.block_marks.proofs.marks.Marks.clear.Goals as goal
 
 pub returns : goal.returns
 returns c =
-    let one = clear_one c.self.inside.bound c.self.inside.words.items _ c.args.number c.index_mut.result.now c.self.view_is c.requires c.self.invariant
-    c.index_mut.ensures.value in
+    let one = clear_one c.self.inside.bound c.self.inside.words.items _ c.args.number c.index_mut.result.now c.self.view_is
+    c.requires c.self.invariant c.index_mut.ensures.value in
     record { bound = search rules; marked = one.0; others = one.1 }
