@@ -57,18 +57,16 @@ mod tests {
     ) -> Result<(), Fail> {
         let alloc = rt.alloc();
         for most in PIECES {
-            let file = (String::from_str(alloc, "f")?, Vec::from_slice(alloc, text)?);
             let failing = vec![in alloc; failing]?;
-            let mut files = MemoryFiles::new(vec![in alloc; file]?, failing, most);
+            let mut files = MemoryFiles::of_one(alloc, "f", text, failing, most)?;
             let source = files.open("f")?;
             let trace = read_trace(alloc, &mut files, source, room);
             let read = match &trace {
                 Ok(trace) => Ok((trace.operations.as_slice(), trace.cut)),
                 Err(fault) => Err(*fault),
             };
-            let same = read == expected;
             let shown = &text[..text.len().min(100)];
-            assert!(rt; same, "{shown:?} by pieces of {most}");
+            assert!(rt; read == expected, "{shown:?} by pieces of {most}");
         }
         Ok(())
     }
