@@ -1,5 +1,6 @@
 -- The options of a command, and what its words match, as `clap` reads one simple command.
-use Rattle.std.specs.Prelude.{◌≡◌, ℕ, List, [], ◌∷◌, Option, Some, None, codes, true, fold, option_and_then}
+use Rattle.std.specs.Prelude.{◌≡◌, ℕ, List, [], ◌∷◌, Option, Some, None, codes, true, fold, map, option_and_then}
+use Rattle.std.specs.Borrow.{Bor}
 use Rattle.clap.specs.Simple.{on_top}
 use Rattle.clap.specs.Words.{App, Kinds, Row, Rule, fault_of, first_of, is_simple, is_simple_and_free, matches_of}
 use Rattle.clap.specs.Words.{new_app, new_rule, with_rule}
@@ -21,6 +22,14 @@ without_help = on_top (λ command. record command { disable_help_flag = true })
 -- a command with these options and files, in this order
 abbrev pub command_of : List ℕ → List Rule → App
 command_of name rules = fold with_rule (without_help (new_app name)) rules
+
+-- a command with these options, each a name and what it is where it isn't given
+abbrev pub with_options : List ℕ → List (Bor (List ℕ) × Bor (List ℕ)) → App
+with_options name options = command_of name (map (λ option. option_rule option.0.now option.1.now) options)
+
+-- the same command, which takes files too
+abbrev pub with_files : App → App
+with_files app = with_rule app files_rule
 
 -- the number of at most so many bits that the matches have for an option
 abbrev pub number_at : ℕ → List ℕ → List Row → Option ℕ

@@ -5,7 +5,7 @@ ghost use Rattle.command_words.specs.Drill.{drill_in, drill_meant};
 ghost use Rattle.command_words.specs.Reads.{Reads};
 
 use crate::asked::{Asked, read_asked};
-use crate::options::{bare_command, long_number_of_option, number_of_option, option};
+use crate::options::{command_with_options, long_number_of_option, number_of_option};
 use crate::{Drill, MOST_CALLS, WordsFault};
 use clap::ArgMatches;
 use std::alloc::{AllocError, Global};
@@ -30,12 +30,15 @@ impl Asked for Drill {
 
     ghost readable = { drill_is_readable };
 
+    #[tactic(auto, unfolding(crate::specs::Drill::drill_app))]
     fn command<'a>(alloc: Global) -> Result<clap::Command<'a>, AllocError> {
-        bare_command(alloc, "drill")
-            .arg(option(alloc, "seed", "1"))?
-            .arg(option(alloc, "processes", "4"))?
-            .arg(option(alloc, "calls", "1000"))?
-            .arg(option(alloc, "quantum", "8"))
+        let options = [
+            ("seed", "1"),
+            ("processes", "4"),
+            ("calls", "1000"),
+            ("quantum", "8"),
+        ];
+        command_with_options(alloc, "drill", &options)
     }
 
     fn of_matches(_alloc: Global, matches: &ArgMatches<'_>) -> Result<Drill, WordsFault> {

@@ -2,6 +2,7 @@
 ghost use Rattle.std.specs.Prelude.{◌≡◌, [], false, IfOk, IfErr, codes, map, string_bytes};
 ghost use Rattle.clap.specs.Words.{all_of, app_of, found_of, rows_of, rule_of};
 ghost use Rattle.command_words.specs.Options.{IsMatchedBy, IsReadable, IsRefused, command_of, files_rule, number_at, option_rule};
+ghost use Rattle.command_words.specs.Options.{with_files, with_options};
 ghost use Rattle.command_words.specs.Reads.{Reads};
 ghost use Rattle.command_words.specs.declared.fault.WordsFault.TheVariants.{Faulty};
 
@@ -11,10 +12,36 @@ use clap::{Arg, ArgAction, ArgMatches};
 use std::alloc::{AllocError, Global};
 
 /// A command without options and files, and without the flag that asks for help.
-pub(crate) fn bare_command<'a>(alloc: Global, name: &'a str) -> clap::Command<'a>
+fn bare_command<'a>(alloc: Global, name: &'a str) -> clap::Command<'a>
     ensures { app_of result ≡ command_of name.entry.now [] }
 {
     clap::Command::new(alloc, name).disable_help_flag(true)
+}
+
+/// A command with these options, each a name and its default, and without files.
+pub(crate) fn command_with_options<'a>(
+    alloc: Global,
+    name: &'a str,
+    options: &[(&'a str, &'a str)],
+) -> Result<clap::Command<'a>, AllocError>
+    ensures { IfOk result (λ command. app_of command ≡ with_options name.entry.now options.now) }
+{
+    let mut command = bare_command(alloc, name);
+    for &(option_name, default) in options {
+        command = command.arg(option(alloc, option_name, default))?;
+    }
+    Ok(command)
+}
+
+/// A command with these options, each a name and its default, and with files.
+pub(crate) fn command_with_files<'a>(
+    alloc: Global,
+    name: &'a str,
+    options: &[(&'a str, &'a str)],
+) -> Result<clap::Command<'a>, AllocError>
+    ensures { IfOk result (λ command. app_of command ≡ with_files (with_options name.entry.now options.now)) }
+{
+    command_with_options(alloc, name, options)?.arg(files_arg(alloc))
 }
 
 /// What words match of a command, whose name is the first of them. Its errors are a fault that `clap` finds in them,
@@ -32,7 +59,7 @@ pub(crate) fn read_matches<'a>(
 }
 
 /// An option `--name V` with its default.
-pub(crate) fn option<'a>(alloc: Global, name: &'a str, default: &'a str) -> Arg<'a>
+fn option<'a>(alloc: Global, name: &'a str, default: &'a str) -> Arg<'a>
     ensures rule { rule_of result ≡ option_rule name.entry.now default.entry.now }
     ensures local { result.global ≡ false }
 {
@@ -43,7 +70,7 @@ pub(crate) fn option<'a>(alloc: Global, name: &'a str, default: &'a str) -> Arg<
 }
 
 /// The words of a command that are no options: file names, one at least.
-pub(crate) fn files_arg<'a>(alloc: Global) -> Arg<'a>
+fn files_arg<'a>(alloc: Global) -> Arg<'a>
     ensures rule { rule_of result ≡ files_rule }
     ensures local { result.global ≡ false }
 {

@@ -4,7 +4,7 @@ ghost use Rattle.clap.specs.Words.{all_of, found_of, rows_of};
 ghost use Rattle.command_words.specs.Play.{play_in};
 
 use crate::asked::Asked;
-use crate::options::{bare_command, files_arg, files_of, number_of_option, option};
+use crate::options::{command_with_files, files_of, number_of_option};
 use crate::{FileNames, Play, WordsFault};
 use clap::ArgMatches;
 use std::alloc::{AllocError, Global};
@@ -19,12 +19,13 @@ impl Asked for Play {
 
     ghost readable = { play_is_readable };
 
+    #[tactic(auto, unfolding(crate::specs::Play::play_app))]
     fn command<'a>(alloc: Global) -> Result<clap::Command<'a>, AllocError> {
-        bare_command(alloc, "play")
-            .arg(option(alloc, "batches", "1024"))?
-            .arg(option(alloc, "size", "64"))?
-            .arg(option(alloc, "quantum", "8"))?
-            .arg(files_arg(alloc))
+        command_with_files(
+            alloc,
+            "play",
+            &[("batches", "1024"), ("size", "64"), ("quantum", "8")],
+        )
     }
 
     fn of_matches(alloc: Global, matches: &ArgMatches<'_>) -> Result<Play, WordsFault> {

@@ -4,7 +4,7 @@ ghost use Rattle.clap.specs.Words.{all_of, found_of, rows_of};
 ghost use Rattle.command_words.specs.Store.{store_in};
 
 use crate::asked::Asked;
-use crate::options::{bare_command, files_arg, files_of, number_of_option, option};
+use crate::options::{command_with_files, files_of, number_of_option};
 use crate::{FileNames, Store, WordsFault};
 use clap::ArgMatches;
 use std::alloc::{AllocError, Global};
@@ -19,11 +19,9 @@ impl Asked for Store {
 
     ghost readable = { store_is_readable };
 
+    #[tactic(auto, unfolding(crate::specs::Store::store_app))]
     fn command<'a>(alloc: Global) -> Result<clap::Command<'a>, AllocError> {
-        bare_command(alloc, "store")
-            .arg(option(alloc, "batches", "1024"))?
-            .arg(option(alloc, "quantum", "8"))?
-            .arg(files_arg(alloc))
+        command_with_files(alloc, "store", &[("batches", "1024"), ("quantum", "8")])
     }
 
     fn of_matches(alloc: Global, matches: &ArgMatches<'_>) -> Result<Store, WordsFault> {

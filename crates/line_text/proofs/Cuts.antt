@@ -54,6 +54,14 @@ words-append front back =
 pub words-push_space : (line : List ℕ) → words (line ++ 32 ∷ []) ≡ words line
 words-push_space line = words-append line [] ∙ append-nil (words line)
 
+-- a line has the words of what is left of it without its last space
+pub words-take_space : (line : List ℕ) → 0 < length line → get_or line (length line - 1) 0 ≡ 32
+    → words (take (length line - 1) line) ≡ words line
+words-take_space line some ends =
+    let front = take (length line - 1) line in
+    sym (words-push_space front) ∙ ap (λ last. words (front ++ last ∷ [])) (sym ends)
+    ∙ ap words (sym (take_more line (length line - 1) 0 (omega arith)) ∙ take_all (length line - 1 + 1) line (omega arith))
+
 -- a line that is one run of bytes has that one word
 pub words_of_run : (run : List ℕ) → 0 < length run → All (λ byte. is_space byte ≡ false) run → words run ≡ run ∷ []
 words_of_run [] some spaceless = absurd (omega arith)

@@ -1,5 +1,6 @@
 pub mod Answers
 pub mod Fault
+pub mod Leaving
 pub mod Lines
 pub mod Meanings
 pub mod Number

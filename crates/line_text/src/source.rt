@@ -1,8 +1,9 @@
 // A source that is read to its end, or to one byte past a limit, piece by piece.
-ghost use Rattle.std.specs.Prelude.{◌≡◌, ◌≢◌, ◌+◌, ◌<◌, ◌≤◌, ◌^◌, ℕ, List, [], ◌∷◌, ◌++◌, Some, None, length, min, vec_len, IfOk, IfSome};
-ghost use Rattle.std.specs.Prelude.{IsOk, OnOk, OnErr, Err};
+ghost use Rattle.std.specs.Prelude.{◌≡◌, ◌+◌, ◌<◌, ◌≤◌, ◌^◌, ℕ, List, [], ◌∷◌, ◌++◌, Some, None, length, min, vec_len, IfOk, IfSome};
+ghost use Rattle.std.specs.Prelude.{IsOk, OnOk, OnErr};
 ghost use Rattle.pool_io.specs.Counts.{HasRisen};
 ghost use Rattle.pool_io.specs.Told.{HandsOut, IsAtEnd};
+ghost use Rattle.line_text.specs.Leaving.{LeavesFiles};
 ghost use Rattle.line_text.specs.Taken.{GivesAll, HasRoom, HasSoMany, ReadsOf};
 
 use crate::TextFault;
@@ -100,14 +101,7 @@ pub fn read_source<F: Files, K: PieceKeeper>(
     ensures kept { IfOk result (HasSoMany (K.has keeper.new)) }
     ensures within { IfOk result (λ count. count ≤ min room (2 ^ 24)) }
     ensures reads { ReadsOf (min room (2 ^ 24)) (F.reads files.old) (F.reads files.new) result }
-
-    ensures names { F.told files.new ≡ F.told files.old }
-    ensures opens { F.opens files.new ≡ F.opens files.old }
-    ensures never_falls { F.faults files.old ≤ F.faults files.new }
-    ensures failed { result ≡ Err TextFault.ReadFault → HasRisen (F.faults files.old) (F.faults files.new) }
-    ensures no_fault { result ≢ Err TextFault.ReadFault → F.faults files.new ≡ F.faults files.old }
-    ensures reliable { F.reliable files.old → F.reliable files.new }
-    ensures sure { F.reliable files.old → result ≢ Err TextFault.ReadFault }
+    ensures leaves { LeavesFiles F.Files files.old files.new result }
 {
     let limit = room.min(MOST_BYTES);
     let mut buffer = new_buffer(alloc)?;

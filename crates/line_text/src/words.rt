@@ -10,10 +10,7 @@ fn trim_start(mut line: &[u8]) -> &[u8]
     ensures words { words result.now ≡ words line.entry.now }
     ensures begins { 0 < length result.now → slice_index result.now 0 ≢ 32 }
 {
-    while let Some((first, rest)) = line.split_first() {
-        if *first != SPACE {
-            break;
-        }
+    while let [SPACE, rest @ ..] = line {
         line = rest;
     }
     line
@@ -47,10 +44,7 @@ fn trim_end(mut line: &[u8]) -> &[u8]
     ensures words { words result.now ≡ words line.entry.now }
     ensures ends { 0 < length result.now → slice_index result.now (length result.now - 1) ≢ 32 }
 {
-    while let Some((last, rest)) = line.split_last() {
-        if *last != SPACE {
-            break;
-        }
+    while let [rest @ .., SPACE] = line {
         line = rest;
     }
     line

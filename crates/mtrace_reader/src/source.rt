@@ -1,6 +1,6 @@
 // The trace of a source, read to its end or to one byte past a limit.
-ghost use Rattle.std.specs.Prelude.{◌≡◌, ◌≢◌, ◌≤◌, ◌^◌, length, min, IfOk, IfSome, Err};
-ghost use Rattle.pool_io.specs.Counts.{HasRisen};
+ghost use Rattle.std.specs.Prelude.{◌≤◌, ◌^◌, length, min, IfOk, IfSome};
+ghost use Rattle.line_text.specs.Leaving.{LeavesFiles};
 ghost use Rattle.mtrace_reader.specs.Reading.{AnswersFor};
 ghost use Rattle.mtrace_reader.specs.Taken.{ReadsFor};
 
@@ -25,14 +25,7 @@ pub fn read_trace<F: Files>(
     ensures limit { IfOk result (λ trace. trace.bytes ≤ min room (2 ^ 24)) }
     ensures few { IfOk result (λ trace. length trace.operations ≤ trace.bytes) }
     ensures reads { ReadsFor (min room (2 ^ 24)) (F.reads files.old) (F.reads files.new) result }
-
-    ensures names { F.told files.new ≡ F.told files.old }
-    ensures opens { F.opens files.new ≡ F.opens files.old }
-    ensures never_falls { F.faults files.old ≤ F.faults files.new }
-    ensures failed { result ≡ Err TraceFault.ReadFault → HasRisen (F.faults files.old) (F.faults files.new) }
-    ensures no_fault { result ≢ Err TraceFault.ReadFault → F.faults files.new ≡ F.faults files.old }
-    ensures reliable { F.reliable files.old → F.reliable files.new }
-    ensures sure { F.reliable files.old → result ≢ Err TraceFault.ReadFault }
+    ensures leaves { LeavesFiles F.Files files.old files.new result }
 {
     let mut reader = LineReader::new(alloc);
     let bytes = read_source(alloc, files, source, room, &mut reader)?;
@@ -64,18 +57,16 @@ mod tests {
     ) -> Result<(), Fail> {
         let alloc = rt.alloc();
         for most in PIECES {
-            let file = (String::from_str(alloc, "f")?, Vec::from_slice(alloc, text)?);
             let failing = vec![in alloc; failing]?;
-            let mut files = MemoryFiles::new(vec![in alloc; file]?, failing, most);
+            let mut files = MemoryFiles::of_one(alloc, "f", text, failing, most)?;
             let source = files.open("f")?;
             let trace = read_trace(alloc, &mut files, source, room);
             let read = match &trace {
                 Ok(trace) => Ok((trace.operations.as_slice(), trace.cut)),
                 Err(fault) => Err(*fault),
             };
-            let same = read == expected;
             let shown = &text[..text.len().min(100)];
-            assert!(rt; same, "{shown:?} by pieces of {most}");
+            assert!(rt; read == expected, "{shown:?} by pieces of {most}");
         }
         Ok(())
     }

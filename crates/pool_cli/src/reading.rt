@@ -1,6 +1,7 @@
 // The files of a command: each is opened, read and made a script, in turn.
 ghost use Rattle.std.specs.Prelude.{◌≡◌, ℕ, ◌+◌, ◌-◌, ◌^◌, ◌<◌, ◌≤◌, List, Option, length, map, string_bytes, All, IfOk, IfErr};
 ghost use Rattle.std.specs.Prelude.{IfSome, OnOk, Some, Err};
+ghost use Rattle.line_text.specs.Leaving.{LeavesFiles};
 ghost use Rattle.pool_io.specs.Counts.{HasRisen};
 ghost use Rattle.pool_cli.specs.Scripts.{FileAnswers, ReadsAll, StopsReading, ending_for};
 
@@ -45,12 +46,7 @@ pub(crate) trait Language {
             FileAnswers (bad self.now) (says self.now) (F.reliable files.old) room left result) }
         ensures within { IfOk result (λ file. file.bytes ≤ room) }
         ensures playable { IfOk result (λ file. playable self.now file.script) }
-
-        ensures names { F.told files.new ≡ F.told files.old }
-        ensures opens { F.opens files.new ≡ F.opens files.old }
-        ensures never_falls { F.faults files.old ≤ F.faults files.new }
-        ensures failed { result ≡ Err TextFault.ReadFault → HasRisen (F.faults files.old) (F.faults files.new) }
-        ensures reliable { F.reliable files.old → F.reliable files.new };
+        ensures leaves { LeavesFiles F.Files files.old files.new result };
 }
 
 /// Opens a file, reads it to its end and makes its script. At most `room` bytes may be taken.

@@ -5,6 +5,8 @@ ghost use Rattle.pool_io.specs.Told.{HandsOut};
 
 use crate::counts::{count_call, raise};
 use crate::{Failed, Files, Reads};
+use pool_model::NoMemory;
+use std::alloc::Global;
 
 /// Files in memory, each with its name; of two with the same name the first is opened. Takes no memory.
 ///
@@ -36,7 +38,8 @@ pub struct MemorySource {
 }
 
 impl MemoryFiles {
-    ghost use Rattle.pool_io.specs.MemoryFiles.{is_named, bytes_left, faulted};
+    ghost use Rattle.std.specs.Prelude.{Some};
+    ghost use Rattle.pool_io.specs.MemoryFiles.{is_named, bytes_of, bytes_left, faulted};
 
     /// Files of which no call was made so far.
     pub fn new(files: Vec<(String, Vec<u8>)>, failing: Vec<u64>, most: usize) -> MemoryFiles
@@ -53,6 +56,23 @@ impl MemoryFiles {
             faults: 0,
             reads: Reads::new(),
         }
+    }
+
+    /// One file, of which no call was made so far. Fails for want of memory.
+    pub fn of_one(
+        alloc: Global,
+        name: &str,
+        bytes: &[u8],
+        failing: Vec<u64>,
+        most: usize,
+    ) -> Result<MemoryFiles, NoMemory>
+        ensures told { IfOk result (λ files. bytes_of files name.now ≡ Some bytes.now) }
+        ensures setting { IfOk result (λ files. (files.failing ≡ failing) × (files.most ≡ most)) }
+        ensures counts { IfOk result (λ files. (files.calls ≡ 0) × (files.opens ≡ 0) × (files.faults ≡ 0)) }
+        ensures reads { IfOk result (λ files. files.reads ≡ []) }
+    {
+        let file = (String::from_str(alloc, name)?, bytes.to_vec(alloc)?);
+        Ok(MemoryFiles::new(vec![in alloc; file]?, failing, most))
     }
 
     // Which of the files is the first of this name.

@@ -1,4 +1,4 @@
-ghost use Rattle.std.specs.Prelude.{◌≡◌, ◌-◌, ◌^◌, ◌<◌, IfOk};
+ghost use Rattle.std.specs.Prelude.{◌-◌, ◌^◌, ◌<◌};
 ghost use Rattle.pool_io.specs.Gates.{ToldBefore};
 
 use super::*;
@@ -35,15 +35,6 @@ fn read_whole<F: Files>(
 
 const TEXT: &[u8] = b"= End\n";
 
-// One file, `f`, and one call that fails.
-fn memory_files(alloc: Global, failing: u64, most: usize) -> Result<MemoryFiles, AllocError>
-    ensures { IfOk result (λ files. files.opens ≡ 0) }
-{
-    let mut files = Vec::new(alloc);
-    files.push((String::from_str(alloc, "f")?, TEXT.to_vec(alloc)?))?;
-    Ok(MemoryFiles::new(files, vec![in alloc; failing]?, most))
-}
-
 #[test]
 fn memory_files_fail_at_the_named_calls(rt: HostRuntime) -> Result<(), Fail> {
     let alloc = rt.alloc();
@@ -57,7 +48,8 @@ fn memory_files_fail_at_the_named_calls(rt: HostRuntime) -> Result<(), Fail> {
         ("f", 8, 1, true, 8),
         ("g", 99, 1, false, 1),
     ] {
-        let mut files = memory_files(alloc, failing, most)?;
+        let failing_calls = vec![in alloc; failing]?;
+        let mut files = MemoryFiles::of_one(alloc, "f", TEXT, failing_calls, most)?;
         let read = read_whole(alloc, &mut files, name)?;
         let is_whole = read.is_some_and(|bytes| bytes.as_slice() == TEXT);
         let counts = (is_whole, files.calls, files.opens, files.faults);

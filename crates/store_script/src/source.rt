@@ -1,6 +1,6 @@
 // The script of a source, read to its end or to one byte past a limit.
-ghost use Rattle.std.specs.Prelude.{◌≡◌, ◌≢◌, ◌≤◌, ◌^◌, length, min, IfOk, IfSome, Err};
-ghost use Rattle.pool_io.specs.Counts.{HasRisen};
+ghost use Rattle.std.specs.Prelude.{◌≤◌, ◌^◌, length, min, IfOk, IfSome};
+ghost use Rattle.line_text.specs.Leaving.{LeavesFiles};
 ghost use Rattle.store_script.specs.Reading.{AnswersFor};
 ghost use Rattle.store_script.specs.Script.{IsWellFormed};
 ghost use Rattle.store_script.specs.Taken.{ReadsFor};
@@ -28,14 +28,7 @@ pub fn read_script<F: Files>(
     ensures few { IfOk result (λ script. length script.commands ≤ script.bytes) }
     ensures well_formed { IfOk result IsWellFormed }
     ensures reads { ReadsFor (min room (2 ^ 24)) (F.reads files.old) (F.reads files.new) result }
-
-    ensures names { F.told files.new ≡ F.told files.old }
-    ensures opens { F.opens files.new ≡ F.opens files.old }
-    ensures never_falls { F.faults files.old ≤ F.faults files.new }
-    ensures failed { result ≡ Err ScriptFault.ReadFault → HasRisen (F.faults files.old) (F.faults files.new) }
-    ensures no_fault { result ≢ Err ScriptFault.ReadFault → F.faults files.new ≡ F.faults files.old }
-    ensures reliable { F.reliable files.old → F.reliable files.new }
-    ensures sure { F.reliable files.old → result ≢ Err ScriptFault.ReadFault }
+    ensures leaves { LeavesFiles F.Files files.old files.new result }
 {
     let mut bytes = Vec::new(alloc);
     read_source(alloc, files, source, room, &mut bytes)?;

@@ -20,34 +20,30 @@ const PIECES: [usize; 3] = [1, 7, 1 << 20];
 /// More bytes than any file here has.
 const ROOM: u64 = 1 << 24;
 
-/// Compares what a file reads as, whose call number `failing` fails.
-fn check_piecewise(
+/// Compares what a file reads as, of which at most `room` bytes may be read.
+fn check_within(
     rt: &(impl Abort + AllocGlobal),
     text: &[u8],
     room: u64,
-    failing: u64,
     expected: Read<'_>,
 ) -> Result<(), Fail> {
     let alloc = rt.alloc();
     for most in PIECES {
-        let file = (String::from_str(alloc, "f")?, Vec::from_slice(alloc, text)?);
-        let failing = vec![in alloc; failing]?;
-        let mut files = MemoryFiles::new(vec![in alloc; file]?, failing, most);
+        let mut files = MemoryFiles::of_one(alloc, "f", text, Vec::new(alloc), most)?;
         let source = files.open("f")?;
         let script = read_script(alloc, &mut files, source, room);
         let read = match &script {
             Ok(script) => Ok((script.commands.as_slice(), script.slots)),
             Err(fault) => Err(*fault),
         };
-        let same = read == expected;
-        assert!(rt; same, "{text:?} by pieces of {most}");
+        assert!(rt; read == expected, "{text:?} by pieces of {most}");
     }
     Ok(())
 }
 
-/// Compares what a file reads as, all of whose calls go well.
+/// Compares what a file reads as, all of whose bytes may be read.
 fn check(rt: &(impl Abort + AllocGlobal), text: &[u8], expected: Read<'_>) -> Result<(), Fail> {
-    check_piecewise(rt, text, ROOM, u64::MAX, expected)
+    check_within(rt, text, ROOM, expected)
 }
 
 /// The numbers 1 to 4.
@@ -150,9 +146,9 @@ fn bad_lines(rt: HostRuntime) -> Result<(), Fail> {
 #[test]
 fn as_many_bytes_as_there_is_room_for(rt: HostRuntime) -> Result<(), Fail> {
     let get = [Get { key: 1, slot: 0 }];
-    check_piecewise(&rt, b"get 1\n", 6, u64::MAX, Ok((&get, 1)))?;
-    check_piecewise(&rt, b"get 1\n", 5, u64::MAX, Err(ScriptFault::TooLong))?;
-    check_piecewise(&rt, b"?\n?\n?\n", 5, u64::MAX, Err(ScriptFault::TooLong))
+    check_within(&rt, b"get 1\n", 6, Ok((&get, 1)))?;
+    check_within(&rt, b"get 1\n", 5, Err(ScriptFault::TooLong))?;
+    check_within(&rt, b"?\n?\n?\n", 5, Err(ScriptFault::TooLong))
 }
 
 #[test]
@@ -161,9 +157,8 @@ fn each_read_failing_in_turn(rt: HostRuntime) -> Result<(), Fail> {
     let text = b"get 1\n";
     // The open is call 0, the reads are the calls 1 to 7: one for each byte, and the one that tells the end.
     for failing in 1..8 {
-        let file = (String::from_str(alloc, "f")?, Vec::from_slice(alloc, text)?);
         let failing_calls = vec![in alloc; failing]?;
-        let mut files = MemoryFiles::new(vec![in alloc; file]?, failing_calls, 1);
+        let mut files = MemoryFiles::of_one(alloc, "f", text, failing_calls, 1)?;
         let source = files.open("f")?;
         let read = read_script(alloc, &mut files, source, ROOM);
         let fails = matches!(&read, Err(ScriptFault::ReadFault));
@@ -212,11 +207,7 @@ static CASES: [Case; 4] = [
 fn replies_to_small_scripts(rt: HostRuntime) -> Result<(), Fail> {
     let alloc = rt.alloc();
     for case in CASES.iter() {
-        let file = (
-            String::from_str(alloc, "f")?,
-            Vec::from_slice(alloc, case.text)?,
-        );
-        let mut files = MemoryFiles::new(vec![in alloc; file]?, Vec::new(alloc), 7);
+        let mut files = MemoryFiles::of_one(alloc, "f", case.text, Vec::new(alloc), 7)?;
         let source = files.open("f")?;
         let script = read_script(alloc, &mut files, source, ROOM)?;
         let answered = answers(alloc, &script, case.refused)?;

@@ -1,10 +1,10 @@
-use Rattle.std.proofs.Common.{sym, ap, ◌∙◌, ◌∷◌, [], ◌++◌}
-use Rattle.line_text.specs.Words.{words}
-use Rattle.line_text.proofs.Cuts.{words-push_space}
+use Rattle.std.proofs.Common.{◌≡◌, ◌-◌, ◌∙◌, arith, get_or, length}
+use Rattle.std.proofs.lemmas.Grind.{common_steps}
+use Rattle.line_text.proofs.Cuts.{words-take_space}
 use Rattle.line_text.proofs.words.trim_end.Goals as goal
 
-pub loop-last-preserved : goal.loop-last-preserved
-loop-last-preserved c =
-    let rest = c.in-Some.rest.now in
-    sym (words-push_space rest) ∙ ap (λ last. words (rest ++ last ∷ [])) (sym c.if-last-ne-SPACE.false)
-    ∙ ap words (sym c.in-Some.ensures.cases.0) ∙ c.loop-last.invariant
+pub loop-line-preserved : goal.loop-line-preserved
+loop-line-preserved c =
+    let line = c.loop-line.line.now in
+    let ends : get_or line (length line - 1) 0 ≡ 32 = grind (arith, common_steps) in
+    words-take_space line c.in-32.len_at_least ends ∙ c.loop-line.invariant
