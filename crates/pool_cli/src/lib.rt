@@ -12,12 +12,10 @@ mod replies;
 mod report;
 mod scripts;
 mod shape;
-mod system;
 mod tell;
 
 pub use ending::{Ended, Ending};
 pub use program::run;
-pub use system::run_on_system;
 
 #[cfg(test)]
 mod tests;
