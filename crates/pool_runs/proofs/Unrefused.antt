@@ -15,6 +15,8 @@ use Rattle.mtrace_reader.specs.declared.steps.Step.TheVariants.{Place, Leave}
 use Rattle.mtrace_reader.specs.Script.{LeavesPlaced}
 use Rattle.trace_player.specs.Tally.{is_refused, fills, empties}
 use Rattle.trace_player.specs.Fit.{calls_of}
+use Rattle.trace_player.proofs.Lists.{one_if}
+use Rattle.trace_player.proofs.Determined.{slice_get_seam}
 
 -- the slots that these steps place were not refused
 abbrev pub Unrefused : List Bool → List Step → Type 0
@@ -27,15 +29,8 @@ pub record CountsSteps (free : List Bool) (steps : List Step) (entries : List En
   pub gots : count_by is_got entries ≡ count_by (fills free) (take count steps)
   pub backs : count_by is_back entries ≡ count_by (empties free) (take count steps)
 
-abbrev one_if : Bool → ℕ
-one_if t = cond t 1 0
-
 count_cons : {A : Type 0} (p : A → Bool) (x : A) (xs : List A) (t : Bool) → p x ≡ t → count_by p (x ∷ xs) ≡ one_if t + count_by p xs
 count_cons p x xs t e = sum_by-cons (λ y. cond (p y) 1 0) x xs ∙ ap (λ u. one_if u + count_by p xs) e
-
-slice_get_seam : (before rest : List Step) (step : Step) → slice_get (before ++ step ∷ rest) (length before) ≡ Some step
-slice_get_seam [] rest step = refl
-slice_get_seam (first ∷ before) rest step = slice_get_seam before rest step
 
 -- a step more was made, which placed no refused slot
 one_more : (refused : List Bool) (before : List Step) (step : Step)

@@ -46,19 +46,22 @@ same_calls : (i : ℕ) (refused later : List Bool) (blocks after : List ℕ) (m 
 same_calls i refused later blocks after m keeps (Place slot) below = rw (keeps.refusals slot below, keeps.given slot below) refl
 same_calls i refused later blocks after m keeps (Leave slot) below = rw (keeps.refusals slot below, keeps.given slot below) refl
 
+-- so tests that answer alike of them count alike
+counts_kept : (one other : Step → Bool) (m : ℕ) (steps : List Step) → ((step : Step) → slot_of step < m → other step ≡ one step)
+    → Below m steps → count_by other steps ≡ count_by one steps
+counts_kept one other m steps same below =
+    count_by_same other one steps
+    (each (λ step. other step ≡ one step) m steps same (recursion_from_All (λ step. slot_of step < m) steps below))
+
 pub fills_kept : (refused later : List Bool) (blocks after : List ℕ) (m : ℕ) (steps : List Step) → Keeps refused later blocks after m → Below m steps
     → count_by (fills later) steps ≡ count_by (fills refused) steps
 fills_kept refused later blocks after m steps keeps below =
-    count_by_same (fills later) (fills refused) steps
-    (each (λ step. fills later step ≡ fills refused step) m steps (same_fills refused later blocks after m keeps)
-    (recursion_from_All (λ step. slot_of step < m) steps below))
+    counts_kept (fills refused) (fills later) m steps (same_fills refused later blocks after m keeps) below
 
 pub empties_kept : (refused later : List Bool) (blocks after : List ℕ) (m : ℕ) (steps : List Step) → Keeps refused later blocks after m → Below m steps
     → count_by (empties later) steps ≡ count_by (empties refused) steps
 empties_kept refused later blocks after m steps keeps below =
-    count_by_same (empties later) (empties refused) steps
-    (each (λ step. empties later step ≡ empties refused step) m steps (same_empties refused later blocks after m keeps)
-    (recursion_from_All (λ step. slot_of step < m) steps below))
+    counts_kept (empties refused) (empties later) m steps (same_empties refused later blocks after m keeps) below
 
 pub calls_kept : (i : ℕ) (refused later : List Bool) (blocks after : List ℕ) (m : ℕ) (steps : List Step) → Keeps refused later blocks after m → Below m steps
     → flat_map (calls_of i later after) steps ≡ flat_map (calls_of i refused blocks) steps

@@ -22,7 +22,7 @@ InOrder m [] = ⊤
 InOrder m (Place slot ∷ steps) = (slot ≡ m) × InOrder (m + 1) steps
 InOrder m (Leave slot ∷ steps) = (slot < m) × InOrder m steps
 
-slice_get_seam : (before rest : List Step) (step : Step) → slice_get (before ++ step ∷ rest) (length before) ≡ Some step
+pub slice_get_seam : (before rest : List Step) (step : Step) → slice_get (before ++ step ∷ rest) (length before) ≡ Some step
 slice_get_seam [] rest step = refl
 slice_get_seam (first ∷ before) rest step = slice_get_seam before rest step
 
