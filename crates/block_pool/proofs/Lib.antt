@@ -11,4 +11,3 @@ pub mod Settling
 pub mod Ordered
 pub mod Promises
 pub mod TestedCalls
-pub mod TestedSlots

@@ -1,14 +1,18 @@
 -- Passes in the order of their processes are all passes.
-use Rattle.std.proofs.Common.{◌≡◌, ◌≢◌, ◌⊎◌, ⊎_elim, ℕ, zero, suc, ◌+◌, ◌<◌, ◌≤◌, ◌==◌, List, [], ◌∷◌, length, set, Some, refl, sym, ap, ◌∙◌, inl, inr, arith}
-use Rattle.std.specs.Prelude.{if◌then◌else◌, slice_get, count_by}
+use Rattle.std.proofs.Common.{◌≡◌, ◌≢◌, ◌⊎◌, ⊎_elim, ℕ, zero, suc, ◌+◌, ◌<◌, ◌≤◌, ◌==◌, List, [], ◌∷◌, length, set, get_or, Some, refl, sym, ap, ◌∙◌, inl, inr, arith}
+use Rattle.std.specs.Prelude.{if◌then◌else◌, slice_get, slice_index_or, count_by}
+use Rattle.std.specs.List.{All}
 use Rattle.std.proofs.Math.ListN.{length-set}
 use Rattle.std.proofs.lemmas.Bool.{cases_eq}
 use Rattle.std.proofs.lemmas.Option.{same_Some, slice_get_within, slice_get-get_or}
 use Rattle.std.proofs.lemmas.List.Sums.{sum_by-cons}
 use Rattle.pool_table.specs.Rule.{one_if}
 use Rattle.pool_table.proofs.Numbered.{counts_for, counts_not}
-use Rattle.block_pool.specs.Passing.{Passed}
-use Rattle.block_pool.specs.Closing.{OrderedAreAll, OpenedAreInOrder, CallsKeepOrder}
+use Rattle.block_pool.specs.Passing.{Pooled, Passed}
+use Rattle.block_pool.specs.Opening.{opened_pass, AreOpenedPasses}
+use Rattle.block_pool.specs.Calls.{SamePass}
+use Rattle.block_pool.specs.Closing.{AreAllPasses, OrderedAreAll, OpenedAreInOrder, CallsKeepOrder}
+use Rattle.block_pool.specs.Fresh.{IsFresh}
 
 -- the passes have the numbers from `next` on, in order
 abbrev AreNumbered : ℕ → List Passed → Type 0
@@ -93,3 +97,35 @@ calls_keep_order pool passes n old new ordered at same =
           (λ (still : slice_get passes k ≡ Some pass). ordered.each k pass still)
           (item_of_set passes n k new pass there);
     }
+
+-- the passes of a pool at its opening are fresh
+pub opened_fresh : (pool : Pooled) (passes : List Passed) → AreOpenedPasses pool passes → All (IsFresh pool) passes
+opened_fresh pool passes opened k d within =
+    let is : get_or passes k d ≡ opened_pass pool.table pool.sizes k =
+    same_Some _ _ (sym (slice_get-get_or passes k d within) ∙ opened.each k (omega (arith, within, opened.many))) in
+    record {
+      is_of = record { table = ap (λ (p : Passed). p.table) is; sizes = ap (λ (p : Passed). p.sizes) is };
+      age = ap (λ (p : Passed). p.age) is;
+    }
+
+-- and calls leave them all the passes of the pool
+pub played_all : (pool : Pooled) (passes played : List Passed) → AreOpenedPasses pool passes → length played ≡ length passes
+    → ((k : ℕ) (d : Passed) → k < length passes → SamePass (slice_index_or passes k d) (slice_index_or played k d))
+    → AreAllPasses pool played
+played_all pool passes played opened many stays =
+    let order = opened_are_in_order pool passes opened in
+    ordered_are_all pool played (record {
+      many = many ∙ opened.many;
+      each = λ n pass at.
+          let within = slice_get_within played n pass at in
+          let before : n < length passes = omega (arith, within, many) in
+          let was = order.each n (get_or passes n pass) (slice_get-get_or passes n pass before) in
+          let same = stays n pass before in
+          let is : get_or played n pass ≡ pass = same_Some _ _ (sym (slice_get-get_or played n pass within) ∙ at) in (
+            record {
+              table = ap (λ (p : Passed). p.table) (sym is) ∙ same.table ∙ was.0.table;
+              sizes = ap (λ (p : Passed). p.sizes) (sym is) ∙ same.sizes ∙ was.0.sizes;
+            },
+            ap (λ (p : Passed). p.number) (sym is) ∙ same.number ∙ was.1,
+          );
+    })

@@ -9,5 +9,5 @@ pub mod Calls
 pub mod Opening
 pub mod Closing
 pub mod Promises
-pub mod Tested
+pub mod Fresh
 pub mod Joining

@@ -4,6 +4,7 @@ use Rattle.word_layout.specs.Sizes.{Sizes}
 use Rattle.transfer_schedule.specs.Numbers.{Numbers, is_idle, after_steps, after_end}
 use Rattle.transfer_machine.specs.Machine.{met_of}
 use Rattle.transfer_machine.specs.declared.stage.NextStep.{NextStep}
+use Rattle.transfer_machine.specs.declared.stage.NextStep.TheVariants.{Announce}
 use Rattle.transfer_machine.specs.declared.transfer.TransferView.{TransferView}
 use Rattle.transfer_invariant.specs.Progress.{is_reply}
 use Rattle.pool_machine.specs.Pools.{pool_met_at}
@@ -61,4 +62,3 @@ pub data PlanRuns (most : ℕ) (plan : Numbers) : ℕ → Numbers → Type 0 whe
   runs_on : is_idle plan.pending ≡ false → PlanRuns most plan most (after_steps most plan)
   ends : (n : ℕ) (found : Bool) → is_idle plan.pending ≡ false → 1 ≤ n → n ≤ most
       → PlanRuns most plan n (after_end found (after_steps n plan))
-

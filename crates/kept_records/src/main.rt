@@ -4,7 +4,7 @@
 ghost use Rattle.std.specs.Prelude.{◌≡◌, ℕ, ◌<◌, ◌≤◌, All, IfSome, length, slice_index_or};
 ghost use Rattle.block_pool.specs.Calls.{SamePass};
 ghost use Rattle.block_pool.specs.Passing.{Passed};
-ghost use Rattle.block_pool.specs.Tested.{IsFresh};
+ghost use Rattle.block_pool.specs.Fresh.{IsFresh};
 
 mod point;
 

@@ -1,2 +1,3 @@
+pub mod Slots
 pub mod Turning
 pub mod Order

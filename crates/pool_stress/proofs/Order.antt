@@ -6,7 +6,7 @@ use Rattle.block_pool.specs.Passing.{Pooled, Passed, IsOf}
 use Rattle.block_pool.specs.Calls.{SamePass}
 use Rattle.block_pool.specs.Opening.{AreOpenedPasses}
 use Rattle.block_pool.specs.Closing.{AreAllPasses}
-use Rattle.block_pool.proofs.TestedSlots.{opened_fresh, played_all}
+use Rattle.block_pool.proofs.Ordered.{opened_fresh, played_all}
 use Rattle.pool_stress.specs.Order.{StayInOrder}
 
 -- passes of a pool are of it still

@@ -2,7 +2,7 @@
 use Rattle.std.proofs.Common.{◌≡◌, ℕ, Option, List, length, refl, ◌∙◌}
 use Rattle.block_pool.specs.Passing.{Pooled, Passed, IsOf}
 use Rattle.block_pool.specs.Calls.{SamePass}
-use Rattle.block_pool.specs.Tested.{SlotsFit}
+use Rattle.pool_stress.specs.Slots.{SlotsFit}
 
 -- it is the same pass still, of this pool
 pub record HasGone (pool : Pooled) (start now : Passed) : Type 0 where

@@ -2,7 +2,7 @@
 ghost use Rattle.std.specs.Prelude.{◌≡◌, ◌+◌, ◌<◌, ◌^◌, None, IfOk, length, replicate};
 ghost use Rattle.block_pool.specs.Passing.{IsOf};
 ghost use Rattle.block_pool.specs.Calls.{SamePass};
-ghost use Rattle.block_pool.specs.Tested.{SlotsFit};
+ghost use Rattle.pool_stress.specs.Slots.{SlotsFit};
 
 use crate::owners::Owners;
 use crate::places::Places;

@@ -1,7 +1,7 @@
 use Rattle.std.proofs.Common.{◌≡◌, length, take, drop, ◌++◌, ap, ◌∙◌, sym, subst, arith}
 use Rattle.std.proofs.lemmas.List.{take-append-le, take_all}
 use Rattle.block_pool.specs.Closing.{AreAllPasses}
-use Rattle.block_pool.proofs.TestedSlots.{played_all}
+use Rattle.block_pool.proofs.Ordered.{played_all}
 use Rattle.kept_records.proofs.main.Goals as goal
 
 pub finish-settled-requires : goal.finish-settled-requires

@@ -1,5 +1,5 @@
 use Rattle.std.proofs.Common.{refl}
-use Rattle.block_pool.proofs.TestedSlots.{slot_freed, slot_got}
+use Rattle.pool_stress.proofs.Slots.{slot_freed, slot_got}
 use Rattle.pool_stress.proofs.turns.turn.Goals as goal
 
 pub returns-in-Some-clause-slots : goal.returns-in-Some-clause-slots
