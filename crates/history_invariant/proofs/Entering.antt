@@ -1,5 +1,5 @@
 -- What each kind of entry owes.
-use Rattle.std.proofs.Common.{◌≡◌, ◌≢◌, ℕ, ◌<◌, refl, arith, List, [], ◌∷◌, ◌++◌, length-append}
+use Rattle.std.proofs.Common.{◌≡◌, ◌≢◌, ℕ, ◌<◌, true, refl, arith, List, [], ◌∷◌, ◌++◌, length-append}
 use Rattle.std.specs.List.{Contains, count_by}
 use Rattle.pool_model.specs.declared.entry.Entry.{Entry}
 use Rattle.pool_model.specs.declared.entry.Entry.TheVariants.{Got, Back, Dry}
@@ -7,7 +7,7 @@ use Rattle.pool_model.specs.Limits.{Limits}
 use Rattle.pool_model.specs.History.{held, grip, is_got, is_back}
 use Rattle.transfer_schedule.specs.declared.own_step.Source.TheVariants.{Nothing}
 use Rattle.transfer_schedule.specs.Numbers.{AreSizes, source_of}
-use Rattle.transfer_schedule.specs.Account.{Account, Own, gets, refuses, frees, follows}
+use Rattle.transfer_schedule.specs.Account.{Account, Own, owns_in, gets, refuses, frees, follows}
 use Rattle.transfer_schedule.proofs.Operations.{took_same, gave_same}
 use Rattle.history_invariant.specs.Ledger.{Ledger}
 use Rattle.history_invariant.specs.Fits.{CountsEntries, LedgerFits}
@@ -36,6 +36,7 @@ got_counts a entries by block c = record {
   entries = omega (arith, c.entries, length-append entries (Got by block ∷ []));
   gots = omega (arith, c.gots, gots_more entries (Got by block));
   backs = omega (arith, c.backs, backs_more entries (Got by block));
+  unbroken = c.unbroken;
 }
 
 none_counts : (a : Account) (entries : List Entry) (by : ℕ) → CountsEntries a entries → CountsEntries (got_none a) (entries ++ Dry by ∷ [])
@@ -43,6 +44,7 @@ none_counts a entries by c = record {
   entries = omega (arith, c.entries, length-append entries (Dry by ∷ []));
   gots = omega (arith, c.gots, gots_more entries (Dry by));
   backs = omega (arith, c.backs, backs_more entries (Dry by));
+  unbroken = c.unbroken;
 }
 
 back_counts : (a : Account) (entries : List Entry) (by block : ℕ)
@@ -52,13 +54,14 @@ back_counts a entries by block c = record {
   entries = omega (arith, c.entries, length-append entries (Back by block ∷ []));
   gots = omega (arith, c.gots, gots_more entries (Back by block));
   backs = omega (arith, c.backs, backs_more entries (Back by block));
+  unbroken = c.unbroken;
 }
 
 -- an allocate that is given a block
 pub got_owes : (limits : Limits) (bound quantum : ℕ) (history : List Entry) (i block : ℕ) (ledger : Ledger)
     → i < limits.processes
     → LedgerFits limits bound quantum history i ledger
-    → ledger.account.phase ≡ Own
+    → owns_in ledger.account.phase ≡ true
     → source_of ledger.account.plan ≢ Nothing
     → block < limits.blocks
     → ¬ Contains (held history) block
@@ -89,7 +92,8 @@ back_owes limits bound quantum history i block ledger lt shared f phase mine =
     record {
       may = (lt, rw f.sees.own_entries mine);
       net = tt;
-      reached = follows f.reached (frees phase (omega (arith, f.counts.gots, f.counts.backs, more_gots ledger.entries block mine balance)));
+      reached = follows f.reached (frees phase
+          (λ unbroken. omega (arith, f.counts.gots, f.counts.backs, more_gots ledger.entries block mine balance)));
       counts = back_counts ledger.account ledger.entries i block f.counts;
       keeps = back_keeps ledger.account;
     }
@@ -98,12 +102,12 @@ back_owes limits bound quantum history i block ledger lt shared f phase mine =
 pub refusal_owes : (limits : Limits) (bound quantum : ℕ) (history : List Entry) (i : ℕ) (ledger : Ledger)
     → AreSizes limits.batch_length bound quantum
     → i < limits.processes → LedgerFits limits bound quantum history i ledger
-    → ledger.account.phase ≡ Own
+    → owns_in ledger.account.phase ≡ true
     → source_of ledger.account.plan ≡ Nothing
     → Owes limits bound quantum history (Dry i) (got_none ledger.account) ledger
 refusal_owes limits bound quantum history i ledger sizes lt f phase none = record {
   may = refusal_may_follow limits bound quantum history i ledger sizes lt f phase none;
-  net = refusal_has_net limits bound quantum history i ledger sizes f none;
+  net = refusal_has_net limits bound quantum history i ledger sizes f phase none;
   reached = follows f.reached (refuses phase none);
   counts = none_counts ledger.account ledger.entries i f.counts;
   keeps = none_keeps ledger.account;

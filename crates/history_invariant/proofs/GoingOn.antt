@@ -1,16 +1,18 @@
 -- Each step of a process that makes no entry leaves its ledger fitting the history.
-use Rattle.std.proofs.Common.{◌≡◌, ℕ, ◌+◌, ◌-◌, ◌*◌, ◌<◌, ◌≤◌, Bool, true, false, refl, sym, ◌∙◌, ap, inl, inr, arith, List, length, take}
+use Rattle.std.proofs.Common.{◌≡◌, ℕ, ◌+◌, ◌<◌, ◌≤◌, Bool, true, false, refl, sym, ◌∙◌, ap, arith, List, length, take}
 use Rattle.std.specs.Prelude.{if◌then◌else◌}
-use Rattle.std.proofs.lemmas.Bool.{cases_eq}
+use Rattle.std.proofs.lemmas.Bool.{false≢true}
 use Rattle.std.proofs.lemmas.Bool.Decides.{nat_tests}
 use Rattle.pool_model.specs.declared.entry.Entry.{Entry}
 use Rattle.pool_model.specs.Limits.{Limits}
 use Rattle.pool_model.specs.History.{own}
-use Rattle.transfer_schedule.specs.Numbers.{Numbers, AreSizes, is_idle, is_taking, is_giving, after_choice, after_steps, after_end}
-use Rattle.transfer_schedule.specs.Account.{CallPhase, Account, Between, Moving, Own, Follows, begins, continues, rests, moves, ends, gets, refuses, frees, Reached, opens, follows}
-use Rattle.transfer_schedule.specs.Laws.{CountsSteps}
-use Rattle.transfer_schedule.proofs.Products.{times_le}
-use Rattle.transfer_schedule.proofs.Reaching.{reached_stands, stands_counts}
+use Rattle.transfer_schedule.specs.declared.pending.Pending.TheVariants.{Taking, Giving}
+use Rattle.transfer_schedule.specs.Numbers.{Numbers, AreSizes, is_idle, is_taking, is_giving, after_begin, after_choice, after_steps, after_end}
+use Rattle.transfer_schedule.specs.Account.{CallPhase, Account, Between, Moving, Own, Seeking, Sought, Leaving, Clearing, Shedding, Returning}
+use Rattle.transfer_schedule.specs.Account.{moves_in, sought_by, after_seek, after_shelved, Follows, begins, continues, rests, moves, ends}
+use Rattle.transfer_schedule.specs.Account.{gets, refuses, frees, meets, seeks, quits, clears, gives, shelves, leaves, returns, retakes}
+use Rattle.transfer_schedule.specs.Account.{Reached, follows}
+use Rattle.transfer_schedule.proofs.Reaching.{reached_stands, stands_begun}
 use Rattle.history_invariant.specs.Ledger.{Ledger, IsAnnounced}
 use Rattle.history_invariant.specs.Fits.{HadFewSince, LedgerFits}
 use Rattle.history_invariant.specs.Steps.{stepped, announced, ended, GoesOn}
@@ -22,6 +24,7 @@ record BeginsCall (a b : Account) : Type 0 where
   entries : b.entries ≡ a.entries
   gots : b.gots ≡ a.gots
   backs : b.backs ≡ a.backs
+  unbroken : b.unbroken ≡ a.unbroken
   ended : b.ended ≡ a.ended
   dry : b.plan.dry ≡ a.plan.dry
   announced : IsAnnounced b → IsAnnounced a
@@ -47,6 +50,7 @@ choice_made a phase begun same = record {
   entries = refl;
   gots = refl;
   backs = refl;
+  unbroken = refl;
   ended = refl;
   dry = choice_dry a.plan;
   announced = choice_announced a.plan;
@@ -54,25 +58,104 @@ choice_made a phase begun same = record {
   taking = choice_taking a.plan;
 }
 
-call_begins : (a b : Account) → a.phase ≡ Between → Follows a b → BeginsCall a b
-call_begins a b between (begins e idle busy) =
+-- the plan stays
+plan_stays : (a : Account) (phase : CallPhase) → BeginsCall a (record a { phase = phase })
+plan_stays a phase = record {
+  entries = refl;
+  gots = refl;
+  backs = refl;
+  unbroken = refl;
+  ended = refl;
+  dry = refl;
+  announced = λ some. some;
+  begun = λ some. refl;
+  taking = λ some taking. taking;
+}
+
+-- a search chooses
+sought_made : (a : Account) (t : Bool) → is_idle (after_choice a.plan).pending ≡ t → is_idle a.plan.pending ≡ true
+    → BeginsCall a (sought_by t a)
+sought_made a true e idle = choice_made a Sought a.begun (λ some. refl)
+sought_made a false e idle =
+    choice_made a (Seeking true) a.entries (λ some. absurd (let none = choice_begins a.plan idle e in omega arith))
+
+-- a transfer that has just begun has made no step
+gives_made : (a : Account) → BeginsCall a (record a { plan = after_begin Giving a.plan; phase = Shedding; begun = a.entries })
+gives_made a = record {
+  entries = refl;
+  gots = refl;
+  backs = refl;
+  unbroken = refl;
+  ended = refl;
+  dry = refl;
+  announced = λ some. absurd (omega (arith, some));
+  begun = λ some. absurd (omega (arith, some));
+  taking = λ some taking. absurd (omega (arith, some));
+}
+
+retakes_made : (a : Account) → BeginsCall a (record a { plan = after_begin Taking a.plan; phase = Returning; begun = a.entries })
+retakes_made a = record {
+  entries = refl;
+  gots = refl;
+  backs = refl;
+  unbroken = refl;
+  ended = refl;
+  dry = refl;
+  announced = λ some. absurd (omega (arith, some));
+  begun = λ some. absurd (omega (arith, some));
+  taking = λ some taking. absurd (omega (arith, some));
+}
+
+shelves_made : (a : Account) → BeginsCall a (record a { plan = after_shelved a.plan })
+shelves_made a = record {
+  entries = refl;
+  gots = refl;
+  backs = refl;
+  unbroken = refl;
+  ended = refl;
+  dry = refl;
+  announced = λ some. some;
+  begun = λ some. refl;
+  taking = λ some taking. taking;
+}
+
+more : (n : ℕ) {A : Type 0} → n + 1 ≡ n → A
+more n e = absurd (omega (arith, e))
+
+call_begins : (a b : Account) → moves_in a.phase ≡ false → b.entries ≡ a.entries → Follows a b → BeginsCall a b
+call_begins a b still same (begins e idle busy) =
     choice_made a (Moving 0) a.entries (λ some. absurd (let none = choice_begins a.plan idle busy in omega arith))
-call_begins a b between (continues e busy) = choice_made a (Moving 0) a.begun (λ some. refl)
-call_begins a b between (rests e idle) = choice_made a Own a.begun (λ some. refl)
-call_begins a b between (moves made e low) = cc
-call_begins a b between (ends made found e low giving) = cc
-call_begins a b between (gets e some) = cc
-call_begins a b between (refuses e none) = cc
-call_begins a b between (frees e held) = cc
+call_begins a b still same (continues e busy) = choice_made a (Moving 0) a.begun (λ some. refl)
+call_begins a b still same (rests e idle) = choice_made a Own a.begun (λ some. refl)
+call_begins a b still same (moves moving low) = absurd (false≢true (sym still ∙ moving))
+call_begins a b still same (ends found moving low giving) = absurd (false≢true (sym still ∙ moving))
+call_begins a b still same (gets owns some) = more a.entries same
+call_begins a b still same (refuses owns none) = more a.entries same
+call_begins a b still same (frees e held) = more a.entries same
+call_begins a b still same (meets e busy) = plan_stays a (Seeking false)
+call_begins a b still same (seeks chooses idle) = sought_made a (is_idle (after_choice a.plan).pending) refl idle
+call_begins a b still same (quits e busy) = plan_stays a Leaving
+call_begins a b still same (clears e idle) = plan_stays a Clearing
+call_begins a b still same (gives e some) = gives_made a
+call_begins a b still same (shelves e none full) = shelves_made a
+call_begins a b still same (leaves e none few) = more a.entries same
+call_begins a b still same (returns e) = more a.entries same
+call_begins a b still same (retakes e) = retakes_made a
 
 begins_fits : (limits : Limits) (bound quantum : ℕ) (history : List Entry) (i : ℕ) (ledger : Ledger) (account : Account)
-    → LedgerFits limits bound quantum history i ledger → ledger.account.phase ≡ Between → Follows ledger.account account
+    → LedgerFits limits bound quantum history i ledger
+    → moves_in ledger.account.phase ≡ false → account.entries ≡ ledger.account.entries → Follows ledger.account account
     → LedgerFits limits bound quantum history i (record ledger { account = account })
-begins_fits limits bound quantum history i ledger account f between next =
-    let k = call_begins ledger.account account between next in
+begins_fits limits bound quantum history i ledger account f still same next =
+    let k = call_begins ledger.account account still same next in
     record {
       reached = follows f.reached next;
-      counts = record { entries = k.entries ∙ f.counts.entries; gots = k.gots ∙ f.counts.gots; backs = k.backs ∙ f.counts.backs };
+      counts = record {
+        entries = k.entries ∙ f.counts.entries;
+        gots = k.gots ∙ f.counts.gots;
+        backs = k.backs ∙ f.counts.backs;
+        unbroken = k.unbroken ∙ f.counts.unbroken;
+      };
       sees = record { own_entries = f.sees.own_entries; own_seen = f.sees.own_seen; beginning = f.sees.beginning };
       places = record {
         begun_within = f.places.begun_within;
@@ -87,46 +170,23 @@ begins_fits limits bound quantum history i ledger account f between next =
     }
 
 -- the announcement: the transfer has just begun
-begun_before : (length bound quantum : ℕ) (a : Account) → Reached length bound quantum a → a.begun ≤ a.entries
-begun_before length bound quantum a opens = omega arith
-begun_before length bound quantum b (follows {a = a} r f) = step b (begun_before length bound quantum a r) f
-  where
-    step : (b : Account) → a.begun ≤ a.entries → Follows a b → b.begun ≤ b.entries
-    step b le (begins e idle busy) = omega arith
-    step b le (continues e busy) = le
-    step b le (rests e idle) = le
-    step b le (moves made e low) = le
-    step b le (ends made found e low giving) = le
-    step b le (gets e some) = omega arith
-    step b le (refuses e none) = omega arith
-    step b le (frees e held) = omega arith
-
-no_quanta : (quantum made entries begun : ℕ) → made < quantum → 0 ≡ quantum * (entries - begun) + made → begun ≤ entries → entries ≡ begun
-no_quanta quantum made entries begun few none le = elim (cases_eq (entries - begun) 0) [
-  | inl e ↦ omega arith
-  | inr some ↦ absurd (omega (arith, times_le quantum 1 (entries - begun) (omega arith)))
-]
-
-just_begun : (length bound quantum : ℕ) (a : Account) (made : ℕ)
+just_begun : (length bound quantum : ℕ) (a : Account)
     → AreSizes length bound quantum
     → Reached length bound quantum a
-    → a.phase ≡ Moving made
+    → moves_in a.phase ≡ true
     → a.plan.done ≡ 0 → a.entries ≡ a.begun
-just_begun length bound quantum a made sizes r moving none =
-    let k : CountsSteps a = stands_counts a (reached_stands length bound quantum a sizes r) in
-    no_quanta a.plan.quantum made a.entries a.begun (k.few made moving) (sym none ∙ k.done made moving)
-    (begun_before length bound quantum a r)
+just_begun length bound quantum a sizes r moving none = stands_begun a (reached_stands length bound quantum a sizes r) moving none
 
-announces_fits : (limits : Limits) (bound quantum : ℕ) (history : List Entry) (i : ℕ) (ledger : Ledger) (made : ℕ)
+announces_fits : (limits : Limits) (bound quantum : ℕ) (history : List Entry) (i : ℕ) (ledger : Ledger)
     → AreSizes limits.batch_length bound quantum
     → LedgerFits limits bound quantum history i ledger
-    → ledger.account.phase ≡ Moving made
+    → moves_in ledger.account.phase ≡ true
     → ledger.account.plan.done ≡ 0
     → 1 < ledger.account.plan.bound
-    → LedgerFits limits bound quantum history i (announced made ledger)
-announces_fits limits bound quantum history i ledger made sizes f moving none long = record {
-  reached = follows f.reached (moves made moving (omega arith));
-  counts = record { entries = f.counts.entries; gots = f.counts.gots; backs = f.counts.backs };
+    → LedgerFits limits bound quantum history i (announced ledger)
+announces_fits limits bound quantum history i ledger sizes f moving none long = record {
+  reached = follows f.reached (moves moving (omega arith));
+  counts = record { entries = f.counts.entries; gots = f.counts.gots; backs = f.counts.backs; unbroken = f.counts.unbroken };
   sees = record { own_entries = f.sees.own_entries; own_seen = f.sees.own_seen; beginning = f.sees.beginning };
   places = record {
     begun_within = seen_within history i ledger f.sees;
@@ -138,21 +198,21 @@ announces_fits limits bound quantum history i ledger made sizes f moving none lo
 }
   where
     now : ledger.account.entries ≡ ledger.account.begun
-    now = just_begun limits.batch_length bound quantum ledger.account made sizes f.reached moving none
+    now = just_begun limits.batch_length bound quantum ledger.account sizes f.reached moving none
 
     apart : false ≡ true → ⊥
     apart e = cc
 
 -- a later step of the transfer
-moves_fits : (limits : Limits) (bound quantum : ℕ) (history : List Entry) (i : ℕ) (ledger : Ledger) (made : ℕ)
+moves_fits : (limits : Limits) (bound quantum : ℕ) (history : List Entry) (i : ℕ) (ledger : Ledger)
     → LedgerFits limits bound quantum history i ledger
-    → ledger.account.phase ≡ Moving made
+    → moves_in ledger.account.phase ≡ true
     → IsAnnounced ledger.account
     → ledger.account.plan.done + 1 < ledger.account.plan.bound
-    → LedgerFits limits bound quantum history i (record ledger { account = stepped made ledger.account })
-moves_fits limits bound quantum history i ledger made f moving sent low = record {
-  reached = follows f.reached (moves made moving low);
-  counts = record { entries = f.counts.entries; gots = f.counts.gots; backs = f.counts.backs };
+    → LedgerFits limits bound quantum history i (record ledger { account = stepped ledger.account })
+moves_fits limits bound quantum history i ledger f moving sent low = record {
+  reached = follows f.reached (moves moving low);
+  counts = record { entries = f.counts.entries; gots = f.counts.gots; backs = f.counts.backs; unbroken = f.counts.unbroken };
   sees = record { own_entries = f.sees.own_entries; own_seen = f.sees.own_seen; beginning = f.sees.beginning };
   places = record {
     begun_within = f.places.begun_within;
@@ -193,19 +253,19 @@ ended_few : (limits : Limits) (history : List Entry) (begun_place ended_place : 
 ended_few limits history begun_place ended_place true b e = b refl
 ended_few limits history begun_place ended_place false b e = e refl
 
-ends_fits : (limits : Limits) (bound quantum : ℕ) (history : List Entry) (i : ℕ) (ledger : Ledger) (made : ℕ) (found : Bool)
+ends_fits : (limits : Limits) (bound quantum : ℕ) (history : List Entry) (i : ℕ) (ledger : Ledger) (found : Bool)
     → LedgerFits limits bound quantum history i ledger
-    → ledger.account.phase ≡ Moving made
+    → moves_in ledger.account.phase ≡ true
     → IsAnnounced ledger.account
     → ledger.account.plan.done + 1 ≤ ledger.account.plan.bound
     → (is_giving ledger.account.plan.pending ≡ true → found ≡ true)
     → (is_taking ledger.account.plan.pending ≡ true → found ≡ false → ledger.found_nothing ≡ true)
     → LedgerFits limits bound quantum history i (ended found ledger)
-ends_fits limits bound quantum history i ledger made found f moving sent low gives nothing =
+ends_fits limits bound quantum history i ledger found f moving sent low given nothing =
     let x = ledger.account.plan in
     record {
-      reached = follows f.reached (ends made found moving low gives);
-      counts = record { entries = f.counts.entries; gots = f.counts.gots; backs = f.counts.backs };
+      reached = follows f.reached (ends found moving low given);
+      counts = record { entries = f.counts.entries; gots = f.counts.gots; backs = f.counts.backs; unbroken = f.counts.unbroken };
       sees = record { own_entries = f.sees.own_entries; own_seen = f.sees.own_seen; beginning = f.sees.beginning };
       places = record {
         begun_within = f.places.begun_within;
@@ -228,17 +288,17 @@ ends_fits limits bound quantum history i ledger made found f moving sent low giv
 pub going_fits : (limits : Limits) (bound quantum : ℕ) (history : List Entry) (i : ℕ) (old new : Ledger)
     → AreSizes limits.batch_length bound quantum
     → LedgerFits limits bound quantum history i old → GoesOn old new → LedgerFits limits bound quantum history i new
-going_fits limits bound quantum history i old new sizes f (steps.begins account between next) =
-    begins_fits limits bound quantum history i old account f between next
-going_fits limits bound quantum history i old new sizes f (steps.announces made moving none long) =
-    announces_fits limits bound quantum history i old made sizes f moving none long
-going_fits limits bound quantum history i old new sizes f (steps.moves made moving sent low) =
-    moves_fits limits bound quantum history i old made f moving sent low
-going_fits limits bound quantum history i old new sizes f (steps.ends made found moving sent low gives nothing) =
-    ends_fits limits bound quantum history i old made found f moving sent low gives nothing
+going_fits limits bound quantum history i old new sizes f (steps.begins account still same next) =
+    begins_fits limits bound quantum history i old account f still same next
+going_fits limits bound quantum history i old new sizes f (steps.announces moving none long) =
+    announces_fits limits bound quantum history i old sizes f moving none long
+going_fits limits bound quantum history i old new sizes f (steps.moves moving sent low) =
+    moves_fits limits bound quantum history i old f moving sent low
+going_fits limits bound quantum history i old new sizes f (steps.ends found moving sent low given nothing) =
+    ends_fits limits bound quantum history i old found f moving sent low given nothing
 
 pub going_sees : (old new : Ledger) → GoesOn old new → new.seen ≡ old.seen
-going_sees old new (steps.begins account between next) = refl
-going_sees old new (steps.announces made moving none long) = refl
-going_sees old new (steps.moves made moving sent low) = refl
-going_sees old new (steps.ends made found moving sent low gives nothing) = refl
+going_sees old new (steps.begins account still same next) = refl
+going_sees old new (steps.announces moving none long) = refl
+going_sees old new (steps.moves moving sent low) = refl
+going_sees old new (steps.ends found moving sent low given nothing) = refl

@@ -23,7 +23,7 @@ opening_fits : (limits : Limits) (bound quantum i : ℕ)
     → LedgerFits limits bound quantum [] i (opening_ledger limits.batch_length bound quantum)
 opening_fits limits bound quantum i = record {
   reached = opens;
-  counts = record { entries = refl; gots = refl; backs = refl };
+  counts = record { entries = refl; gots = refl; backs = refl; unbroken = refl };
   sees = record { own_entries = refl; own_seen = refl; beginning = refl };
   places = record { begun_within = omega arith; begun_here = λ some. refl; ended_within = omega arith; ended_here = refl };
   found = record { pending = λ taking some nothing. cc; dry = λ dry. cc };

@@ -1,6 +1,7 @@
 pub mod Times
 pub mod Grips
 pub mod Shared
+pub mod Freed
 pub mod Fitting
 pub mod GoingOn
 pub mod Refusals

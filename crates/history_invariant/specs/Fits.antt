@@ -1,5 +1,5 @@
 -- how the ledger of a process fits the one history
-use Rattle.std.specs.Prelude.{◌≡◌, ℕ, ◌≤◌, true, List, length, take, count_by}
+use Rattle.std.specs.Prelude.{◌≡◌, ℕ, ◌≤◌, true, List, [], length, take, drop, count_by}
 use Rattle.pool_model.specs.declared.entry.Entry.{Entry}
 use Rattle.pool_model.specs.Limits.{Limits}
 use Rattle.pool_model.specs.History.{own, HasFewUnheld, is_got, is_back}
@@ -12,6 +12,8 @@ pub record CountsEntries (account : Account) (mine : List Entry) : Type 0 where
   pub entries : account.entries ≡ length mine
   pub gots : account.gots ≡ count_by is_got mine
   pub backs : account.backs ≡ count_by is_back mine
+  -- no entry is one of a retirement
+  pub unbroken : account.unbroken ≡ true
 
 -- the process has all its entries in the history, and has seen a beginning of it that has them all
 pub record SeesBeginning (history : List Entry) (i : ℕ) (ledger : Ledger) : Type 0 where
@@ -39,6 +41,13 @@ pub record FoundFew (limits : Limits) (history : List Entry) (ledger : Ledger) :
   pub pending : is_taking ledger.account.plan.pending ≡ true → IsAnnounced ledger.account → ledger.found_nothing ≡ true
       → HadFewSince limits history ledger.begun_place
   pub dry : ledger.account.plan.dry ≡ true → HadFewSince limits history ledger.ended_place
+
+-- at a place after the last entry of process i at most the slack was unheld
+pub record HadFewNow (limits : Limits) (history : List Entry) (i : ℕ) : Type 0 where
+  pub place : ℕ
+  pub within : place ≤ length history
+  pub since : own (drop place history) i ≡ []
+  pub few : HasFewUnheld limits history place
 
 -- the ledger of process i fits the history
 pub record LedgerFits (limits : Limits) (bound quantum : ℕ) (history : List Entry) (i : ℕ) (ledger : Ledger) : Type 0 where

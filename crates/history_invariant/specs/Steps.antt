@@ -5,12 +5,12 @@ use Rattle.pool_model.specs.Limits.{Limits}
 use Rattle.pool_model.specs.History.{HasFewUnheld}
 use Rattle.transfer_schedule.specs.Numbers.{is_taking, is_giving}
 pub use Rattle.transfer_schedule.specs.Account.{stepped, ended_with, got_one, got_none, gave_back}
-use Rattle.transfer_schedule.specs.Account.{Account, Between, Moving, Follows}
+use Rattle.transfer_schedule.specs.Account.{Account, Follows, moves_in}
 use Rattle.history_invariant.specs.Ledger.{Ledger, Ledgers, IsAnnounced}
 
 -- the ledger when the transfer is announced: its place is kept, and what a take of it finds is still open
-abbrev pub announced : ℕ → Ledger → Ledger
-announced made ledger = record ledger { account = stepped made ledger.account; begun_place = length ledger.seen; found_nothing = false }
+abbrev pub announced : Ledger → Ledger
+announced ledger = record ledger { account = stepped ledger.account; begun_place = length ledger.seen; found_nothing = false }
 
 -- the ledger when the transfer ends: the place of a take becomes that of the last ended one
 abbrev pub ended : Bool → Ledger → Ledger
@@ -21,21 +21,22 @@ ended found ledger = record ledger {
 
 -- one step of a process that makes no entry leads from its ledger to the next
 pub data GoesOn (ledger : Ledger) : Ledger → Type 0 where
-  -- a call begins, with a transfer or without
-  begins : (account : Account) → ledger.account.phase ≡ Between → Follows ledger.account account
+  -- a call begins, or goes on to another transfer
+  begins : (account : Account) → moves_in ledger.account.phase ≡ false → account.entries ≡ ledger.account.entries
+      → Follows ledger.account account
       → GoesOn ledger (record ledger { account = account })
   -- the first step of the transfer announces it
-  announces : (made : ℕ) → ledger.account.phase ≡ Moving made
+  announces : moves_in ledger.account.phase ≡ true
       → ledger.account.plan.done ≡ 0
       → 1 < ledger.account.plan.bound
-      → GoesOn ledger (announced made ledger)
+      → GoesOn ledger (announced ledger)
   -- a later step of the transfer, which goes on
-  moves : (made : ℕ) → ledger.account.phase ≡ Moving made
+  moves : moves_in ledger.account.phase ≡ true
       → IsAnnounced ledger.account
       → ledger.account.plan.done + 1 < ledger.account.plan.bound
-      → GoesOn ledger (record ledger { account = stepped made ledger.account })
+      → GoesOn ledger (record ledger { account = stepped ledger.account })
   -- the last step of the transfer: a take ends with nothing only where it was applied with nothing
-  ends : (made : ℕ) (found : Bool) → ledger.account.phase ≡ Moving made
+  ends : (found : Bool) → moves_in ledger.account.phase ≡ true
       → IsAnnounced ledger.account
       → ledger.account.plan.done + 1 ≤ ledger.account.plan.bound
       → (is_giving ledger.account.plan.pending ≡ true → found ≡ true)

@@ -1,44 +1,116 @@
 -- What holds of every account that the schedule reaches.
-use Rattle.std.proofs.Common.{◌≡◌, ◌≢◌, ℕ, ◌+◌, ◌-◌, ◌*◌, ◌<◌, ◌≤◌, Bool, false, sym, refl, ◌∙◌, ap, subst, inl, inr, arith}
-use Rattle.std.proofs.lemmas.Bool.{cases_eq}
+use Rattle.std.proofs.Common.{◌≡◌, ◌≢◌, ℕ, ◌+◌, ◌-◌, ◌*◌, ◌<◌, ◌≤◌, Bool, true, false, if◌then◌else◌, sym, refl, ◌∙◌, ap, subst, inl, inr, arith}
+use Rattle.std.proofs.lemmas.Bool.{cases_eq, false≢true}
 use Rattle.std.proofs.lemmas.Bool.Decides.{nat_tests}
 use Rattle.transfer_schedule.specs.declared.own_step.Source.TheVariants.{Nothing}
-use Rattle.transfer_schedule.specs.Numbers.{Numbers, AreSizes, is_idle, is_giving, after_choice, after_steps, after_end, after_took_one}
-use Rattle.transfer_schedule.specs.Numbers.{after_gave_one, source_of, stock}
+use Rattle.transfer_schedule.specs.declared.pending.Pending.{Pending}
+use Rattle.transfer_schedule.specs.declared.pending.Pending.TheVariants.{Taking, Giving, Idle}
+use Rattle.transfer_schedule.specs.Numbers.{Numbers, AreSizes, is_idle, is_taking, is_giving, after_begin, after_choice, after_steps}
+use Rattle.transfer_schedule.specs.Numbers.{after_end, after_took_one, after_gave_one, source_of, stock}
 use Rattle.transfer_schedule.specs.Table.{InTable}
-use Rattle.transfer_schedule.specs.Account.{CallPhase, Between, Moving, Own, Account, after_move, Follows, begins, continues, rests}
-use Rattle.transfer_schedule.specs.Account.{moves, ends, gets, refuses, frees, Reached, opens, follows}
+use Rattle.transfer_schedule.specs.Account.{CallPhase, Between, Moving, Own, Seeking, Choosing, Sought, Leaving, Clearing, Shedding}
+use Rattle.transfer_schedule.specs.Account.{Resting, Joining, Returning, Account, after_move, moves_in, owns_in, chooses_in, stepped}
+use Rattle.transfer_schedule.specs.Account.{ended_with, last_take, got_one, got_none, sought_by, after_seek, after_shelved}
+use Rattle.transfer_schedule.specs.Account.{Follows, begins, continues, rests, moves, ends, gets, refuses, frees, meets, seeks, quits}
+use Rattle.transfer_schedule.specs.Account.{clears, gives, shelves, leaves, returns, retakes, Reached, opens, follows}
 use Rattle.transfer_schedule.specs.Laws.{HasSizes, RestsWithFour, WithholdsFive, IsSound, EndsInTime, GivesLeaveBatch, CountsSteps}
-use Rattle.transfer_schedule.specs.Laws.{BeginsShort, RefusesSoon}
-use Rattle.transfer_schedule.proofs.Products.{times_two, times_three, quantum_some}
-use Rattle.transfer_schedule.proofs.Operations.{no_steps, end_steps, choice_busy, choice_sizes, end_sizes, took_sizes, gave_sizes}
-use Rattle.transfer_schedule.proofs.Operations.{took_nothing, busy_not_idle, not_idle_busy}
+use Rattle.transfer_schedule.specs.Laws.{BeginsShort, RefusesSoon, serves, SoundWhileServing, MissesNow, FoundNothing, KeepsRest, RestsWithFew}
+use Rattle.transfer_schedule.specs.Laws.{WaitsAnnounced, JustBegun, PendsWhileMoving}
+use Rattle.transfer_schedule.proofs.Products.{times_two, times_three, times_le, quantum_some}
+use Rattle.transfer_schedule.proofs.Operations.{one_more_few, no_steps, end_steps, choice_busy, choice_sizes, end_sizes, took_sizes}
+use Rattle.transfer_schedule.proofs.Operations.{gave_sizes, took_nothing, busy_not_idle, not_idle_busy, idle_is}
 use Rattle.transfer_schedule.proofs.Stock.{end_stock, took_stock, gave_stock}
 use Rattle.transfer_schedule.proofs.Standing.{Standing, Ready, opening_stands, choice_stands, choice_ready, steps_stand, steps_ready}
 use Rattle.transfer_schedule.proofs.Standing.{end_ready, took_stands, gave_stands, young, young_ready, nothing_dry, standing_spares}
 use Rattle.transfer_schedule.proofs.Standing.{ready_spares}
 use Rattle.transfer_schedule.proofs.Spared.{Spared, spared_standing, spared_ready, spared_table, spared_rests, spared_withholds}
 
--- the facts of an account whose call has made transfer steps
+-- the facts of an account between two calls: a pending transfer began before the last entry
+record Waits (a : Account) : Type 0 where
+  standing : Standing a.plan 0 a.entries a.begun a.ended
+  late : is_idle a.plan.pending ≡ false → a.begun < a.entries
+
+-- of one whose call has made transfer steps
 record Moves (made : ℕ) (a : Account) : Type 0 where
   standing : Standing a.plan made a.entries a.begun a.ended
   busy : is_idle a.plan.pending ≡ false
   few : made < a.plan.quantum
 
+-- at the transfer of a search or of a retire, which a search may have begun after the last entry
+record Seeks (own : Bool) (a : Account) : Type 0 where
+  made : ℕ
+  standing : Standing a.plan made a.entries a.begun a.ended
+  busy : is_idle a.plan.pending ≡ false
+  now : own ≡ true → a.begun ≡ a.entries
+
+-- in a search, with the transfer that it met ended
+record Chooses (a : Account) : Type 0 where
+  standing : Standing a.plan 0 a.entries a.begun a.ended
+  idle : is_idle a.plan.pending ≡ true
+
+-- in a search, before its own step
+record Looks (a : Account) : Type 0 where
+  ready : Ready a.plan a.entries a.begun a.ended
+  now : source_of a.plan ≡ Nothing → (a.plan.dry ≡ true) × (a.ended ≡ a.entries)
+
+-- in a retire, with nothing pending
+record Clears (a : Account) : Type 0 where
+  sizes : AreSizes a.plan.length a.plan.bound a.plan.quantum
+  room : a.plan.current ≤ a.plan.length
+  spares : a.plan.spares ≤ 3
+  idle : is_idle a.plan.pending ≡ true
+
+-- at a give of its own
+record Sheds (a : Account) : Type 0 where
+  sizes : AreSizes a.plan.length a.plan.bound a.plan.quantum
+  room : a.plan.current ≤ a.plan.length
+  spares : a.plan.spares ≤ 2
+  giving : is_giving a.plan.pending ≡ true
+  now : a.begun ≡ a.entries
+
+-- at rest, and in an enlist before its take
+record Reposes (a : Account) : Type 0 where
+  sizes : AreSizes a.plan.length a.plan.bound a.plan.quantum
+  idle : is_idle a.plan.pending ≡ true
+  none : a.plan.spares ≡ 0
+  few : a.plan.current < a.plan.length
+  broken : a.unbroken ≡ false
+
+-- at its take
+record Comes (a : Account) : Type 0 where
+  sizes : AreSizes a.plan.length a.plan.bound a.plan.quantum
+  taking : is_taking a.plan.pending ≡ true
+  none : a.plan.spares ≡ 0
+  few : a.plan.current < a.plan.length
+  now : a.begun ≡ a.entries
+  broken : a.unbroken ≡ false
+
 -- the facts of an account in each phase
 abbrev AtPhase : CallPhase → Account → Type 0
-AtPhase Between a = Standing a.plan 0 a.entries a.begun a.ended
+AtPhase Between a = Waits a
 AtPhase (Moving made) a = Moves made a
 AtPhase Own a = Ready a.plan a.entries a.begun a.ended
+AtPhase (Seeking own) a = Seeks own a
+AtPhase Choosing a = Chooses a
+AtPhase Sought a = Looks a
+AtPhase Leaving a = Seeks false a
+AtPhase Clearing a = Clears a
+AtPhase Shedding a = Sheds a
+AtPhase Resting a = Reposes a
+AtPhase Joining a = Reposes a
+AtPhase Returning a = Comes a
 
 -- the facts of an account at its phase, and that its stock and what was got are two batches above what was given back
 pub record Stands (a : Account) : Type 0 where
   at_phase : AtPhase a.phase a
-  held : a.backs ≤ a.gots
-  net : 2 * a.plan.length + a.backs ≤ stock a.plan + a.gots
+  held : a.unbroken ≡ true → a.backs ≤ a.gots
+  net : serves a.phase ≡ true → a.unbroken ≡ true → 2 * a.plan.length + a.backs ≤ stock a.plan + a.gots
 
 at : (phase : CallPhase) (a : Account) → a.phase ≡ phase → Stands a → AtPhase phase a
 at phase a e s = subst (λ p. AtPhase p a) e s.at_phase
+
+no_net : {A : Type 0} → false ≡ true → A
+no_net e = absurd (false≢true e)
 
 -- each operation keeps the stock and what was got at least two batches above what was given back
 choice_net : (x : Numbers) (gots backs : ℕ)
@@ -82,12 +154,13 @@ move_last quantum made e = grind (arith, nat_tests)
 move_more : (quantum made : ℕ) → made + 1 ≢ quantum → after_move quantum made ≡ Moving (made + 1)
 move_more quantum made ne = grind (arith, nat_tests)
 
--- a transfer step that isn't the last
-move_stands : (a : Account) (made : ℕ) → Stands a → Moves made a → a.plan.done + 1 < a.plan.bound → Stands (record a {
-  plan = after_steps 1 a.plan;
-  phase = after_move a.plan.quantum made;
-})
-move_stands a made s m low = record { at_phase = facts; held = s.held; net = s.net }
+-- a transfer step of an allocate or a free that isn't the last
+quantum_step : (a : Account) (made : ℕ) → Moves made a → a.plan.done + 1 < a.plan.bound
+    → AtPhase (after_move a.plan.quantum made) (record a { plan = after_steps 1 a.plan; phase = after_move a.plan.quantum made })
+quantum_step a made m low = elim (cases_eq (made + 1) a.plan.quantum) [
+  | inl e ↦ rw (move_last a.plan.quantum made e) (last e)
+  | inr ne ↦ rw (move_more a.plan.quantum made ne) (record { standing = next; busy = m.busy; few = omega (arith, m.few) })
+]
   where
     next : Standing (after_steps 1 a.plan) (made + 1) a.entries a.begun a.ended
     next = steps_stand a.plan 1 made a.entries a.begun a.ended m.standing m.busy low
@@ -97,25 +170,254 @@ move_stands a made s m low = record { at_phase = facts; held = s.held; net = s.n
         let now = subst (λ n. Standing (after_steps 1 a.plan) n a.entries a.begun a.ended) e next in
         steps_ready (after_steps 1 a.plan) a.entries a.begun a.ended now m.busy
 
-    facts : AtPhase (after_move a.plan.quantum made) (record a { plan = after_steps 1 a.plan; phase = after_move a.plan.quantum made })
-    facts = elim (cases_eq (made + 1) a.plan.quantum) [
-      | inl e ↦ rw (move_last a.plan.quantum made e) (last e)
-      | inr ne ↦ rw (move_more a.plan.quantum made ne) (record { standing = next; busy = m.busy; few = omega (arith, m.few) })
-    ]
+-- of a search or a retire
+sought_step : (own : Bool) (a : Account) (phase : CallPhase) → Seeks own a → a.plan.done + 1 < a.plan.bound
+    → Seeks own (record a { plan = after_steps 1 a.plan; phase = phase })
+sought_step own a phase m low = record {
+  made = m.made + 1;
+  standing = steps_stand a.plan 1 m.made a.entries a.begun a.ended m.standing m.busy low;
+  busy = m.busy;
+  now = m.now;
+}
+
+-- each phase
+step_facts : (a : Account) (phase : CallPhase) → a.phase ≡ phase → Stands a → moves_in phase ≡ true → a.plan.done + 1 < a.plan.bound
+    → Stands (stepped a)
+step_facts a Between e s moving low = no_net moving
+step_facts a (Moving made) e s moving low = record {
+  at_phase = rw e (quantum_step a made (at (Moving made) a e s) low);
+  held = s.held;
+  net = λ serving. s.net (rw e refl);
+}
+step_facts a Own e s moving low = no_net moving
+step_facts a (Seeking own) e s moving low =
+    record { at_phase = rw e (sought_step own a (Seeking own) (at (Seeking own) a e s) low); held = s.held; net = λ serving. s.net (rw e refl) }
+step_facts a Choosing e s moving low = no_net moving
+step_facts a Sought e s moving low = no_net moving
+step_facts a Leaving e s moving low =
+    record { at_phase = rw e (sought_step false a Leaving (at Leaving a e s) low); held = s.held; net = λ serving. no_net (rw e at serving) }
+step_facts a Clearing e s moving low = no_net moving
+step_facts a Shedding e s moving low =
+    let c = at Shedding a e s in
+    record {
+      at_phase = rw e (record { sizes = c.sizes; room = c.room; spares = c.spares; giving = c.giving; now = c.now });
+      held = s.held;
+      net = λ serving. no_net (rw e at serving);
+    }
+step_facts a Resting e s moving low = no_net moving
+step_facts a Joining e s moving low = no_net moving
+step_facts a Returning e s moving low =
+    let c = at Returning a e s in
+    record {
+      at_phase = rw e (record { sizes = c.sizes; taking = c.taking; none = c.none; few = c.few; now = c.now; broken = c.broken });
+      held = s.held;
+      net = λ serving. no_net (rw e at serving);
+    }
+
+-- the last step of a transfer
+ready_rests : (x : Numbers) (entries begun ended : ℕ) → Ready x entries begun ended → is_idle x.pending ≡ true
+    → Standing x 0 entries begun ended
+ready_rests x entries begun ended r idle = grind (arith, nat_tests)
+
+end_idle : (found : Bool) (x : Numbers) → is_idle (after_end found x).pending ≡ true
+end_idle found x = grind (arith, nat_tests)
+
+-- a search has a block after its own transfer, unless that is a take which found nothing
+end_finds : (x : Numbers) (found : Bool) (made entries begun ended : ℕ) → Standing x made entries begun ended → is_idle x.pending ≡ false
+    → begun ≡ entries
+    → source_of (after_end found x) ≡ Nothing
+    → ((after_end found x).dry ≡ true) × ((if is_taking x.pending then begun else ended) ≡ entries)
+end_finds x found made entries begun ended s busy now none =
+    (grind (arith, nat_tests, one_more_few x.spares), grind (arith, nat_tests, one_more_few x.spares))
+
+-- or with nothing pending, where no transfer is due
+rest_finds : (x : Numbers) → is_idle (after_choice x).pending ≡ true → is_idle x.pending ≡ true → source_of (after_choice x) ≢ Nothing
+rest_finds x idle rest = λ none. grind (arith, nat_tests)
+
+ended_ready : (found : Bool) (a : Account) (made : ℕ) → Standing a.plan made a.entries a.begun a.ended → is_idle a.plan.pending ≡ false
+    → Ready (after_end found (after_steps 1 a.plan)) a.entries a.begun (last_take a)
+ended_ready found a made s busy = rw (end_steps a.plan found 1) (end_ready a.plan found made a.entries a.begun a.ended s busy)
+
+ended_net : (a : Account) (found : Bool) (made : ℕ) → Standing a.plan made a.entries a.begun a.ended
+    → 2 * a.plan.length + a.backs ≤ stock a.plan + a.gots
+    → 2 * (after_end found (after_steps 1 a.plan)).length + a.backs ≤ stock (after_end found (after_steps 1 a.plan)) + a.gots
+ended_net a found made t net =
+    rw (end_steps a.plan found 1)
+    (end_net a.plan found a.gots a.backs (standing_spares a.plan made a.entries a.begun a.ended t) net)
+
+cleared : (x : Numbers) (entries begun ended : ℕ) → Ready x entries begun ended → is_idle x.pending ≡ true → x.spares ≤ 3
+cleared x entries begun ended r idle = r.idle_spares idle
+
+shed : (found : Bool) (x : Numbers) → is_giving x.pending ≡ true
+    → ((after_end found (after_steps 1 x)).spares ≡ x.spares) × ((after_end found (after_steps 1 x)).current ≡ x.current)
+shed found x giving = (grind (arith, nat_tests), grind (arith, nat_tests))
+
+came_back : (x : Numbers) (found : Bool) (entries begun ended : ℕ) → AreSizes x.length x.bound x.quantum → is_taking x.pending ≡ true
+    → x.spares ≡ 0 → x.current < x.length → begun ≡ entries
+    → Standing (after_end found x) 0 entries begun (if is_taking x.pending then begun else ended)
+came_back x found entries begun ended sizes taking none few now = grind (arith, nat_tests, one_more_few x.spares)
+
+sizes_of_end : (found : Bool) (x : Numbers) → AreSizes x.length x.bound x.quantum
+    → AreSizes (after_end found (after_steps 1 x)).length (after_end found (after_steps 1 x)).bound (after_end found (after_steps 1 x)).quantum
+sizes_of_end found x h = grind (arith, nat_tests)
+
+end_facts : (a : Account) (found : Bool) (phase : CallPhase) → a.phase ≡ phase → Stands a → moves_in phase ≡ true → Stands (ended_with found a)
+end_facts a found Between e s moving = no_net moving
+end_facts a found (Moving made) e s moving =
+    let m = at (Moving made) a e s in
+    record {
+      at_phase = rw e (ended_ready found a made m.standing m.busy);
+      held = s.held;
+      net = λ serving u. ended_net a found made m.standing (s.net (rw e refl) u);
+    }
+end_facts a found Own e s moving = no_net moving
+end_facts a found (Seeking true) e s moving =
+    let m = at (Seeking true) a e s in
+    record {
+      at_phase = rw e (record {
+        ready = ended_ready found a m.made m.standing m.busy;
+        now = rw (end_steps a.plan found 1)
+            (end_finds a.plan found m.made a.entries a.begun a.ended m.standing m.busy (m.now refl));
+      });
+      held = s.held;
+      net = λ serving u. ended_net a found m.made m.standing (s.net (rw e refl) u);
+    }
+end_facts a found (Seeking false) e s moving =
+    let m = at (Seeking false) a e s in
+    let x = after_end found (after_steps 1 a.plan) in
+    let idle = end_idle found (after_steps 1 a.plan) in
+    record {
+      at_phase = rw e (record {
+        standing = ready_rests x a.entries a.begun (last_take a) (ended_ready found a m.made m.standing m.busy) idle;
+        idle = idle;
+      });
+      held = s.held;
+      net = λ serving u. ended_net a found m.made m.standing (s.net (rw e refl) u);
+    }
+end_facts a found Choosing e s moving = no_net moving
+end_facts a found Sought e s moving = no_net moving
+end_facts a found Leaving e s moving =
+    let m = at Leaving a e s in
+    let x = after_end found (after_steps 1 a.plan) in
+    let idle = end_idle found (after_steps 1 a.plan) in
+    let r = ended_ready found a m.made m.standing m.busy in
+    record {
+      at_phase = rw e (record { sizes = r.sizes; room = r.room; spares = r.idle_spares idle; idle = idle });
+      held = s.held;
+      net = λ serving. no_net (rw e at serving);
+    }
+end_facts a found Clearing e s moving = no_net moving
+end_facts a found Shedding e s moving =
+    let c = at Shedding a e s in
+    let k = shed found a.plan c.giving in
+    record {
+      at_phase = rw e (record {
+        sizes = sizes_of_end found a.plan c.sizes;
+        room = rw k.1 (rw (end_sizes (after_steps 1 a.plan) found).0 c.room);
+        spares = rw k.0 (let few = c.spares in omega arith);
+        idle = end_idle found (after_steps 1 a.plan);
+      });
+      held = s.held;
+      net = λ serving. no_net (rw e at serving);
+    }
+end_facts a found Resting e s moving = no_net moving
+end_facts a found Joining e s moving = no_net moving
+end_facts a found Returning e s moving =
+    let c = at Returning a e s in
+    record {
+      at_phase = rw e (record {
+        standing = rw (end_steps a.plan found 1)
+            (came_back a.plan found a.entries a.begun a.ended c.sizes c.taking c.none c.few c.now);
+        late = λ busy. no_net (sym busy ∙ end_idle found (after_steps 1 a.plan));
+      });
+      held = s.held;
+      net = λ serving u. no_net (sym c.broken ∙ u);
+    }
+
+-- the own step of an allocate or a search
+own_ready : (a : Account) (phase : CallPhase) → a.phase ≡ phase → Stands a → owns_in phase ≡ true
+    → Ready a.plan a.entries a.begun a.ended × (serves phase ≡ true)
+own_ready a Own e s owns = (at Own a e s, refl)
+own_ready a Sought e s owns = (let l = at Sought a e s in l.ready, refl)
+own_ready a Between e s owns = no_net owns
+own_ready a (Moving made) e s owns = no_net owns
+own_ready a (Seeking own) e s owns = no_net owns
+own_ready a Choosing e s owns = no_net owns
+own_ready a Leaving e s owns = no_net owns
+own_ready a Clearing e s owns = no_net owns
+own_ready a Shedding e s owns = no_net owns
+own_ready a Resting e s owns = no_net owns
+own_ready a Joining e s owns = no_net owns
+own_ready a Returning e s owns = no_net owns
+
+took_waits : (x : Numbers) (entries begun ended : ℕ) → Ready x entries begun ended → is_idle (after_took_one x).pending ≡ false
+    → begun < entries + 1
+took_waits x entries begun ended r busy = grind (arith, nat_tests)
+
+gave_waits : (x : Numbers) (entries begun ended : ℕ) → Ready x entries begun ended → is_idle (after_gave_one x).pending ≡ false
+    → begun < entries + 1
+gave_waits x entries begun ended r busy = grind (arith, nat_tests)
+
+-- a search with nothing pending chooses
+choosing : (a : Account) (phase : CallPhase) → a.phase ≡ phase → Stands a → chooses_in phase ≡ true
+    → Standing a.plan 0 a.entries a.begun a.ended × (serves phase ≡ true)
+choosing a Between e s chooses = (let w = at Between a e s in w.standing, refl)
+choosing a Choosing e s chooses = (let w = at Choosing a e s in w.standing, refl)
+choosing a (Moving made) e s chooses = no_net chooses
+choosing a Own e s chooses = no_net chooses
+choosing a (Seeking own) e s chooses = no_net chooses
+choosing a Sought e s chooses = no_net chooses
+choosing a Leaving e s chooses = no_net chooses
+choosing a Clearing e s chooses = no_net chooses
+choosing a Shedding e s chooses = no_net chooses
+choosing a Resting e s chooses = no_net chooses
+choosing a Joining e s chooses = no_net chooses
+choosing a Returning e s chooses = no_net chooses
+
+seek_at : (a : Account) (t : Bool) → is_idle (after_choice a.plan).pending ≡ t → Standing a.plan 0 a.entries a.begun a.ended
+    → is_idle a.plan.pending ≡ true
+    → (a.unbroken ≡ true → a.backs ≤ a.gots) → (a.unbroken ≡ true → 2 * a.plan.length + a.backs ≤ stock a.plan + a.gots)
+    → Stands (sought_by t a)
+seek_at a true e t idle held net = record {
+  at_phase = record {
+    ready = choice_ready a.plan a.entries a.begun a.ended t e;
+    now = λ none. absurd (rest_finds a.plan e idle none);
+  };
+  held = held;
+  net = λ _ u. choice_net a.plan a.gots a.backs (held u) (net u);
+}
+seek_at a false e t idle held net = record {
+  at_phase = record {
+    made = 0;
+    standing = choice_stands a.plan a.entries a.begun a.ended t idle;
+    busy = e;
+    now = λ _. refl;
+  };
+  held = held;
+  net = λ _ u. choice_net a.plan a.gots a.backs (held u) (net u);
+}
+
+-- a retire
+given_one : (x : Numbers) → x.spares ≤ 3 → 0 < x.spares → (after_begin Giving x).spares ≤ 2
+given_one x few some = grind (arith, nat_tests)
+
+shelved_one : (x : Numbers) → x.spares ≡ 0 → (after_shelved x).spares ≤ 3
+shelved_one x none = grind (arith, nat_tests, one_more_few x.spares)
 
 -- each step of the schedule keeps the facts
 pub step_stands : (a b : Account) → Stands a → Follows a b → Stands b
 step_stands a b s (begins e idle busy) =
-    let next = choice_stands a.plan a.entries a.begun a.ended (at Between a e s) idle in
+    let w = at Between a e s in
+    let next = choice_stands a.plan a.entries a.begun a.ended w.standing idle in
     record {
       at_phase = record { standing = next; busy = busy; few = some_of (after_choice a.plan) next.sizes };
       held = s.held;
-      net = choice_net a.plan a.gots a.backs s.held s.net;
+      net = λ _ u. choice_net a.plan a.gots a.backs (s.held u) (s.net (ap serves e) u);
     }
 step_stands a b s (continues e busy) =
-    let now = at Between a e s in
+    let w = at Between a e s in
     let same = sym (choice_busy a.plan busy) in
-    let next = subst (λ x. Standing x 0 a.entries a.begun a.ended) same now in
+    let next = subst (λ x. Standing x 0 a.entries a.begun a.ended) same w.standing in
     record {
       at_phase = record {
         standing = next;
@@ -123,47 +425,114 @@ step_stands a b s (continues e busy) =
         few = some_of (after_choice a.plan) next.sizes;
       };
       held = s.held;
-      net = choice_net a.plan a.gots a.backs s.held s.net;
+      net = λ _ u. choice_net a.plan a.gots a.backs (s.held u) (s.net (ap serves e) u);
     }
-step_stands a b s (rests e idle) = record {
-  at_phase = choice_ready a.plan a.entries a.begun a.ended (at Between a e s) idle;
-  held = s.held;
-  net = choice_net a.plan a.gots a.backs s.held s.net;
-}
-step_stands a b s (moves made e low) = move_stands a made s (at (Moving made) a e s) low
-step_stands a b s (ends made found e low giving) =
-    let m = at (Moving made) a e s in
-    rw (end_steps a.plan found 1) (record {
-      at_phase = end_ready a.plan found made a.entries a.begun a.ended m.standing m.busy;
-      held = s.held;
-      net = end_net a.plan found a.gots a.backs (standing_spares a.plan made a.entries a.begun a.ended m.standing) s.net;
-    })
-step_stands a b s (gets e some) =
-    let r = at Own a e s in
+step_stands a b s (rests e idle) =
+    let w = at Between a e s in
     record {
-      at_phase = took_stands a.plan a.entries a.begun a.ended r;
-      held = omega (arith, s.held);
-      net = took_net a.plan a.gots a.backs some r.sizes.long s.net;
+      at_phase = choice_ready a.plan a.entries a.begun a.ended w.standing idle;
+      held = s.held;
+      net = λ _ u. choice_net a.plan a.gots a.backs (s.held u) (s.net (ap serves e) u);
     }
-step_stands a b s (refuses e none) = record {
-  at_phase = took_stands a.plan a.entries a.begun a.ended (at Own a e s);
-  held = s.held;
-  net = refused_net a.plan a.gots a.backs none s.net;
-}
+step_stands a b s (moves moving low) = step_facts a a.phase refl s moving low
+step_stands a b s (ends found moving low giving) = end_facts a found a.phase refl s moving
+step_stands a b s (gets owns some) =
+    let (r, serving) = own_ready a a.phase refl s owns in
+    record {
+      at_phase = record {
+        standing = took_stands a.plan a.entries a.begun a.ended r;
+        late = took_waits a.plan a.entries a.begun a.ended r;
+      };
+      held = λ u. omega (arith, s.held u);
+      net = λ _ u. took_net a.plan a.gots a.backs some r.sizes.long (s.net serving u);
+    }
+step_stands a b s (refuses owns none) =
+    let (r, serving) = own_ready a a.phase refl s owns in
+    record {
+      at_phase = record {
+        standing = took_stands a.plan a.entries a.begun a.ended r;
+        late = took_waits a.plan a.entries a.begun a.ended r;
+      };
+      held = s.held;
+      net = λ _ u. refused_net a.plan a.gots a.backs none (s.net serving u);
+    }
 step_stands a b s (frees e held) =
     let r = at Own a e s in
     record {
-      at_phase = gave_stands a.plan a.entries a.begun a.ended r;
-      held = omega arith;
-      net = gave_net a.plan a.gots a.backs (ready_spares a.plan a.entries a.begun a.ended r) r.room s.net;
+      at_phase = record {
+        standing = gave_stands a.plan a.entries a.begun a.ended r;
+        late = gave_waits a.plan a.entries a.begun a.ended r;
+      };
+      held = λ u. omega (arith, held u);
+      net = λ _ u. gave_net a.plan a.gots a.backs (ready_spares a.plan a.entries a.begun a.ended r) r.room (s.net (ap serves e) u);
+    }
+step_stands a b s (meets e busy) =
+    let w = at Between a e s in
+    record {
+      at_phase = record { made = 0; standing = w.standing; busy = busy; now = λ f. no_net f };
+      held = s.held;
+      net = λ _ u. s.net (ap serves e) u;
+    }
+step_stands a b s (seeks chooses idle) =
+    let (t, serving) = choosing a a.phase refl s chooses in
+    seek_at a (is_idle (after_choice a.plan).pending) refl t idle s.held (s.net serving)
+step_stands a b s (quits e busy) =
+    let w = at Between a e s in
+    record { at_phase = record { made = 0; standing = w.standing; busy = busy; now = λ f. no_net f }; held = s.held; net = no_net }
+step_stands a b s (clears e idle) =
+    let w = at Between a e s in
+    let t = w.standing in
+    record { at_phase = record { sizes = t.sizes; room = t.room; spares = t.idle_spares idle; idle = idle }; held = s.held; net = no_net }
+step_stands a b s (gives e some) =
+    let c = at Clearing a e s in
+    record {
+      at_phase = record { sizes = c.sizes; room = c.room; spares = given_one a.plan c.spares some; giving = refl; now = refl };
+      held = s.held;
+      net = no_net;
+    }
+step_stands a b s (shelves e none full) =
+    let c = at Clearing a e s in
+    record {
+      at_phase = rw e (record { sizes = c.sizes; room = omega arith; spares = shelved_one a.plan none; idle = c.idle });
+      held = s.held;
+      net = λ serving. no_net (rw e at serving);
+    }
+step_stands a b s (leaves e none few) =
+    let c = at Clearing a e s in
+    record {
+      at_phase = record { sizes = c.sizes; idle = c.idle; none = none; few = few; broken = refl };
+      held = no_net;
+      net = no_net;
+    }
+step_stands a b s (returns e) =
+    let r = at Resting a e s in
+    record {
+      at_phase = record { sizes = r.sizes; idle = r.idle; none = r.none; few = r.few; broken = r.broken };
+      held = s.held;
+      net = no_net;
+    }
+step_stands a b s (retakes e) =
+    let r = at Joining a e s in
+    record {
+      at_phase = record { sizes = r.sizes; taking = refl; none = r.none; few = r.few; now = refl; broken = r.broken };
+      held = s.held;
+      net = no_net;
     }
 
 pub reached_stands : (length bound quantum : ℕ) (a : Account) → AreSizes length bound quantum → Reached length bound quantum a → Stands a
-reached_stands length bound quantum a sizes opens =
-    record { at_phase = opening_stands length bound quantum sizes; held = omega arith; net = omega arith }
+reached_stands length bound quantum a sizes opens = record {
+  at_phase = record { standing = opening_stands length bound quantum sizes; late = λ busy. no_net (sym busy) };
+  held = λ u. omega arith;
+  net = λ _ u. omega arith;
+}
 reached_stands length bound quantum b sizes (follows {a = a} r f) = step_stands a b (reached_stands length bound quantum a sizes r) f
 
 -- the sizes stay
+seek_sizes : (length bound quantum : ℕ) (a : Account) (t : Bool) → HasSizes length bound quantum a.plan
+    → HasSizes length bound quantum (sought_by t a).plan
+seek_sizes length bound quantum a true h = let k = choice_sizes a.plan in (k.0 ∙ h.0, k.1 ∙ h.1, k.2 ∙ h.2)
+seek_sizes length bound quantum a false h = let k = choice_sizes a.plan in (k.0 ∙ h.0, k.1 ∙ h.1, k.2 ∙ h.2)
+
 step_sizes : (length bound quantum : ℕ) (a b : Account)
     → HasSizes length bound quantum a.plan
     → Follows a b
@@ -171,71 +540,173 @@ step_sizes : (length bound quantum : ℕ) (a b : Account)
 step_sizes length bound quantum a b h (begins e idle busy) = let k = choice_sizes a.plan in (k.0 ∙ h.0, k.1 ∙ h.1, k.2 ∙ h.2)
 step_sizes length bound quantum a b h (continues e busy) = let k = choice_sizes a.plan in (k.0 ∙ h.0, k.1 ∙ h.1, k.2 ∙ h.2)
 step_sizes length bound quantum a b h (rests e idle) = let k = choice_sizes a.plan in (k.0 ∙ h.0, k.1 ∙ h.1, k.2 ∙ h.2)
-step_sizes length bound quantum a b h (moves made e low) = h
-step_sizes length bound quantum a b h (ends made found e low giving) =
+step_sizes length bound quantum a b h (moves moving low) = h
+step_sizes length bound quantum a b h (ends found moving low giving) =
     let k = end_sizes (after_steps 1 a.plan) found in (k.0 ∙ h.0, k.1 ∙ h.1, k.2 ∙ h.2)
-step_sizes length bound quantum a b h (gets e some) = let k = took_sizes a.plan in (k.0 ∙ h.0, k.1 ∙ h.1, k.2 ∙ h.2)
-step_sizes length bound quantum a b h (refuses e none) = let k = took_sizes a.plan in (k.0 ∙ h.0, k.1 ∙ h.1, k.2 ∙ h.2)
+step_sizes length bound quantum a b h (gets owns some) = let k = took_sizes a.plan in (k.0 ∙ h.0, k.1 ∙ h.1, k.2 ∙ h.2)
+step_sizes length bound quantum a b h (refuses owns none) = let k = took_sizes a.plan in (k.0 ∙ h.0, k.1 ∙ h.1, k.2 ∙ h.2)
 step_sizes length bound quantum a b h (frees e held) = let k = gave_sizes a.plan in (k.0 ∙ h.0, k.1 ∙ h.1, k.2 ∙ h.2)
+step_sizes length bound quantum a b h (meets e busy) = h
+step_sizes length bound quantum a b h (seeks chooses idle) =
+    seek_sizes length bound quantum a (is_idle (after_choice a.plan).pending) h
+step_sizes length bound quantum a b h (quits e busy) = h
+step_sizes length bound quantum a b h (clears e idle) = h
+step_sizes length bound quantum a b h (gives e some) = h
+step_sizes length bound quantum a b h (shelves e none full) = h
+step_sizes length bound quantum a b h (leaves e none few) = h
+step_sizes length bound quantum a b h (returns e) = h
+step_sizes length bound quantum a b h (retakes e) = h
 
 pub reached_sizes : (length bound quantum : ℕ) (a : Account) → Reached length bound quantum a → HasSizes length bound quantum a.plan
 reached_sizes length bound quantum a opens = (refl, refl, refl)
 reached_sizes length bound quantum b (follows {a = a} r f) = step_sizes length bound quantum a b (reached_sizes length bound quantum a r) f
 
--- a fact that holds between calls, in transfer steps and before an own step holds of every reached account
-by_phase : (Fact : Account → Type 0) (a : Account)
-    → Stands a
-    → ((made : ℕ) → Standing a.plan made a.entries a.begun a.ended → Fact a)
-    → (Ready a.plan a.entries a.begun a.ended → Fact a)
-    → Fact a
-by_phase Fact a s standing ready = go a.phase refl
+-- a fact of every reached account, by what holds in each phase
+record Facts (Fact : Account → Type 0) (a : Account) : Type 0 where
+  standing : (made : ℕ) → Standing a.plan made a.entries a.begun a.ended → Fact a
+  ready : Ready a.plan a.entries a.begun a.ended → Fact a
+  clears : Clears a → Fact a
+  sheds : Sheds a → Fact a
+  reposes : Reposes a → Fact a
+  comes : Comes a → Fact a
+
+by_phase : (Fact : Account → Type 0) (a : Account) → Stands a → Facts Fact a → Fact a
+by_phase Fact a s f = go a.phase refl
   where
     go : (phase : CallPhase) → a.phase ≡ phase → Fact a
-    go Between e = standing 0 (at Between a e s)
+    go Between e = f.standing 0 (let w = at Between a e s in w.standing)
+    go (Moving made) e = f.standing made (let m = at (Moving made) a e s in m.standing)
+    go Own e = f.ready (at Own a e s)
+    go (Seeking own) e = (let m = at (Seeking own) a e s in f.standing m.made m.standing)
+    go Choosing e = f.standing 0 (let m = at Choosing a e s in m.standing)
+    go Sought e = f.ready (let l = at Sought a e s in l.ready)
+    go Leaving e = (let m = at Leaving a e s in f.standing m.made m.standing)
+    go Clearing e = f.clears (at Clearing a e s)
+    go Shedding e = f.sheds (at Shedding a e s)
+    go Resting e = f.reposes (at Resting a e s)
+    go Joining e = f.reposes (at Joining a e s)
+    go Returning e = f.comes (at Returning a e s)
+
+-- while a process serves, its plan stands or is ready for an own step
+by_service : (Fact : Account → Type 0) (a : Account) → Stands a → serves a.phase ≡ true
+    → ((made : ℕ) → Standing a.plan made a.entries a.begun a.ended → Fact a)
+    → (Ready a.plan a.entries a.begun a.ended → Fact a) → Fact a
+by_service Fact a s serving standing ready = go a.phase refl
+  where
+    go : (phase : CallPhase) → a.phase ≡ phase → Fact a
+    go Between e = standing 0 (let w = at Between a e s in w.standing)
     go (Moving made) e = standing made (let m = at (Moving made) a e s in m.standing)
     go Own e = ready (at Own a e s)
+    go (Seeking own) e = (let m = at (Seeking own) a e s in standing m.made m.standing)
+    go Choosing e = standing 0 (let m = at Choosing a e s in m.standing)
+    go Sought e = ready (let l = at Sought a e s in l.ready)
+    go Leaving e = no_net (ap serves (sym e) ∙ serving)
+    go Clearing e = no_net (ap serves (sym e) ∙ serving)
+    go Shedding e = no_net (ap serves (sym e) ∙ serving)
+    go Resting e = no_net (ap serves (sym e) ∙ serving)
+    go Joining e = no_net (ap serves (sym e) ∙ serving)
+    go Returning e = no_net (ap serves (sym e) ∙ serving)
 
 sound_standing : (a : Account) (made : ℕ)
     → Standing a.plan made a.entries a.begun a.ended
-    → 2 * a.plan.length + a.backs ≤ stock a.plan + a.gots
+    → (a.unbroken ≡ true → 2 * a.plan.length + a.backs ≤ stock a.plan + a.gots)
     → IsSound a
 sound_standing a made s net = grind (arith, nat_tests)
 
-sound_ready : (a : Account) → Ready a.plan a.entries a.begun a.ended → 2 * a.plan.length + a.backs ≤ stock a.plan + a.gots → IsSound a
+sound_ready : (a : Account) → Ready a.plan a.entries a.begun a.ended
+    → (a.unbroken ≡ true → 2 * a.plan.length + a.backs ≤ stock a.plan + a.gots) → IsSound a
 sound_ready a r net = grind (arith, nat_tests)
 
-pub stands_sound : (a : Account) → Stands a → IsSound a
-stands_sound a s = by_phase IsSound a s (λ made t. sound_standing a made t s.net) (λ r. sound_ready a r s.net)
+pub stands_sound : (a : Account) → Stands a → SoundWhileServing a
+stands_sound a s serving =
+    by_service IsSound a s serving (λ made t. sound_standing a made t (s.net serving)) (λ r. sound_ready a r (s.net serving))
 
 -- the bounds on spares and kept blocks
-record SomeSpared (a : Account) : Type 0 where
-  age : ℕ
-  spared : Spared a.plan age
+standing_spared : (a : Account) (made : ℕ) → Standing a.plan made a.entries a.begun a.ended → Spared a.plan (a.entries - a.begun)
+standing_spared a made t =
+    subst (λ x. Spared x (a.entries - a.begun)) (no_steps a.plan) (spared_standing a.plan 0 made a.entries a.begun a.ended t)
 
-stands_spared : (a : Account) → Stands a → SomeSpared a
-stands_spared a s = by_phase SomeSpared a s
-    (λ made t. record {
-      age = a.entries - a.begun;
-      spared = subst (λ x. Spared x (a.entries - a.begun)) (no_steps a.plan) (spared_standing a.plan 0 made a.entries a.begun a.ended t);
-    })
-    (λ r. record { age = a.entries - a.begun; spared = spared_ready a.plan a.entries a.begun a.ended r })
+clears_table : (a : Account) → Clears a → InTable a.plan
+clears_table a c = grind (arith, nat_tests)
+
+sheds_table : (a : Account) → Sheds a → InTable a.plan
+sheds_table a c = grind (arith, nat_tests)
+
+reposes_table : (a : Account) → Reposes a → InTable a.plan
+reposes_table a c = grind (arith, nat_tests)
+
+comes_table : (a : Account) → Comes a → InTable a.plan
+comes_table a c = grind (arith, nat_tests)
 
 pub stands_table : (a : Account) → Stands a → InTable a.plan
-stands_table a s = let k = stands_spared a s in spared_table a.plan k.age k.spared
+stands_table a s = by_phase (λ a. InTable a.plan) a s (record {
+  standing = λ made t. spared_table a.plan (a.entries - a.begun) (standing_spared a made t);
+  ready = λ r. spared_table a.plan (a.entries - a.begun) (spared_ready a.plan a.entries a.begun a.ended r);
+  clears = clears_table a;
+  sheds = sheds_table a;
+  reposes = reposes_table a;
+  comes = comes_table a;
+})
+
+clears_rests : (a : Account) → Clears a → RestsWithFour a.plan
+clears_rests a c idle = let k = ap is_idle idle in grind (arith, nat_tests, times_le a.plan.length a.plan.spares 3)
+
+sheds_rests : (a : Account) → Sheds a → RestsWithFour a.plan
+sheds_rests a c idle = let k = ap is_giving idle in grind (arith, nat_tests)
+
+reposes_rests : (a : Account) → Reposes a → RestsWithFour a.plan
+reposes_rests a c idle = grind (arith, nat_tests)
+
+comes_rests : (a : Account) → Comes a → RestsWithFour a.plan
+comes_rests a c idle = let k = ap is_taking idle in grind (arith, nat_tests)
 
 pub stands_rests : (a : Account) → Stands a → RestsWithFour a.plan
-stands_rests a s = let k = stands_spared a s in spared_rests a.plan k.age k.spared
+stands_rests a s = by_phase (λ a. RestsWithFour a.plan) a s (record {
+  standing = λ made t. spared_rests a.plan (a.entries - a.begun) (standing_spared a made t);
+  ready = λ r. spared_rests a.plan (a.entries - a.begun) (spared_ready a.plan a.entries a.begun a.ended r);
+  clears = clears_rests a;
+  sheds = sheds_rests a;
+  reposes = reposes_rests a;
+  comes = comes_rests a;
+})
+
+clears_withholds : (a : Account) → Clears a → WithholdsFive a.plan
+clears_withholds a c = grind (arith, nat_tests, times_le a.plan.length a.plan.spares 3)
+
+sheds_withholds : (a : Account) → Sheds a → WithholdsFive a.plan
+sheds_withholds a c = grind (arith, nat_tests, times_le a.plan.length a.plan.spares 2)
+
+reposes_withholds : (a : Account) → Reposes a → WithholdsFive a.plan
+reposes_withholds a c = grind (arith, nat_tests)
+
+comes_withholds : (a : Account) → Comes a → WithholdsFive a.plan
+comes_withholds a c = grind (arith, nat_tests)
 
 pub stands_withholds : (a : Account) → Stands a → WithholdsFive a.plan
-stands_withholds a s = let k = stands_spared a s in spared_withholds a.plan k.age k.spared
+stands_withholds a s = by_phase (λ a. WithholdsFive a.plan) a s (record {
+  standing = λ made t. spared_withholds a.plan (a.entries - a.begun) (standing_spared a made t);
+  ready = λ r. spared_withholds a.plan (a.entries - a.begun) (spared_ready a.plan a.entries a.begun a.ended r);
+  clears = clears_withholds a;
+  sheds = sheds_withholds a;
+  reposes = reposes_withholds a;
+  comes = comes_withholds a;
+})
+
+clears_idle : (a : Account) → Clears a → EndsInTime a
+clears_idle a c busy = absurd (busy (idle_is a.plan.pending c.idle))
 
 pub stands_in_time : (a : Account) → Stands a → EndsInTime a
-stands_in_time a s = by_phase EndsInTime a s
-    (λ made t busy. omega (arith, young a.plan made a.entries a.begun a.ended t (not_idle_busy a.plan.pending busy)))
-    (λ r busy. omega (arith, young_ready a.plan a.entries a.begun a.ended r (not_idle_busy a.plan.pending busy)))
+stands_in_time a s = by_phase EndsInTime a s (record {
+  standing = λ made t busy. omega (arith, young a.plan made a.entries a.begun a.ended t (not_idle_busy a.plan.pending busy));
+  ready = λ r busy. omega (arith, young_ready a.plan a.entries a.begun a.ended r (not_idle_busy a.plan.pending busy));
+  clears = clears_idle a;
+  sheds = λ c busy. omega (arith, c.now, c.sizes.long);
+  reposes = λ r busy. absurd (busy (idle_is a.plan.pending r.idle));
+  comes = λ c busy. omega (arith, c.now, c.sizes.long);
+})
 
 pub stands_gives : (a : Account) → Stands a → GivesLeaveBatch a
-stands_gives a s = by_phase GivesLeaveBatch a s
+stands_gives a s serving = by_service (λ a. a.plan.pending ≡ Giving → a.plan.length < stock a.plan) a s serving
     (λ made t giving. omega (
       arith,
       t.give_stock (ap is_giving giving),
@@ -252,7 +723,8 @@ stands_counts a s = record {
 
 pub stands_begins : (a : Account) → Stands a → BeginsShort a
 stands_begins a s e idle taking short =
-    let t = at Between a e s in
+    let w = at Between a e s in
+    let t = w.standing in
     let rest = ap is_idle idle in
     record { dry = t.idle_dry rest (omega arith); recent = t.idle_recent rest (omega arith) }
 
@@ -260,3 +732,102 @@ pub stands_refuses : (a : Account) → Stands a → RefusesSoon a
 stands_refuses a s e none =
     let n = nothing_dry a.plan a.entries a.begun a.ended (at Own a e s) none in
     record { dry = n.0; recent = omega (arith, n.1) }
+
+pub stands_misses : (a : Account) → Stands a → MissesNow a
+stands_misses a s e none = let l = at Sought a e s in let n = l.now none in record { dry = n.0; recent = omega (arith, n.1) }
+
+-- an allocate or a search
+pub owns_serves : (phase : CallPhase) → owns_in phase ≡ true → serves phase ≡ true
+owns_serves Own owns = refl
+owns_serves Sought owns = refl
+owns_serves Between owns = no_net owns
+owns_serves (Moving made) owns = no_net owns
+owns_serves (Seeking own) owns = no_net owns
+owns_serves Choosing owns = no_net owns
+owns_serves Leaving owns = no_net owns
+owns_serves Clearing owns = no_net owns
+owns_serves Shedding owns = no_net owns
+owns_serves Resting owns = no_net owns
+owns_serves Joining owns = no_net owns
+owns_serves Returning owns = no_net owns
+
+pub stands_refused : (a : Account) → Stands a → (phase : CallPhase) → a.phase ≡ phase → owns_in phase ≡ true → source_of a.plan ≡ Nothing
+    → FoundNothing (2 * a.plan.length - 2) a
+stands_refused a s Own e owns none = stands_refuses a s e none
+stands_refused a s Sought e owns none =
+    let n : FoundNothing 0 a = stands_misses a s e none in record { dry = n.dry; recent = omega (arith, n.recent) }
+stands_refused a s Between e owns none = no_net owns
+stands_refused a s (Moving made) e owns none = no_net owns
+stands_refused a s (Seeking own) e owns none = no_net owns
+stands_refused a s Choosing e owns none = no_net owns
+stands_refused a s Leaving e owns none = no_net owns
+stands_refused a s Clearing e owns none = no_net owns
+stands_refused a s Shedding e owns none = no_net owns
+stands_refused a s Resting e owns none = no_net owns
+stands_refused a s Joining e owns none = no_net owns
+stands_refused a s Returning e owns none = no_net owns
+
+pub stands_rested : (a : Account) → Stands a → RestsWithFew a
+stands_rested a s e = let r = at Resting a e s in record { idle = idle_is a.plan.pending r.idle; none = r.none; few = r.few }
+
+-- between two calls a pending transfer has made a step
+some_done : (quantum entries begun done : ℕ) → 0 < quantum → begun < entries → done ≡ quantum * (entries - begun) + 0 → 1 ≤ done
+some_done quantum entries begun done some late is = omega (arith, times_le quantum 1 (entries - begun) (omega arith))
+
+pub stands_waits : (a : Account) → Stands a → WaitsAnnounced a
+stands_waits a s e pends =
+    let w = at Between a e s in
+    let busy = not_idle_busy a.plan.pending pends in
+    some_done a.plan.quantum a.entries a.begun a.plan.done (some_of a.plan w.standing.sizes) (w.late busy) (w.standing.done_now busy)
+
+-- a transfer that moves and has made no step has just begun
+none_done : (quantum made entries begun : ℕ) → 0 < quantum → 0 ≡ quantum * (entries - begun) + made → begun ≤ entries → entries ≡ begun
+none_done quantum made entries begun some none le = elim (cases_eq (entries - begun) 0) [
+  | inl e ↦ omega arith
+  | inr more ↦ absurd (omega (arith, times_le quantum 1 (entries - begun) (omega arith)))
+]
+
+fresh_standing : (a : Account) (made : ℕ) → Standing a.plan made a.entries a.begun a.ended → is_idle a.plan.pending ≡ false
+    → a.plan.done ≡ 0 → a.entries ≡ a.begun
+fresh_standing a made t busy none =
+    none_done a.plan.quantum made a.entries a.begun (some_of a.plan t.sizes) (sym none ∙ t.done_now busy) (t.begun_before busy)
+
+pub stands_begun : (a : Account) → Stands a → JustBegun a
+stands_begun a s moving none = go a.phase refl moving
+  where
+    go : (phase : CallPhase) → a.phase ≡ phase → moves_in phase ≡ true → a.entries ≡ a.begun
+    go Between e moving = no_net moving
+    go (Moving made) e moving = (let m = at (Moving made) a e s in fresh_standing a made m.standing m.busy none)
+    go Own e moving = no_net moving
+    go (Seeking own) e moving = (let m = at (Seeking own) a e s in fresh_standing a m.made m.standing m.busy none)
+    go Choosing e moving = no_net moving
+    go Sought e moving = no_net moving
+    go Leaving e moving = (let m = at Leaving a e s in fresh_standing a m.made m.standing m.busy none)
+    go Clearing e moving = no_net moving
+    go Shedding e moving = (let m = at Shedding a e s in sym m.now)
+    go Resting e moving = no_net moving
+    go Joining e moving = no_net moving
+    go Returning e moving = (let m = at Returning a e s in sym m.now)
+
+busy_giving : (p : Pending) → is_giving p ≡ true → is_idle p ≡ false
+busy_giving p e = grind arith
+
+busy_taking : (p : Pending) → is_taking p ≡ true → is_idle p ≡ false
+busy_taking p e = grind arith
+
+pub stands_pends : (a : Account) → Stands a → PendsWhileMoving a
+stands_pends a s moving = go a.phase refl moving
+  where
+    go : (phase : CallPhase) → a.phase ≡ phase → moves_in phase ≡ true → is_idle a.plan.pending ≡ false
+    go Between e moving = no_net moving
+    go (Moving made) e moving = (let m = at (Moving made) a e s in m.busy)
+    go Own e moving = no_net moving
+    go (Seeking own) e moving = (let m = at (Seeking own) a e s in m.busy)
+    go Choosing e moving = no_net moving
+    go Sought e moving = no_net moving
+    go Leaving e moving = (let m = at Leaving a e s in m.busy)
+    go Clearing e moving = no_net moving
+    go Shedding e moving = (let m = at Shedding a e s in busy_giving a.plan.pending m.giving)
+    go Resting e moving = no_net moving
+    go Joining e moving = no_net moving
+    go Returning e moving = (let m = at Returning a e s in busy_taking a.plan.pending m.taking)

@@ -1,8 +1,9 @@
-use Rattle.std.specs.Prelude.{◌≡◌, ◌≢◌, ℕ, ◌+◌, ◌-◌, ◌*◌, ◌<◌, ◌≤◌, true, if◌then◌else◌}
+use Rattle.std.specs.Prelude.{◌≡◌, ◌≢◌, ℕ, ◌+◌, ◌-◌, ◌*◌, ◌<◌, ◌≤◌, Bool, true, false, if◌then◌else◌}
 use Rattle.transfer_schedule.specs.declared.pending.Pending.TheVariants.{Idle, Taking, Giving}
 use Rattle.transfer_schedule.specs.declared.own_step.Source.TheVariants.{Nothing}
 use Rattle.transfer_schedule.specs.Numbers.{Numbers, is_idle, after_choice, source_of, stock, kept, withheld}
-use Rattle.transfer_schedule.specs.Account.{Account, Between, Moving, Own}
+use Rattle.transfer_schedule.specs.Account.{Account, CallPhase, Between, Moving, Own, Seeking, Choosing, Sought}
+use Rattle.transfer_schedule.specs.Account.{Leaving, Clearing, Shedding, Resting, Joining, Returning, moves_in, owns_in}
 
 -- the plan has the sizes of its opening
 abbrev pub HasSizes : ℕ → ℕ → ℕ → Numbers → Type 0
@@ -16,17 +17,45 @@ RestsWithFour x = x.pending ≡ Idle → kept x ≤ 4 * x.length
 abbrev pub WithholdsFive : Numbers → Type 0
 WithholdsFive x = withheld x ≤ 5 * x.length
 
+-- whether a process keeps its pool in stock: between two calls, and in one that is no retire and no enlist
+abbrev pub serves : CallPhase → Bool
+serves Between = true
+serves (Moving made) = true
+serves Own = true
+serves (Seeking own) = true
+serves Choosing = true
+serves Sought = true
+serves Leaving = false
+serves Clearing = false
+serves Shedding = false
+serves Resting = false
+serves Joining = false
+serves Returning = false
+
+-- a resting process keeps less than a batch, and nothing is pending
+pub record KeepsRest (a : Account) : Type 0 where
+  pub idle : a.plan.pending ≡ Idle
+  pub none : a.plan.spares ≡ 0
+  pub few : a.plan.current < a.plan.length
+
+abbrev pub RestsWithFew : Account → Type 0
+RestsWithFew a = a.phase ≡ Resting → KeepsRest a
+
 -- the own entries since the pending transfer began
 abbrev pub since : Account → ℕ
 since a = if is_idle a.plan.pending then 0 else a.entries - a.begun
 
 -- what a process knows of its own pool: how many blocks it keeps and holds, and why it keeps few
 pub record IsSound (a : Account) : Type 0 where
-  pub net : 2 * a.plan.length + a.backs ≤ kept a.plan + a.gots
-  pub net_giving : a.plan.pending ≡ Giving → 3 * a.plan.length + a.backs ≤ kept a.plan + a.gots
+  pub net : a.unbroken ≡ true → 2 * a.plan.length + a.backs ≤ kept a.plan + a.gots
+  pub net_giving : a.unbroken ≡ true → a.plan.pending ≡ Giving → 3 * a.plan.length + a.backs ≤ kept a.plan + a.gots
   pub dry : kept a.plan < a.plan.length - 1 - since a → a.plan.dry ≡ true
   pub recent : kept a.plan < a.plan.length - 1 - since a
       → (if is_idle a.plan.pending then a.entries else a.begun) ≤ a.ended + a.plan.length
+
+-- so does a process that serves
+abbrev pub SoundWhileServing : Account → Type 0
+SoundWhileServing a = serves a.phase ≡ true → IsSound a
 
 -- a pending transfer is in its first `length` calls
 abbrev pub EndsInTime : Account → Type 0
@@ -34,7 +63,19 @@ EndsInTime a = a.plan.pending ≢ Idle → a.entries < a.begun + a.plan.length
 
 -- while a give is pending more than a batch is left besides
 abbrev pub GivesLeaveBatch : Account → Type 0
-GivesLeaveBatch a = a.plan.pending ≡ Giving → a.plan.length < stock a.plan
+GivesLeaveBatch a = serves a.phase ≡ true → a.plan.pending ≡ Giving → a.plan.length < stock a.plan
+
+-- between two calls a pending transfer has made a step
+abbrev pub WaitsAnnounced : Account → Type 0
+WaitsAnnounced a = a.phase ≡ Between → a.plan.pending ≢ Idle → 1 ≤ a.plan.done
+
+-- a transfer that moves and has made no step began after the last entry
+abbrev pub JustBegun : Account → Type 0
+JustBegun a = moves_in a.phase ≡ true → a.plan.done ≡ 0 → a.entries ≡ a.begun
+
+-- a transfer is pending where one moves, and none while a call chooses, clears, rests or comes back
+abbrev pub PendsWhileMoving : Account → Type 0
+PendsWhileMoving a = moves_in a.phase ≡ true → is_idle a.plan.pending ≡ false
 
 -- in its transfer steps a call has a transfer pending, which has made a whole quantum in each call before
 pub record CountsSteps (a : Account) : Type 0 where
@@ -56,3 +97,7 @@ BeginsShort a =
 -- an `allocate` finds no block only where the last ended take found nothing and began within the last 2 * length - 2 entries
 abbrev pub RefusesSoon : Account → Type 0
 RefusesSoon a = a.phase ≡ Own → source_of a.plan ≡ Nothing → FoundNothing (2 * a.plan.length - 2) a
+
+-- a search finds no block only where its own take found nothing, which it began after the last entry
+abbrev pub MissesNow : Account → Type 0
+MissesNow a = a.phase ≡ Sought → source_of a.plan ≡ Nothing → FoundNothing 0 a

@@ -7,8 +7,9 @@ ghost use Rattle.std.specs.Prelude.{ℕ};
 ghost use Rattle.transfer_schedule.specs.Numbers.{Numbers, AreSizes};
 ghost use Rattle.transfer_schedule.specs.Table.{InTable};
 ghost use Rattle.transfer_schedule.specs.Account.{Account, Reached, EveryReached};
-ghost use Rattle.transfer_schedule.specs.Laws.{HasSizes, RestsWithFour, WithholdsFive, IsSound, EndsInTime, GivesLeaveBatch};
-ghost use Rattle.transfer_schedule.specs.Laws.{CountsSteps, BeginsShort, RefusesSoon};
+ghost use Rattle.transfer_schedule.specs.Laws.{HasSizes, RestsWithFour, WithholdsFive, EndsInTime, GivesLeaveBatch};
+ghost use Rattle.transfer_schedule.specs.Laws.{CountsSteps, BeginsShort, RefusesSoon, SoundWhileServing, MissesNow};
+ghost use Rattle.transfer_schedule.specs.Laws.{WaitsAnnounced, JustBegun, PendsWhileMoving, RestsWithFew};
 ghost use Rattle.transfer_schedule.specs.Alone.{EveryAlone};
 
 /// Of a process that makes calls: what it keeps at every moment, and why it is ever short of blocks.
@@ -20,9 +21,14 @@ pub fn of_accounts()
     ensures ends { EveryReached EndsInTime }
     ensures gives { EveryReached GivesLeaveBatch }
     ensures counts { EveryReached CountsSteps }
-    ensures sound { EveryReached IsSound }
+    ensures sound { EveryReached SoundWhileServing }
     ensures begins { EveryReached BeginsShort }
     ensures refuses { EveryReached RefusesSoon }
+    ensures misses { EveryReached MissesNow }
+    ensures rested { EveryReached RestsWithFew }
+    ensures waits { EveryReached WaitsAnnounced }
+    ensures just_begun { EveryReached JustBegun }
+    ensures pends { EveryReached PendsWhileMoving }
 {}
 
 /// Of a process that makes transfers alone, outside any call.

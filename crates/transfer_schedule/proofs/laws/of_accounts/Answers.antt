@@ -1,5 +1,6 @@
 use Rattle.transfer_schedule.proofs.Reaching.{reached_stands, reached_sizes, stands_table, stands_rests, stands_withholds, stands_in_time}
 use Rattle.transfer_schedule.proofs.Reaching.{stands_gives, stands_counts, stands_sound, stands_begins, stands_refuses}
+use Rattle.transfer_schedule.proofs.Reaching.{stands_misses, stands_rested, stands_waits, stands_begun, stands_pends}
 use Rattle.transfer_schedule.proofs.laws.of_accounts.Goals as goal
 
 pub returns-clause-sizes : goal.returns-clause-sizes
@@ -31,3 +32,18 @@ returns-clause-begins c = λ l t q a sizes r. stands_begins a (reached_stands l 
 
 pub returns-clause-refuses : goal.returns-clause-refuses
 returns-clause-refuses c = λ l t q a sizes r. stands_refuses a (reached_stands l t q a sizes r)
+
+pub returns-clause-misses : goal.returns-clause-misses
+returns-clause-misses c = λ l t q a sizes r. stands_misses a (reached_stands l t q a sizes r)
+
+pub returns-clause-rested : goal.returns-clause-rested
+returns-clause-rested c = λ l t q a sizes r. stands_rested a (reached_stands l t q a sizes r)
+
+pub returns-clause-waits : goal.returns-clause-waits
+returns-clause-waits c = λ l t q a sizes r. stands_waits a (reached_stands l t q a sizes r)
+
+pub returns-clause-just_begun : goal.returns-clause-just_begun
+returns-clause-just_begun c = λ l t q a sizes r. stands_begun a (reached_stands l t q a sizes r)
+
+pub returns-clause-pends : goal.returns-clause-pends
+returns-clause-pends c = λ l t q a sizes r. stands_pends a (reached_stands l t q a sizes r)
