@@ -11,6 +11,7 @@ use Rattle.transfer_schedule.specs.Numbers.{Numbers, is_idle, after_choice}
 use Rattle.transfer_schedule.proofs.Operations.{choice_sizes}
 use Rattle.transfer_machine.specs.declared.transfer.TransferView.{TransferView}
 use Rattle.transfer_machine.specs.declared.kind.Kind.{Kind}
+use Rattle.pool_machine.specs.Steps.{is_paced}
 use Rattle.pool_machine.specs.Beginning.{due, begun_if_due, before_call, first_stage, entered, call_begun}
 use Rattle.pool_machine.specs.Conditions.{may_call, may_use_calls, is_young_for, names_fit}
 use Rattle.pool_machine.specs.OwnSteps.{own_answer_for, own_kind_for, next_block, allocate_answer}
@@ -24,7 +25,7 @@ use Rattle.pool_machine.specs.declared.view.PoolView.{PoolView}
 use Rattle.pool_machine.specs.declared.view.ProcessView.{ProcessView}
 use Rattle.pool_machine.proofs.Plans.{choice_is_the_plans}
 use Rattle.interleaving_core.specs.Invariant.{BlockIsHeld}
-use Rattle.interleaving_core.specs.Moves.{may_go, calling_view}
+use Rattle.interleaving_core.specs.Moves.{may_go, may_start_at, calling_view}
 use Rattle.interleaving_core.specs.Runs.{entries_of}
 use Rattle.interleaving_core.specs.Steps.{is_in_call, next_answer}
 use Rattle.interleaving_core.proofs.CallLawsData.{begun_first}
@@ -58,18 +59,20 @@ both_hold a b c e f g = rw (e, f, g) refl
 
 may_begin : (sizes : Sizes) (call : Call) (v : ProcessView) → v.calls.stage ≡ Between → may_call sizes true call v ≡ true
     → may_go sizes true call v ≡ true
-may_begin sizes call v e may = ap (λ stage. is_in_call stage || may_call sizes true call v) e ∙ may
+may_begin sizes call v e may =
+    ap (λ stage. is_in_call stage || may_start_at stage sizes true call v) e ∙ may
 
 call_starts : (sizes : Sizes) (call : Call) (x : Process) → BetweenCalls sizes x → is_young_for call x.seat.view.mind.view ≡ true
-    → names_fit sizes true call ≡ true → BlockIsHeld (held_in x.seat.view.mind) call
+    → names_fit sizes true call ≡ true → BlockIsHeld (held_in x.seat.view.mind) call → is_paced (Some call) ≡ true
     → CanGo sizes call (call_begun call x.seat.view.mind.view) x.seat.view
-call_starts sizes call x f young names held =
+call_starts sizes call x f young names held paced =
     let v = x.seat.view in
     let may = both_hold (may_use_calls v.mind.view.calls.way) (is_young_for call v.mind.view) (names_fit sizes true call)
     f.way young names in
     record {
       can = call_can_step sizes call v f.of_process f.shape f.among (may_begin sizes call v.mind.view f.between may) held;
       view = begun_first call v.mind.view f.between;
+      paced = paced;
     }
 
 low_test : (a b : ℕ) → a < b → nat_lt a b ≡ true
@@ -114,14 +117,14 @@ pub allocate_starts : (sizes : Sizes) (x y : Process) → BetweenCalls sizes x �
     → y.seat ≡ x.seat → y.transfer ≡ transfer_begun (due x.pool) x.transfer → y.pool ≡ pool_begun_by (due x.pool) x.pool
     → CanGo sizes Allocate (beginning Allocate y) y.seat.view
 allocate_starts sizes x y f young seat transfer pool =
-    starts_there sizes Allocate x y f seat transfer pool (call_starts sizes Allocate x f (young_test sizes x f young) refl tt)
+    starts_there sizes Allocate x y f seat transfer pool (call_starts sizes Allocate x f (young_test sizes x f young) refl tt refl)
 
 pub free_starts : (sizes : Sizes) (block : ℕ) (x y : Process) → BetweenCalls sizes x → x.transfer.age < most_age
     → Contains (held_in x.seat.view.mind) block
     → y.seat ≡ x.seat → y.transfer ≡ transfer_begun (due x.pool) x.transfer → y.pool ≡ pool_begun_by (due x.pool) x.pool
     → CanGo sizes (Free block) (beginning (Free block) y) y.seat.view
 free_starts sizes block x y f young held seat transfer pool =
-    starts_there sizes (Free block) x y f seat transfer pool (call_starts sizes (Free block) x f (young_test sizes x f young) refl held)
+    starts_there sizes (Free block) x y f seat transfer pool (call_starts sizes (Free block) x f (young_test sizes x f young) refl held refl)
 
 -- a read or a write is at its own step at once
 owning_so : (sizes : Sizes) (call : Call) (x : Process) → BetweenCalls sizes x
@@ -136,13 +139,13 @@ owning_so sizes call x f go =
 pub read_starts : (sizes : Sizes) (block index : ℕ) (x : Process) → BetweenCalls sizes x → Contains (held_in x.seat.view.mind) block
     → index < sizes.words → IsOwning sizes (Read block index) 0 x
 read_starts sizes block index x f held low =
-    owning_so sizes (Read block index) x f (call_starts sizes (Read block index) x f refl (low_test index sizes.words low) held)
+    owning_so sizes (Read block index) x f (call_starts sizes (Read block index) x f refl (low_test index sizes.words low) held refl)
 
 pub write_starts : (sizes : Sizes) (block index value : ℕ) (x : Process) → BetweenCalls sizes x
     → Contains (held_in x.seat.view.mind) block → index < sizes.words → IsOwning sizes (Write block index value) 0 x
 write_starts sizes block index value x f held low =
     owning_so sizes (Write block index value) x f
-    (call_starts sizes (Write block index value) x f refl (low_test index sizes.words low) held)
+    (call_starts sizes (Write block index value) x f refl (low_test index sizes.words low) held refl)
 
 -- what is due begins by the plan, and leaves the age and the quantum
 begun_plan_by : (d : Option Wish) (t : TransferView) (p : PoolView) (calls : CallView)

@@ -1,6 +1,6 @@
 -- the steps that a call makes of the pending transfer
 use Rattle.std.proofs.Common.{◌≡◌, ◌≢◌, ℕ, ◌+◌, ◌<◌, ◌≤◌, ◌==◌, Bool, true, false, ◌++◌, refl, sym, ap, ◌∙◌, subst, arith}
-use Rattle.std.specs.Prelude.{if◌then◌else◌, ◌||◌}
+use Rattle.std.specs.Prelude.{if◌then◌else◌, ◌||◌, Some}
 use Rattle.std.proofs.lemmas.List.{append-nil}
 use Rattle.std.proofs.lemmas.Bool.Decides.{nat_tests}
 use Rattle.word_layout.specs.Sizes.{Sizes}
@@ -13,6 +13,8 @@ use Rattle.transfer_machine.specs.Stages.{is_rest}
 use Rattle.transfer_machine.specs.declared.stage.NextStep.{NextStep}
 use Rattle.transfer_machine.specs.declared.stage.NextStep.TheVariants.{Rest, Announce, Try, LoadFinalState, LoadReply}
 use Rattle.transfer_machine.specs.declared.transfer.TransferView.{TransferView}
+use Rattle.pool_machine.specs.declared.call.Way.TheVariants.{Calls}
+use Rattle.pool_machine.specs.Steps as call_steps
 use Rattle.pool_machine.specs.Pools.{pool_met_at}
 use Rattle.pool_machine.specs.declared.call.Call.{Call}
 use Rattle.pool_machine.specs.declared.call.CallStage.{CallStage}
@@ -114,6 +116,7 @@ goes_on sizes call n word x v w go s is inside =
       can = call_can_step sizes call v (ap (λ (z : SeatView). z.of_process) s.stays ∙ go.can.of_process)
           (ap (λ (z : SeatView). z.sizes) s.stays ∙ go.can.shape) s.among (inside_may sizes call v.mind.view stage) held;
       view = inside_view call v.mind.view stage ∙ view;
+      paced = go.paced;
     }
 
 -- a transfer is at rest after its last step alone
@@ -140,11 +143,22 @@ moved_view : (sizes : Sizes) (call : Call) (n : ℕ) (x y : Process) (ended : Bo
 moved_view sizes call n x y ended go m =
     let t = met_of sizes x.transfer m.word in
     let pool = pool_met_at m.word (counted n x.pool) x.transfer.next in
-    let busy = (can_move sizes call n x go).busy in
+    let busy = (can_move sizes call n x go).go.busy in
     let rests : is_rest t.next ≡ ended = rests_after sizes x.transfer m.word x.transfer.next busy ∙ sym m.pool.last in
-    ap (λ z. view_moved sizes.quantum call (n + 1) z t pool) rests
+    ap (λ p. record {
+      transfer = t;
+      pool = pool;
+      calls = record {
+        stage = call_steps.stage_after p true sizes.quantum n t.next;
+        call = Some call;
+        steps = call_steps.steps_after p n;
+        chosen = true;
+        way = Calls;
+      };
+    }) go.paced
+    ∙ (ap (λ z. view_moved sizes.quantum call (n + 1) z t pool) rests
     ∙ (ap (λ z. view_moved sizes.quantum call (n + 1) ended z pool) (sym m.transfer)
-    ∙ ap (view_moved sizes.quantum call (n + 1) ended y.transfer) (sym m.pool.pool))
+    ∙ ap (view_moved sizes.quantum call (n + 1) ended y.transfer) (sym m.pool.pool)))
 
 in_call_moved : (t : Bool) → is_in_call (if t then Own else Moving) ≡ true
 in_call_moved true = refl
@@ -210,7 +224,7 @@ pub aged_more : (sizes : Sizes) (call : Call) (n : ℕ) (before : TransferView) 
     → MovedOne sizes call n x ended y → AgesByOne before x.transfer → AgesByOne before y.transfer
 aged_more sizes call n before x y ended go m h =
     subst (AgesByOne before) (sym m.transfer)
-    (aged_at sizes before x.transfer m.word x.transfer.next refl (can_move sizes call n x go).busy h)
+    (aged_at sizes before x.transfer m.word x.transfer.next refl (can_move sizes call n x go).go.busy h)
 
 -- the plan
 pub plan_stays : (n : ℕ) (ended : Bool) (first old new : Numbers) → ended ≡ false → old ≡ first → PlanStepped ended n old new → new ≡ first

@@ -75,6 +75,7 @@ stands sizes x f =
     subst (λ (z : ProcessView). withheld z.pool.plan ≤ 5 * v.sizes.length) view_is
     (withholds_five v.sizes i (minds i).view ledger goes in_calls) in
     let less = kept_less v.mind.view.pool.plan v.mind.view.pool.plan.pending refl in
+    let phase = in_calls.phase ∙ (ap call_phase view_is ∙ between_phase v.mind.view f.between) in
     record {
       legal = subst (IsLegal (limits_of v.sizes)) sees.beginning
           (legal_take (limits_of v.sizes) history (length v.mind.seen) holds.entries.legal);
@@ -87,12 +88,12 @@ stands sizes x f =
       account = ledger.account;
       accounted = record {
         reached = goes.reached;
-        between = in_calls.phase ∙ (ap call_phase view_is ∙ between_phase v.mind.view f.between);
+        between = phase;
         counts = subst (CountsEntries ledger.account) (sym mine) fits.counts;
         plan = in_calls.plan ∙ ap (λ (z : ProcessView). z.pool.plan) view_is;
       };
       sound = stands_sound ledger.account
-          (reached_stands v.sizes.length (transfer_bound v.sizes) v.sizes.quantum ledger.account goes.fit goes.reached);
+          (reached_stands v.sizes.length (transfer_bound v.sizes) v.sizes.quantum ledger.account goes.fit goes.reached) (rw phase refl);
     }
 
 -- its plan has the shape's quantum

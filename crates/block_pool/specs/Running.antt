@@ -1,5 +1,5 @@
 -- a call as it runs: the view of its process, told by the running parts, the call, and how many steps of the transfer it has made
-use Rattle.std.specs.Prelude.{◌≡◌, ℕ, ◌<◌, ◌==◌, if◌then◌else◌, Option, None, Some, length}
+use Rattle.std.specs.Prelude.{true, ◌≡◌, ℕ, ◌<◌, ◌==◌, if◌then◌else◌, Option, None, Some, length}
 use Rattle.word_layout.specs.Sizes.{Sizes, most_blocks}
 use Rattle.word_layout.specs.declared.announced.Wish.{Wish}
 use Rattle.transfer_schedule.specs.Numbers.{after_steps, is_idle}
@@ -14,6 +14,7 @@ use Rattle.pool_machine.specs.declared.call.CallView.{CallView}
 use Rattle.pool_machine.specs.declared.call.Way.TheVariants.{Calls}
 use Rattle.pool_machine.specs.declared.view.PoolView.{PoolView}
 use Rattle.pool_machine.specs.declared.view.ProcessView.{ProcessView}
+use Rattle.pool_machine.specs.Steps.{is_paced}
 use Rattle.pool_table.specs.declared.about.About.TheVariants.{InCall}
 use Rattle.pool_table.specs.Turns.{turning}
 use Rattle.pool_table.specs.Views.{SeatView}
@@ -22,7 +23,7 @@ use Rattle.block_pool.specs.declared.process.Process.{Process}
 
 -- the calls of a process in this call, which has made so many steps of the transfer
 abbrev pub calling : CallStage → Call → ℕ → CallView
-calling stage call n = record { stage = stage; call = Some call; steps = n; way = Calls }
+calling stage call n = record { stage = stage; call = Some call; steps = n; chosen = true; way = Calls }
 
 -- the pool with so many steps of its transfer counted
 abbrev pub counted : ℕ → PoolView → PoolView
@@ -71,6 +72,7 @@ pool_begun_by (Some wish) pool = pool_begun wish pool
 pub record CanGo (sizes : Sizes) (call : Call) (w : ProcessView) (v : SeatView) : Type 0 where
   pub can : CanStep sizes (InCall call) v
   pub view : turning (InCall call) v.mind.view ≡ w
+  pub paced : is_paced (Some call) ≡ true
 
 -- the next step of the call is one of the transfer, after so many
 abbrev pub IsMoving : Sizes → Call → ℕ → Process → Type 0

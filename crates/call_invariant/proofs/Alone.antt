@@ -42,7 +42,8 @@ opening_calls sizes i =
       runs = pool.runs;
       heads = refl;
       announced = λ e. cc;
-      stage = record { none = λ e. refl; changes = λ e. cc; pending = λ e. cc; few = λ e. cc; some = λ e. cc };
+      stage = record { none = λ e. refl; changes = λ e. cc; pending = λ e. cc; few = λ e. cc; some = λ e. cc; searches = λ e. cc; rests = λ e. cc };
+      choice = λ e. cc;
       fresh = λ e. record { view = refl; nothing = record { account = refl; none = refl } };
     }
 

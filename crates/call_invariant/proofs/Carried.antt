@@ -26,7 +26,7 @@ use Rattle.transfer_machine.specs.declared.transfer.TransferView.{TransferView}
 use Rattle.pool_machine.specs.declared.view.PoolView.{PoolView}
 use Rattle.pool_machine.specs.declared.view.ProcessView.{ProcessView}
 use Rattle.transfer_invariant.specs.Progress.{has_record, has_announced, is_moving, has_only_begun, goes_on}
-use Rattle.pool_machine.specs.Steps.{after_move, move_counted, call_met_at}
+use Rattle.pool_machine.specs.Steps.{move_counted, call_met_at}
 use Rattle.pool_invariant.specs.Stages.{IndexFitsAt}
 use Rattle.pool_invariant.specs.StepCount.{steps_before_at}
 use Rattle.pool_invariant.specs.Kept.{Answers, GivenToPool}
@@ -37,9 +37,9 @@ use Rattle.history_invariant.specs.Steps.{GoesOn, stepped, announced, ended_with
 use Rattle.history_invariant.specs.Steps as steps
 use Rattle.call_invariant.specs.Phases.{call_phase_at}
 use Rattle.call_invariant.specs.Ledgers.{found_by, ledger_stepped, ledger_moved_at}
-use Rattle.call_invariant.specs.InCalls.{Scheduled, InCalls, CarriesOn}
+use Rattle.call_invariant.specs.InCalls.{Scheduled, MayChoose, InCalls, CarriesOn}
 use Rattle.call_invariant.proofs.Standing.{in_table}
-use Rattle.call_invariant.proofs.Moved.{Moves, calls_counted, moves_at, counted_calls, phase_goes, phase_ends}
+use Rattle.call_invariant.proofs.Moved.{Moves, calls_counted, moves_at, moves_now, counted_calls, phase_goes, phase_ends}
 
 -- a step that doesn't end the transfer
 more_left : (sizes : Sizes) (v : TransferView) (s : NextStep) → IndexFitsAt sizes v.loaded s → (has_record s ≡ true → overlay_length v.loaded ≤ sizes.processes) → goes_on s ≡ true
@@ -52,63 +52,75 @@ going_is_moving s e = (grind arith, grind arith)
 moving_not_rest : (s : NextStep) → is_moving s ≡ true → is_rest s ≡ false
 moving_not_rest s e = grind arith
 
-going_ledger : (word made : ℕ) (s : NextStep) (g : Ledger) → goes_on s ≡ true → ledger_moved_at word made s g ≡ ledger_stepped made g
-going_ledger word made s g e = grind arith
+going_ledger : (word : ℕ) (s : NextStep) (g : Ledger) → goes_on s ≡ true → ledger_moved_at word s g ≡ ledger_stepped g
+going_ledger word s g e = grind arith
 
 less_done : (done before bound : ℕ) → done ≤ before → before + 1 < bound → done + 1 < bound
 less_done done before bound h k = omega arith
 
 going_goes : (sizes : Sizes) (v : ProcessView) (g : Ledger) (s : NextStep) → v.transfer.next ≡ s → goes_on s ≡ true → Moves sizes v g
     → (has_record s ≡ true → overlay_length v.transfer.loaded ≤ sizes.processes)
-    → GoesOn g (ledger_stepped v.calls.steps g)
+    → GoesOn g (ledger_stepped g)
 going_goes sizes v g s e going m few =
     let (moving, sent) = going_is_moving s going in
     let index = rw e at m.runs.index in
     let counted : v.pool.plan.done ≤ steps_before_at sizes.processes s = rw e at m.runs.counted moving in
     let low : v.pool.plan.done + 1 < v.pool.plan.bound = rw m.runs.kept.bound (less_done v.pool.plan.done _ (transfer_bound sizes) counted (more_left sizes v.transfer s index few going)) in
     let some : 0 < v.pool.plan.done = m.announced (rw e sent) in
-    steps.moves v.calls.steps m.phase (rw m.plan some) (rw m.plan low)
+    steps.moves (moves_now sizes v g m) (rw m.plan some) (rw m.plan low)
 
 stepped_phase : (sizes : Sizes) (v : ProcessView) (g : Ledger) (next : NextStep) → Moves sizes v g → is_rest next ≡ false
-    → schedule.after_move g.account.plan.quantum v.calls.steps ≡ call_phase_at (calls_counted sizes.quantum next v.calls) (after_move sizes.quantum (v.calls.steps + 1) next)
+    → schedule.stepped_in g.account.plan.quantum g.account.phase
+    ≡ call_phase_at (calls_counted sizes.quantum next v.calls) (calls_counted sizes.quantum next v.calls).stage
 stepped_phase sizes v g next m busy =
     let quantum : g.account.plan.quantum ≡ sizes.quantum = ap (λ plan. plan.quantum) m.plan ∙ m.runs.kept.quantum in
-    rw quantum (phase_goes sizes.quantum v.calls next m.changes busy)
+    rw (quantum, m.phase) (phase_goes sizes.quantum v.calls next m.changes busy)
 
 one_step_more : (plan : Numbers) → 0 < (after_steps 1 plan).done
 one_step_more plan = omega arith
 
+-- it keeps the age, and leads to no announcement
+never_announces : (next : NextStep) → has_only_begun next ≡ false → next ≢ Announce
+never_announces next e = λ a. grind arith
+
+going_chooses : (sizes : Sizes) (v : ProcessView) (word : ℕ) (s : NextStep) → goes_on s ≡ true → MayChoose v
+    → MayChoose (record v { transfer = met_at sizes v.transfer word s; pool = pool_met_at word v.pool s })
+going_chooses sizes v word s going k =
+    let stays = step_stays sizes v.transfer word s going in
+    record { young = omega (arith, k.young, stays.age); sent = never_announces _ stays.announced }
+
 going_carries : (sizes : Sizes) (i : ℕ) (v : ProcessView) (word : ℕ) (g : Ledger) (s : NextStep) → v.transfer.next ≡ s → goes_on s ≡ true → 1 ≤ sizes.processes → Moves sizes v g
     → (has_record s ≡ true → overlay_length v.transfer.loaded ≤ sizes.processes)
-    → CarriesOn sizes i (move_counted sizes (record v { transfer = met_at sizes v.transfer word s; pool = pool_met_at word v.pool s })) g (ledger_moved_at word v.calls.steps s g)
+    → CarriesOn sizes i (move_counted sizes (record v { transfer = met_at sizes v.transfer word s; pool = pool_met_at word v.pool s })) g (ledger_moved_at word s g)
 going_carries sizes i v word g s e going some m few =
     let x = met_at sizes v.transfer word s in
     let same = going_pool v.pool word s going in
     let busy = moving_not_rest x.next (let stays = step_stays sizes v.transfer word s going in stays.moving) in
-    rw (going_ledger word v.calls.steps s g going) (record {
+    rw (going_ledger word s g going) (record {
       goes = going_goes sizes v g s e going m few;
-      calls = counted_calls sizes i v (record v { transfer = x; pool = pool_met_at word v.pool s }) g (ledger_stepped v.calls.steps g) m refl
+      calls = counted_calls sizes i v (record v { transfer = x; pool = pool_met_at word v.pool s }) g (ledger_stepped g) m refl
           (rw same (ap (after_steps 1) m.plan))
           (stepped_phase sizes v g x.next m busy)
           (step_runs sizes v word s e some m.runs few)
           (rw same m.heads)
-          (λ sent. rw same (one_step_more v.pool.plan));
+          (λ sent. rw same (one_step_more v.pool.plan))
+          (λ k. going_chooses sizes v word s going k);
     })
 
 -- the announcement
 announce_carries : (sizes : Sizes) (i : ℕ) (v : ProcessView) (word : ℕ) (g : Ledger) → v.transfer.next ≡ Announce → 1 ≤ sizes.processes → Moves sizes v g
-    → CarriesOn sizes i (move_counted sizes (record v { transfer = met_at sizes v.transfer word Announce; pool = pool_met_at word v.pool Announce })) g (announced v.calls.steps g)
+    → CarriesOn sizes i (move_counted sizes (record v { transfer = met_at sizes v.transfer word Announce; pool = pool_met_at word v.pool Announce })) g (announced g)
 announce_carries sizes i v word g e some m =
     let x = met_at sizes v.transfer word Announce in
     let counted : v.pool.plan.done ≤ 0 = rw e at m.runs.counted refl in
     let long : 1 < v.pool.plan.bound = rw m.runs.kept.bound (omega arith) in
     record {
-      goes = steps.announces v.calls.steps m.phase (rw m.plan (omega arith)) (rw m.plan long);
-      calls = counted_calls sizes i v (record v { transfer = x; pool = record (step_counted v.pool) { giving = 0 } }) g (announced v.calls.steps g) m refl
+      goes = steps.announces (moves_now sizes v g m) (rw m.plan (omega arith)) (rw m.plan long);
+      calls = counted_calls sizes i v (record v { transfer = x; pool = record (step_counted v.pool) { giving = 0 } }) g (announced g) m refl
           (ap (after_steps 1) m.plan)
           (stepped_phase sizes v g (Try false LoadState) m refl)
           (step_runs sizes v word Announce e some m.runs (λ has. absurd (none has)))
-          m.heads (λ sent. one_step_more v.pool.plan);
+          m.heads (λ sent. one_step_more v.pool.plan) (λ k. absurd (k.sent e));
     }
   where
     none : has_record Announce ≡ true → ⊥
@@ -155,15 +167,16 @@ reply_carries sizes i v word g e some m table answers nothing =
     let pending : v.pool.plan.pending ≡ pending_of v.transfer.wish = m.runs.kept.pending (rw e refl) in
     let wished : g.account.plan.pending ≡ pending_of v.transfer.wish = ap (λ plan. plan.pending) m.plan ∙ pending in
     record {
-      goes = steps.ends v.calls.steps (found_by reply) m.phase (rw m.plan sent) (rw m.plan low)
+      goes = steps.ends (found_by reply) (moves_now sizes v g m) (rw m.plan sent) (rw m.plan low)
           (λ giving. give_found v.transfer.wish reply answers (rw wished at giving))
           (λ taking none. nothing (take_wished v.transfer.wish (rw wished at taking)) (found_none reply none));
       calls = counted_calls sizes i v (record v { transfer = x; pool = pool_ended reply (step_counted v.pool) }) g (ended (found_by reply) g) m refl
           (ap (λ plan. after_end (found_by reply) (after_steps 1 plan)) m.plan ∙ sym (ended_plan v.pool reply))
-          (phase_ends sizes.quantum v.calls m.changes)
+          (rw m.phase (phase_ends sizes.quantum v.calls m.changes))
           (step_runs sizes v word LoadReply e some m.runs (λ has. absurd (none has)))
           (ended_heads v.pool v.transfer.wish reply pending answers table m.heads)
-          (λ after. absurd (over after));
+          (λ after. absurd (over after))
+          (λ k. record { young = k.young; sent = λ rest. cc });
     }
   where
     none : has_record LoadReply ≡ true → ⊥
@@ -180,7 +193,7 @@ record MayMeet (sizes : Sizes) (v : TransferView) (word : ℕ) (g : Ledger) (s :
 
 step_carries : (sizes : Sizes) (i : ℕ) (v : ProcessView) (word : ℕ) (g : Ledger) (s : NextStep) → v.transfer.next ≡ s → s ≢ Rest → 1 ≤ sizes.processes → Moves sizes v g → InTable v.pool.plan
     → MayMeet sizes v.transfer word g s
-    → CarriesOn sizes i (move_counted sizes (record v { transfer = met_at sizes v.transfer word s; pool = pool_met_at word v.pool s })) g (ledger_moved_at word v.calls.steps s g)
+    → CarriesOn sizes i (move_counted sizes (record v { transfer = met_at sizes v.transfer word s; pool = pool_met_at word v.pool s })) g (ledger_moved_at word s g)
 step_carries sizes i v word g Rest e busy some m table may = absurd (busy refl)
 step_carries sizes i v word g Announce e busy some m table may = announce_carries sizes i v word g e some m
 step_carries sizes i v word g (Try second step) e busy some m table may = going_carries sizes i v word g (Try second step) e refl some m may.few
@@ -190,13 +203,13 @@ step_carries sizes i v word g LoadReply e busy some m table may = reply_carries 
 pub transfer_steps_carry : (sizes : Sizes) (i : ℕ) (v : ProcessView) (word : ℕ) (g : Ledger) → InCalls sizes i v g → Scheduled sizes g.account → v.calls.stage ≡ Moving → 1 ≤ sizes.processes
     → GivenToPool sizes v.transfer word
     → (v.transfer.next ≡ LoadReply → is_take v.transfer.wish ≡ true → reply_of (value_of word) ≡ Nothing → g.found_nothing ≡ true)
-    → CarriesOn sizes i (call_met_at sizes v word Moving) g (ledger_moved_at word v.calls.steps v.transfer.next g)
+    → CarriesOn sizes i (call_met_at sizes v word Moving) g (ledger_moved_at word v.transfer.next g)
 transfer_steps_carry sizes i v word g h s e some given nothing =
     step_carries sizes i v word g v.transfer.next refl (h.stage.pending e) some (moves_at sizes i v g h e) (in_table sizes i v g s h) (record { few = given.few; answers = given.answers; nothing = nothing })
 
 -- no step of the transfer makes an entry
-pub enters_nothing : (word made : ℕ) (s : NextStep) (g : Ledger)
-    → ((ledger_moved_at word made s g).entries ≡ g.entries)
-    × ((ledger_moved_at word made s g).seen ≡ g.seen)
-    × ((ledger_moved_at word made s g).found_nothing ≡ (if has_only_begun s then false else g.found_nothing))
-enters_nothing word made s g = grind arith
+pub enters_nothing : (word : ℕ) (s : NextStep) (g : Ledger)
+    → ((ledger_moved_at word s g).entries ≡ g.entries)
+    × ((ledger_moved_at word s g).seen ≡ g.seen)
+    × ((ledger_moved_at word s g).found_nothing ≡ (if has_only_begun s then false else g.found_nothing))
+enters_nothing word s g = grind arith

@@ -21,7 +21,7 @@ use Rattle.transfer_schedule.specs.declared.own_step.Target.TheVariants as targe
 use Rattle.transfer_schedule.proofs.Operations.{SameTransfer, same_transfer, one_more_few, took_same, gave_same, took_sizes, gave_sizes}
 use Rattle.transfer_schedule.proofs.Reaching.{reached_stands, stands_table}
 use Rattle.pool_machine.specs.declared.call.Call.{Call}
-use Rattle.pool_machine.specs.declared.call.Call.TheVariants.{Allocate, Free, Read, Write}
+use Rattle.pool_machine.specs.declared.call.Call.TheVariants.{Allocate, Free, Read, Write, Search}
 use Rattle.pool_machine.specs.declared.call.CallStage.TheVariants.{Between, Own}
 use Rattle.pool_machine.specs.declared.call.CallView.{CallView}
 use Rattle.pool_machine.specs.declared.view.PoolView.{PoolView}
@@ -33,7 +33,7 @@ use Rattle.history_invariant.specs.Fits.{CountsEntries}
 use Rattle.history_invariant.specs.Grips.{Balances}
 use Rattle.history_invariant.specs.Ledger.{Ledger}
 use Rattle.history_invariant.specs.Steps.{entered, got_one, got_none, gave_back}
-use Rattle.call_invariant.specs.Phases.{changes_pool, own_phase, call_phase_at}
+use Rattle.call_invariant.specs.Phases.{changes_pool, is_getting, own_phase, call_phase_at}
 use Rattle.call_invariant.specs.InCalls.{Scheduled, InCalls}
 use Rattle.call_invariant.proofs.Standing.{in_table}
 use Rattle.call_invariant.proofs.Moved.{not_fresh}
@@ -107,7 +107,8 @@ left_calls sizes i v g new pool h own pends giving room heads plan phase = recor
   runs = runs_with_pool sizes v pool _ pends giving room h.runs;
   heads = heads;
   announced = λ e. rw pends.transfer.done (h.announced e);
-  stage = record { none = λ e. refl; changes = λ e. cc; pending = λ e. cc; few = λ e. cc; some = λ e. cc };
+  stage = record { none = λ e. refl; changes = λ e. cc; pending = λ e. cc; few = λ e. cc; some = λ e. cc; searches = λ e. cc; rests = λ e. cc };
+  choice = λ e. cc;
   fresh = λ e. absurd (not_fresh sizes i v g h (λ between. apart (sym own ∙ between)) e);
 }
   where
@@ -118,21 +119,30 @@ left_calls sizes i v g new pool h own pends giving room heads plan phase = recor
 allocated_giving : (word : ℕ) (pool : PoolView) (s : Source) → (allocated word pool s).giving ≡ pool.giving
 allocated_giving word pool s = grind arith
 
-allocate_leaves : (sizes : Sizes) (i : ℕ) (v : ProcessView) (word : ℕ) (g new : Ledger) → InCalls sizes i v g → v.calls.stage ≡ Own → v.calls.call ≡ Some Allocate
+getting_met : (word : ℕ) (pool : PoolView) (call : Option Call) → is_getting call ≡ true
+    → pool_own_met word pool call ≡ allocated word pool (source_of pool.plan)
+getting_met word pool None e = cc
+getting_met word pool (Some Allocate) e = refl
+getting_met word pool (Some (Free block)) e = cc
+getting_met word pool (Some (Read block index)) e = cc
+getting_met word pool (Some (Write block index value)) e = cc
+getting_met word pool (Some Search) e = refl
+
+allocate_leaves : (sizes : Sizes) (i : ℕ) (v : ProcessView) (word : ℕ) (g new : Ledger) → InCalls sizes i v g → v.calls.stage ≡ Own → is_getting v.calls.call ≡ true
     → new.account.plan ≡ after_took_one g.account.plan → new.account.phase ≡ schedule.Between
     → InCalls sizes i (own_met v word) new
 allocate_leaves sizes i v word g new h own call plan phase =
     let s = source_of v.pool.plan in
     let same = allocated_plan word v.pool s in
-    rw call (left_calls sizes i v g new (allocated word v.pool s) h own
+    rw (getting_met word v.pool v.calls.call call) (left_calls sizes i v g new (allocated word v.pool s) h own
     (rw same (took_pends v.pool.plan)) (allocated_giving word v.pool s) (rw same (took_room v.pool.plan sizes.length h.runs.kept.batch h.runs.kept.room)) (took_heads word v.pool s refl h.heads)
     (plan ∙ ap after_took_one h.plan ∙ sym same) phase)
 
-pub gets_leave : (sizes : Sizes) (i : ℕ) (v : ProcessView) (word : ℕ) (g : Ledger) (history : List Entry) (entry : Entry) → InCalls sizes i v g → v.calls.stage ≡ Own → v.calls.call ≡ Some Allocate
+pub gets_leave : (sizes : Sizes) (i : ℕ) (v : ProcessView) (word : ℕ) (g : Ledger) (history : List Entry) (entry : Entry) → InCalls sizes i v g → v.calls.stage ≡ Own → is_getting v.calls.call ≡ true
     → InCalls sizes i (own_met v word) (entered history entry (got_one g.account) g)
 gets_leave sizes i v word g history entry h own call = allocate_leaves sizes i v word g (entered history entry (got_one g.account) g) h own call refl refl
 
-pub refusals_leave : (sizes : Sizes) (i : ℕ) (v : ProcessView) (word : ℕ) (g : Ledger) (history : List Entry) (entry : Entry) → InCalls sizes i v g → v.calls.stage ≡ Own → v.calls.call ≡ Some Allocate
+pub refusals_leave : (sizes : Sizes) (i : ℕ) (v : ProcessView) (word : ℕ) (g : Ledger) (history : List Entry) (entry : Entry) → InCalls sizes i v g → v.calls.stage ≡ Own → is_getting v.calls.call ≡ true
     → InCalls sizes i (own_met v word) (entered history entry (got_none g.account) g)
 refusals_leave sizes i v word g history entry h own call = allocate_leaves sizes i v word g (entered history entry (got_none g.account) g) h own call refl refl
 
@@ -140,15 +150,20 @@ refusals_leave sizes i v word g history entry h own call = allocate_leaves sizes
 freed_giving : (block : ℕ) (pool : PoolView) (t : Target) → (freed block pool t).giving ≡ pool.giving
 freed_giving block pool t = grind arith
 
-free_phase : (calls : CallView) → calls.stage ≡ Own → changes_pool calls.call ≡ true → call_phase_at calls calls.stage ≡ schedule.Own
-free_phase calls own changes = rw own (at_own calls.call changes)
-  where
-    at_own : (call : Option Call) → changes_pool call ≡ true → own_phase call ≡ schedule.Own
-    at_own call e = grind arith
+own_phase_at : (calls : CallView) → calls.stage ≡ Own → call_phase_at calls calls.stage ≡ own_phase calls.call
+own_phase_at calls own = rw own refl
 
--- at its own step an allocate or a free is so in the schedule
-pub phase_own : (sizes : Sizes) (i : ℕ) (v : ProcessView) (g : Ledger) → InCalls sizes i v g → v.calls.stage ≡ Own → changes_pool v.calls.call ≡ true → g.account.phase ≡ schedule.Own
-phase_own sizes i v g h own changes = h.phase ∙ free_phase v.calls own changes
+-- at its own step an allocate, a free or a search is so in the schedule
+pub phase_own : (sizes : Sizes) (i : ℕ) (v : ProcessView) (g : Ledger) → InCalls sizes i v g → v.calls.stage ≡ Own → g.account.phase ≡ own_phase v.calls.call
+phase_own sizes i v g h own = h.phase ∙ own_phase_at v.calls own
+
+pub getting_owns : (call : Option Call) → is_getting call ≡ true → schedule.owns_in (own_phase call) ≡ true
+getting_owns None e = cc
+getting_owns (Some Allocate) e = refl
+getting_owns (Some (Free block)) e = cc
+getting_owns (Some (Read block index)) e = cc
+getting_owns (Some (Write block index value)) e = cc
+getting_owns (Some Search) e = refl
 
 -- there are at most three spares, also after a free: with three the current list has room for its block
 few_in_table : (x : Numbers) → InTable x → x.spares ≤ 3
@@ -168,10 +183,10 @@ few_when_full x fresh few after = grind (arith, nat_tests, one_more_few x.spares
 reached_few : (sizes : Sizes) (a : Account) → Scheduled sizes a → a.plan.spares ≤ 3
 reached_few sizes a s = few_in_table a.plan (stands_table a (reached_stands sizes.length (transfer_bound sizes) sizes.quantum a s.fit s.reached))
 
-pub frees_have_room : (sizes : Sizes) (i : ℕ) (v : ProcessView) (g : Ledger) → InCalls sizes i v g → Scheduled sizes g.account → v.calls.stage ≡ Own → changes_pool v.calls.call ≡ true
+pub frees_have_room : (sizes : Sizes) (i : ℕ) (v : ProcessView) (g : Ledger) → InCalls sizes i v g → Scheduled sizes g.account → v.calls.stage ≡ Own → own_phase v.calls.call ≡ schedule.Own
     → g.account.backs < g.account.gots → target_of v.pool.plan ≡ target.Fresh → length v.pool.heads < 3
-frees_have_room sizes i v g h s own changes held fresh =
-    let after = reached_few sizes (gave_back g.account) (record { fit = s.fit; reached = follows s.reached (frees (phase_own sizes i v g h own changes) held) }) in
+frees_have_room sizes i v g h s own frees_now held fresh =
+    let after = reached_few sizes (gave_back g.account) (record { fit = s.fit; reached = follows s.reached (frees (phase_own sizes i v g h own ∙ frees_now) (λ unbroken. held)) }) in
     rw h.heads (few_when_full v.pool.plan fresh (spares_few sizes i v g s h) (rw (sym h.plan) after))
 
 -- a process that holds a block has been given more than it gave back
@@ -215,6 +230,7 @@ same_pool word pool (Some Allocate) e = grind arith
 same_pool word pool (Some (Free block)) e = grind arith
 same_pool word pool (Some (Read block index)) e = refl
 same_pool word pool (Some (Write block index value)) e = refl
+same_pool word pool (Some Search) e = cc
 
 kept_phase : (calls : CallView) → calls.stage ≡ Own → changes_pool calls.call ≡ false → call_phase_at calls calls.stage ≡ schedule.Between
 kept_phase calls own keeps = rw own (at_own calls.call keeps)

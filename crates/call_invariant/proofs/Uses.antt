@@ -83,7 +83,10 @@ pub moves_can_be_made : (sizes : Sizes) (i : ℕ) (v : ProcessView) (word : ℕ)
 moves_can_be_made sizes i v word g h s moving given act meet =
     let keeps = keeps_pool sizes i v g Calls h s in
     let busy = h.stage.pending moving in (
-      record { busy = busy; act = act; count = steps_can_count sizes v (some_quantum sizes s.fit) keeps given.few busy; few = h.stage.few moving },
+      record {
+        go = record { busy = busy; act = act; count = steps_can_count sizes v (some_quantum sizes s.fit) keeps given.few busy };
+        left = record { few = h.stage.few moving };
+      },
       record { meet = meet; end = replies_can_end sizes v word keeps given.answers },
     )
 
@@ -127,6 +130,7 @@ calls_stay sizes i v old new account entries h = record {
   heads = h.heads;
   announced = h.announced;
   stage = h.stage;
+  choice = h.choice;
   fresh = λ e. fresh_stays sizes i v old new account entries (h.fresh e);
 }
 

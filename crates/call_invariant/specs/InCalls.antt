@@ -1,20 +1,23 @@
 -- what holds of a process that has begun no transfer alone: its ledger goes with its pool
-use Rattle.std.specs.Prelude.{◌≡◌, ◌≢◌, ℕ, ◌<◌, true, None, [], length}
+use Rattle.std.specs.Prelude.{◌≡◌, ◌≢◌, ℕ, ◌<◌, true, None, Some, [], length}
 use Rattle.word_layout.specs.Sizes.{Sizes, transfer_bound}
+use Rattle.word_layout.specs.Packing.{most_age}
 use Rattle.transfer_schedule.specs.Numbers.{AreSizes}
 use Rattle.transfer_schedule.specs.Account.{Account, Reached, opened}
 use Rattle.pool_machine.specs.Pools.{opening_view}
-use Rattle.pool_machine.specs.declared.call.CallStage.TheVariants.{Between, Moving, Own}
+use Rattle.pool_machine.specs.declared.call.CallStage.TheVariants.{Between, Choosing, Moving, Own}
+use Rattle.pool_machine.specs.declared.call.Call.TheVariants.{Search}
 use Rattle.pool_machine.specs.declared.call.CallView.{CallView}
+use Rattle.pool_machine.specs.Steps.{is_paced}
 use Rattle.pool_machine.specs.declared.call.Way.TheVariants.{Fresh, Alone}
 use Rattle.transfer_machine.specs.declared.stage.NextStep.{NextStep}
-use Rattle.transfer_machine.specs.declared.stage.NextStep.TheVariants.{Rest}
+use Rattle.transfer_machine.specs.declared.stage.NextStep.TheVariants.{Rest, Announce}
 use Rattle.pool_machine.specs.declared.view.ProcessView.{ProcessView}
 use Rattle.transfer_invariant.specs.Progress.{has_announced}
 use Rattle.pool_invariant.specs.Holds.{PoolRuns}
 use Rattle.history_invariant.specs.Ledger.{Ledger}
 use Rattle.history_invariant.specs.Steps.{GoesOn}
-use Rattle.call_invariant.specs.Phases.{changes_pool, call_phase}
+use Rattle.call_invariant.specs.Phases.{changes_pool, may_choose_at, call_phase}
 
 -- the sizes are those of a schedule, which reaches the account
 pub record Scheduled (sizes : Sizes) (account : Account) : Type 0 where
@@ -37,8 +40,15 @@ pub record StageFits (quantum : ℕ) (calls : CallView) (next : NextStep) : Type
   pub none : calls.stage ≡ Between → calls.call ≡ None
   pub changes : calls.stage ≡ Moving → changes_pool calls.call ≡ true
   pub pending : calls.stage ≡ Moving → next ≢ Rest
-  pub few : calls.stage ≡ Moving → calls.steps < quantum
+  pub few : calls.stage ≡ Moving → is_paced calls.call ≡ true → calls.steps < quantum
   pub some : calls.stage ≡ Own → calls.call ≢ None
+  pub searches : calls.stage ≡ Choosing → calls.call ≡ Some Search
+  pub rests : calls.stage ≡ Choosing → next ≡ Rest
+
+-- a call that may still begin a transfer has the age for it, which stays: what is pending is announced
+pub record MayChoose (v : ProcessView) : Type 0 where
+  pub young : v.transfer.age < most_age
+  pub sent : v.transfer.next ≢ Announce
 
 -- the ledger has the plan of the pool and the phase of the process; each spare has its head; an announced transfer has made a step; a
 -- process that has begun no call is as it was
@@ -50,6 +60,7 @@ pub record InCalls (sizes : Sizes) (process : ℕ) (v : ProcessView) (ledger : L
   pub heads : length v.pool.heads ≡ v.pool.plan.spares
   pub announced : has_announced v.transfer.next ≡ true → 0 < v.pool.plan.done
   pub stage : StageFits sizes.quantum v.calls v.transfer.next
+  pub choice : may_choose_at v.calls v.calls.stage ≡ true → MayChoose v
   pub fresh : v.calls.way ≡ Fresh → IsFresh sizes process v ledger
 
 -- a step that makes no entry leads from one ledger to another, with which the view of the process goes

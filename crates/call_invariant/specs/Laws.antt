@@ -17,13 +17,13 @@ use Rattle.transfer_machine.specs.Machine.{CanAct, CanMeet}
 use Rattle.pool_machine.specs.Pools.{opening_view, view_met, MayBegin, CanCount, CanMeetPool}
 use Rattle.transfer_machine.specs.Tries.{is_take}
 use Rattle.pool_machine.specs.declared.call.Call.{Call}
-use Rattle.pool_machine.specs.declared.call.Call.TheVariants.{Allocate, Free}
-use Rattle.pool_machine.specs.declared.call.CallStage.TheVariants.{Between, Moving, Own}
+use Rattle.pool_machine.specs.declared.call.Call.TheVariants.{Free}
+use Rattle.pool_machine.specs.declared.call.CallStage.TheVariants.{Between, Choosing, Moving, Own}
 use Rattle.pool_machine.specs.declared.call.Way.TheVariants.{Alone}
 use Rattle.transfer_machine.specs.declared.stage.NextStep.TheVariants.{Rest, LoadReply}
 use Rattle.pool_machine.specs.declared.view.PoolView.{PoolView}
 use Rattle.pool_machine.specs.declared.view.ProcessView.{ProcessView}
-use Rattle.pool_machine.specs.Beginning.{due, newest, call_begun, alone_begun}
+use Rattle.pool_machine.specs.Beginning.{due, newest, search_chosen, call_begun, alone_begun}
 use Rattle.pool_machine.specs.Conditions.{MayCall, MayMove}
 use Rattle.pool_machine.specs.OwnSteps.{next_block}
 use Rattle.pool_machine.specs.Ready.{CanBegin, CanMove, CanMeetMoving}
@@ -36,8 +36,8 @@ use Rattle.history_invariant.specs.Fits.{CountsEntries}
 use Rattle.history_invariant.specs.Steps.{entered, got_one, got_none, gave_back}
 use Rattle.history_invariant.specs.Grips.{Balances}
 use Rattle.process_sums.specs.Sums.{total}
-use Rattle.call_invariant.specs.Phases.{changes_pool}
-use Rattle.call_invariant.specs.Ledgers.{ledger_begun, ledger_moved}
+use Rattle.call_invariant.specs.Phases.{changes_pool, is_getting, own_phase}
+use Rattle.call_invariant.specs.Ledgers.{ledger_begun, ledger_chosen, ledger_moved}
 use Rattle.call_invariant.specs.InCalls.{Scheduled, InCalls, CarriesOn}
 use Rattle.call_invariant.specs.InTransfers.{InTransfers}
 use Rattle.call_invariant.specs.Uses.{UsesPool, PoolKeeps}
@@ -58,6 +58,13 @@ ChangingCallsBegin = (sizes : Sizes) (i : ℕ) (v : ProcessView) (ledger : Ledge
     → MayCall sizes holds call v
     → changes_pool (Some call) ≡ true
     → CarriesOn sizes i (call_begun call v) ledger (ledger_begun call ledger)
+
+-- a search whose met transfer has ended chooses
+abbrev pub SearchesChoose : Type 0
+SearchesChoose = (sizes : Sizes) (i : ℕ) (v : ProcessView) (ledger : Ledger) → InCalls sizes i v ledger
+    → Scheduled sizes ledger.account
+    → v.calls.stage ≡ Choosing
+    → CarriesOn sizes i (search_chosen v) ledger (ledger_chosen ledger)
 
 -- a read or a write begins, and the ledger stays
 abbrev pub KeepingCallsBegin : Type 0
@@ -85,19 +92,19 @@ TransferStepsEnterNothing = (v : ProcessView) (ledger : Ledger) (word : ℕ)
 
 -- at its own step an allocate or a free is so in the schedule
 abbrev pub OwnStepsAreDue : Type 0
-OwnStepsAreDue = (sizes : Sizes) (i : ℕ) (v : ProcessView) (ledger : Ledger) → InCalls sizes i v ledger → v.calls.stage ≡ Own → changes_pool v.calls.call ≡ true
-    → ledger.account.phase ≡ schedule.Own
+OwnStepsAreDue = (sizes : Sizes) (i : ℕ) (v : ProcessView) (ledger : Ledger) → InCalls sizes i v ledger → v.calls.stage ≡ Own
+    → ledger.account.phase ≡ own_phase v.calls.call
 
 -- the own step of an allocate, which is given a block
 abbrev pub GotsEndCalls : Type 0
 GotsEndCalls = (sizes : Sizes) (i : ℕ) (v : ProcessView) (ledger : Ledger) (word : ℕ) (history : List Entry) (entry : Entry) → InCalls sizes i v ledger → v.calls.stage ≡ Own
-    → v.calls.call ≡ Some Allocate
+    → is_getting v.calls.call ≡ true
     → InCalls sizes i (call_met sizes v word) (entered history entry (got_one ledger.account) ledger)
 
 -- or refused
 abbrev pub RefusalsEndCalls : Type 0
 RefusalsEndCalls = (sizes : Sizes) (i : ℕ) (v : ProcessView) (ledger : Ledger) (word : ℕ) (history : List Entry) (entry : Entry) → InCalls sizes i v ledger → v.calls.stage ≡ Own
-    → v.calls.call ≡ Some Allocate
+    → is_getting v.calls.call ≡ true
     → InCalls sizes i (call_met sizes v word) (entered history entry (got_none ledger.account) ledger)
 
 -- the own step of a free
@@ -126,7 +133,7 @@ abbrev pub FreesHaveRoom : Type 0
 FreesHaveRoom = (sizes : Sizes) (i : ℕ) (v : ProcessView) (ledger : Ledger) → InCalls sizes i v ledger
     → Scheduled sizes ledger.account
     → v.calls.stage ≡ Own
-    → changes_pool v.calls.call ≡ true
+    → own_phase v.calls.call ≡ schedule.Own
     → ledger.account.backs < ledger.account.gots
     → target_of v.pool.plan ≡ target.Fresh
     → length v.pool.heads < 3

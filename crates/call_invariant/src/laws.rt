@@ -1,5 +1,5 @@
 //! Each law is the contract of a call that does nothing.
-ghost use Rattle.call_invariant.specs.Laws.{ShapesFitSchedules, OpeningMeetsCalls, ChangingCallsBegin, KeepingCallsBegin, TransferStepsCarryOn, TransferStepsEnterNothing, OwnStepsAreDue, GotsEndCalls, RefusalsEndCalls, BacksEndCalls, KeepingStepsEndCalls, BlocksAreThePlans, AllocatesHaveSpares, FreesHaveRoom, HoldersMayFree, TransfersBegin, TransfersStep, CallsAreOneWay, InCallsIsAUse, TransfersAreOneWay, InTransfersIsAUse, SameAccountsKeep, UsesKeepPools, UsesWithholdFew, StepsCanCount, RepliesCanEnd, DueTransfersMayBegin, IdlePoolsRest, CallsCanBegin, MovesCanBeMade, EmptyStackLeavesFew};
+ghost use Rattle.call_invariant.specs.Laws.{ShapesFitSchedules, OpeningMeetsCalls, ChangingCallsBegin, KeepingCallsBegin, SearchesChoose, TransferStepsCarryOn, TransferStepsEnterNothing, OwnStepsAreDue, GotsEndCalls, RefusalsEndCalls, BacksEndCalls, KeepingStepsEndCalls, BlocksAreThePlans, AllocatesHaveSpares, FreesHaveRoom, HoldersMayFree, TransfersBegin, TransfersStep, CallsAreOneWay, InCallsIsAUse, TransfersAreOneWay, InTransfersIsAUse, SameAccountsKeep, UsesKeepPools, UsesWithholdFew, StepsCanCount, RepliesCanEnd, DueTransfersMayBegin, IdlePoolsRest, CallsCanBegin, MovesCanBeMade, EmptyStackLeavesFew};
 
 /// The sizes of a shape are those of a schedule.
 pub fn shapes()
@@ -15,6 +15,7 @@ pub fn opening()
 pub fn beginnings()
     ensures changing { ChangingCallsBegin }
     ensures keeping { KeepingCallsBegin }
+    ensures choosing { SearchesChoose }
 {}
 
 /// A process makes a transfer step in a call. Its ledger goes on, without an entry.

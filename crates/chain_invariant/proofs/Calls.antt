@@ -16,9 +16,9 @@ use Rattle.transfer_machine.specs.States.{StackState}
 use Rattle.transfer_machine.specs.Words.{name_of}
 use Rattle.transfer_machine.specs.declared.action.Action.TheVariants.{Load, Store}
 use Rattle.pool_machine.specs.declared.call.Call.{Call}
-use Rattle.pool_machine.specs.declared.call.Call.TheVariants.{Allocate, Free, Read, Write}
+use Rattle.pool_machine.specs.declared.call.Call.TheVariants.{Allocate, Free, Read, Write, Search}
 use Rattle.pool_machine.specs.declared.view.ProcessView.{ProcessView}
-use Rattle.pool_machine.specs.Beginning.{newest, due, begun_if_due, call_begun}
+use Rattle.pool_machine.specs.Beginning.{newest, due, begun_if_due, search_begun_by, call_begun}
 use Rattle.pool_machine.specs.OwnSteps.{block_from, next_block, allocate_action, follower, own_action_for, allocated, freed, pool_own_met}
 use Rattle.pool_machine.specs.Ready.{CanBegin, CanAllocate, CanFree, CanOwnFor, CanFollow, CanMeetOwnFor}
 use Rattle.pool_machine.proofs.Plans.{due_begins}
@@ -191,6 +191,9 @@ module _ (sizes : Sizes) (words new : Words) (s : StackState) (views after : Pro
   own_chains_at (Some (Write block index value)) within names a pool same =
       quiet (ap (λ p. p.head) pool) (ap (λ p. p.plan.current) pool) (ap (λ p. p.heads) pool)
       (acts_elsewhere sizes (Store (Data block index) value) words new (λ b e. cc) a) same
+  own_chains_at (Some Search) within names a pool gains =
+      allocate_at (nat_lt 0 (views i).pool.plan.current) (nat_lt 0 (views i).pool.plan.spares) refl refl
+      (words (name_of (allocate_action (next_block (views i).pool)))) refl a pool gains
 
 -- the block that an allocate gets is free, and what its step names is in range
 module _ (sizes : Sizes) (words : Words) (s : StackState) (views : ProcessViews) (held : BlockLists) (i : ℕ) (shape : IsShape sizes)
@@ -265,6 +268,8 @@ module _ (sizes : Sizes) (words : Words) (s : StackState) (views : ProcessViews)
   own_can_at (Some (Read block index)) size within names room = ((held_low block names.0, names.1), tt, (held_low block names.0, names.1))
   own_can_at (Some (Write block index value)) size within names room =
       ((held_low block names.0, names.1), tt, (held_low block names.0, names.1))
+  own_can_at (Some Search) size within names room =
+      allocate_can (nat_lt 0 (views i).pool.plan.current) (nat_lt 0 (views i).pool.plan.spares) refl refl
 
 -- a call begins, with the transfer that is due
 module _ (sizes : Sizes) (words : Words) (s : StackState) (views after : ProcessViews) (held : BlockLists) (i : ℕ) (x : ProcessView)
@@ -278,7 +283,7 @@ module _ (sizes : Sizes) (words : Words) (s : StackState) (views after : Process
     heads = ap (λ p. p.heads) same.pool;
   }) moved (λ b lt. refl)
 
-  due_begun : (wish : Option Wish) → due (views i).pool ≡ wish → SameParts x (begun_if_due wish (views i)) → Chains sizes words s after held
+  pub due_begun : (wish : Option Wish) → due (views i).pool ≡ wish → SameParts x (begun_if_due wish (views i)) → Chains sizes words s after held
   due_begun None e same = as_it_was same
   due_begun (Some wish) e same =
       let begins = due_begins (views i) wish can e in
@@ -289,8 +294,19 @@ module _ (sizes : Sizes) (words : Words) (s : StackState) (views after : Process
             chains.hold begins.rest begins.may same moved;
       }
 
+  -- a transfer that is due is begun, or none
+  pub begun_so : (wish : Option Wish) → ((w : Wish) → wish ≡ Some w → due (views i).pool ≡ Some w) → SameParts x (begun_if_due wish (views i))
+      → Chains sizes words s after held
+  begun_so None e same = as_it_was same
+  begun_so (Some wish) e same = due_begun (Some wish) (e wish refl) same
+
   pub call_begins : (call : Call) → SameParts x (call_begun call (views i)) → Chains sizes words s after held
   call_begins Allocate same = due_begun (due (views i).pool) refl (record { transfer = same.transfer; pool = same.pool })
   call_begins (Free block) same = due_begun (due (views i).pool) refl (record { transfer = same.transfer; pool = same.pool })
   call_begins (Read block index) same = as_it_was (record { transfer = same.transfer; pool = same.pool })
   call_begins (Write block index value) same = as_it_was (record { transfer = same.transfer; pool = same.pool })
+  call_begins Search same = search_begins (schedule.is_idle (views i).pool.plan.pending) same
+    where
+      search_begins : (t : Bool) → SameParts x (search_begun_by t (views i)) → Chains sizes words s after held
+      search_begins true same = due_begun (due (views i).pool) refl (record { transfer = same.transfer; pool = same.pool })
+      search_begins false same = as_it_was (record { transfer = same.transfer; pool = same.pool })

@@ -5,7 +5,7 @@ use Rattle.word_layout.specs.Sizes.{Sizes, IsShape}
 use Rattle.transfer_machine.specs.States.{StackState}
 use Rattle.transfer_machine.specs.Words.{name_of}
 use Rattle.pool_machine.specs.declared.call.Call.{Call}
-use Rattle.pool_machine.specs.declared.call.Call.TheVariants.{Allocate, Free, Read, Write}
+use Rattle.pool_machine.specs.declared.call.Call.TheVariants.{Allocate, Free, Read, Write, Search}
 use Rattle.pool_machine.specs.declared.view.PoolView.{PoolView}
 use Rattle.pool_machine.specs.declared.view.ProcessView.{ProcessView}
 use Rattle.pool_machine.specs.Beginning.{call_begun}
@@ -29,6 +29,7 @@ held_by_call pool (Some Allocate) held = with_got (next_block pool) held
 held_by_call pool (Some (Free block)) held = without block held
 held_by_call pool (Some (Read block index)) held = held
 held_by_call pool (Some (Write block index value)) held = held
+held_by_call pool (Some Search) held = with_got (next_block pool) held
 
 -- the block that a call names is held, and its index is one of a data word
 abbrev pub NamesHeld : Sizes → List ℕ → Option Call → Type 0
@@ -37,6 +38,7 @@ NamesHeld sizes held (Some Allocate) = Unit {0}
 NamesHeld sizes held (Some (Free block)) = Contains held block
 NamesHeld sizes held (Some (Read block index)) = Contains held block × (index < sizes.words)
 NamesHeld sizes held (Some (Write block index value)) = Contains held block × (index < sizes.words)
+NamesHeld sizes held (Some Search) = Unit {0}
 
 -- what other parts say of a process at the own step of its call: its plan fits the sizes, each spare has its head, what is named is held
 pub record OwnStepFits (sizes : Sizes) (held : List ℕ) (v : ProcessView) : Type 0 where

@@ -22,6 +22,7 @@ use Rattle.pool_machine.specs.declared.call.CallView.{CallView}
 use Rattle.pool_machine.specs.declared.call.CallStage.TheVariants.{Moving}
 use Rattle.pool_machine.specs.declared.call.Way.TheVariants.{Alone}
 use Rattle.pool_machine.specs.declared.view.ProcessView.{ProcessView}
+use Rattle.pool_machine.specs.Steps.{is_paced}
 use Rattle.history_invariant.specs.Grips.{times}
 use Rattle.history_invariant.proofs.Holding.{held_shared}
 use Rattle.call_invariant.specs.Phases.{call_phase_at}
@@ -149,8 +150,9 @@ done_since begun made counted e f = rw (e, f) at counted
 entries_young : (begun : ℕ) {entries mine size long : ℕ} → entries < begun + size → entries ≡ mine → size ≡ long → mine < begun + long
 entries_young begun young e f = omega (arith, young, e, f)
 
-moving_phase : (calls : CallView) (stage : CallStage) → stage ≡ Moving → call_phase_at calls stage ≡ schedule.Moving calls.steps
-moving_phase calls stage e = rw e refl
+moving_phase : (calls : CallView) (stage : CallStage) → stage ≡ Moving → is_paced calls.call ≡ true
+    → call_phase_at calls stage ≡ schedule.Moving calls.steps
+moving_phase calls stage e paced = rw (e, paced) refl
 
 done_here : (a : Account) (v : ProcessView) (quantum mine : ℕ) → a.plan ≡ v.pool.plan → CountsSteps a
     → a.phase ≡ schedule.Moving v.calls.steps → a.entries ≡ mine → a.plan.quantum ≡ quantum
@@ -177,8 +179,8 @@ account_here history s fits i li calls =
       plan = used.plan;
       phase = used.phase;
       since =
-          λ moving. done_here ledger.account v sizes.quantum (length (own history i)) used.plan (stands_counts ledger.account stands)
-          (used.phase ∙ moving_phase v.calls v.calls.stage moving) (mine.counts.entries ∙ sym (ap (λ xs. length xs) same))
+          λ moving paced. done_here ledger.account v sizes.quantum (length (own history i)) used.plan (stands_counts ledger.account stands)
+          (used.phase ∙ moving_phase v.calls v.calls.stage moving paced) (mine.counts.entries ∙ sym (ap (λ xs. length xs) same))
           (reached_sizes sizes.length (transfer_bound sizes) sizes.quantum ledger.account schedule.reached).2;
       young =
           λ pending. entries_young ledger.account.begun
@@ -193,13 +195,13 @@ transfers_end_in_time =
     (view_at s i)) account_here
 
 pub quanta_here : (history : List Entry) (s : CoreState) → RunFits s history → (i : ℕ) → i < s.sizes.processes
-    → (view_at s i).calls.stage ≡ Moving → (view_at s i).calls.steps < s.sizes.quantum
-quanta_here history s fits i li moving =
+    → (view_at s i).calls.stage ≡ Moving → is_paced (view_at s i).calls.call ≡ true → (view_at s i).calls.steps < s.sizes.quantum
+quanta_here history s fits i li moving paced =
     let (ghosts, h) = fits.meets in
     let v = view_at s i in
     let calls : v.calls.way ≢ Alone = λ alone. in_no_call v.calls.stage
     (alone_between s.sizes (word_at s.sizes s.words) (view_at s) history i li fits.meets alone) moving in
-    (calls_used s.sizes i v (ghosts.ledgers i) v.calls.way calls (h.pools i li)).stage.few moving
+    (calls_used s.sizes i v (ghosts.ledgers i) v.calls.way calls (h.pools i li)).stage.few moving paced
   where
     in_no_call : (stage : CallStage) → is_in_call stage ≡ false → stage ≡ Moving → ⊥
     in_no_call stage outside e = grind arith
@@ -207,4 +209,4 @@ quanta_here history s fits i li moving =
 pub quanta_are_kept : laws.QuantaAreKept
 quanta_are_kept =
     every_run (λ sizes history s. (i : ℕ) → i < sizes.processes → (view_at s i).calls.stage ≡ Moving
-    → (view_at s i).calls.steps < sizes.quantum) quanta_here
+    → is_paced (view_at s i).calls.call ≡ true → (view_at s i).calls.steps < sizes.quantum) quanta_here

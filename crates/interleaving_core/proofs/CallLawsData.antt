@@ -11,9 +11,9 @@ use Rattle.pool_machine.specs.Pools.{opening_view}
 use Rattle.transfer_machine.specs.Words.{acted}
 use Rattle.transfer_machine.specs.declared.action.Action.TheVariants.{Load}
 use Rattle.pool_machine.specs.declared.call.Call.{Call}
-use Rattle.pool_machine.specs.declared.call.Call.TheVariants.{Allocate, Free, Read, Write}
+use Rattle.pool_machine.specs.declared.call.Call.TheVariants.{Allocate, Free, Read, Write, Search}
 use Rattle.pool_machine.specs.declared.call.CallStage.{CallStage}
-use Rattle.pool_machine.specs.declared.call.CallStage.TheVariants.{Between, Moving, Own}
+use Rattle.pool_machine.specs.declared.call.CallStage.TheVariants.{Between, Choosing, Moving, Own}
 use Rattle.pool_machine.specs.declared.view.PoolView.{PoolView}
 use Rattle.pool_machine.specs.declared.view.ProcessView.{ProcessView}
 use Rattle.transfer_invariant.specs.Memory.{Words, Acted, state_tag}
@@ -66,12 +66,14 @@ own_leaves sizes words new pool b k (Some (Write block index value)) low not a =
   ]
   | inr ne ↦ a.elsewhere (Data b k) low (λ e. ne (same_block b k block index e))
 ]
+own_leaves sizes words new pool b k (Some Search) low not a = allocate_leaves sizes words new b k (next_block pool) low a
 
 -- so does every step of a process whose call isn't such a write
 call_leaves : (sizes : Sizes) (words new : Words) (v : ProcessView) (b k : ℕ) (stage : CallStage) → b < blocks sizes → k < sizes.words
     → ((value : ℕ) → v.calls.call ≢ Some (Write b k value)) → Acted sizes (call_action_at sizes v stage) words new
     → new (Data b k) ≡ words (Data b k)
 call_leaves sizes words new v b k Between lb lk not a = a.elsewhere (Data b k) (lb, lk) (λ e. cc)
+call_leaves sizes words new v b k Choosing lb lk not a = a.elsewhere (Data b k) (lb, lk) (λ e. cc)
 call_leaves sizes words new v b k Moving lb lk not a = data_stays sizes v.transfer words new b k a lb lk
 call_leaves sizes words new v b k Own lb lk not a = own_leaves sizes words new v.pool b k v.calls.call (lb, lk) not a
 

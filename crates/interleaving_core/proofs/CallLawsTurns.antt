@@ -10,7 +10,7 @@ use Rattle.transfer_schedule.specs.declared.pending.Pending.TheVariants.{Idle}
 use Rattle.pool_machine.specs.Pools.{opening_view}
 use Rattle.pool_machine.specs.declared.call.Call.{Call}
 use Rattle.pool_machine.specs.declared.call.CallStage.{CallStage}
-use Rattle.pool_machine.specs.declared.call.CallStage.TheVariants.{Between, Moving, Own}
+use Rattle.pool_machine.specs.declared.call.CallStage.TheVariants.{Between, Choosing, Moving, Own}
 use Rattle.pool_machine.specs.declared.call.Way.{Way}
 use Rattle.pool_machine.specs.declared.call.Way.TheVariants.{Fresh, Alone, Calls}
 use Rattle.pool_machine.specs.declared.view.ProcessView.{ProcessView}
@@ -34,85 +34,12 @@ use Rattle.interleaving_core.proofs.Busy.{begun_calls}
 use Rattle.interleaving_core.proofs.Standing.{isnt_alone, alone_between}
 use Rattle.interleaving_core.proofs.Joins.{keeps, given}
 use Rattle.interleaving_core.proofs.Runs.{RunFits, turn_low, turn_meets, turn_busy}
-use Rattle.interleaving_core.proofs.CallLawsShort.{made_view, not_alone}
+use Rattle.interleaving_core.proofs.CallLawsShort.{turn_turns, after_is, answer_is}
 use Rattle.interleaving_core.proofs.CallLawsPending.{Aged, step_ages}
-
--- a view that makes a turn of a call
-pub record Calling (v : ProcessView) : Type 0 where
-  pub calls : is_alone v.calls.way ≡ false
-  pub way : v.calls.way ≡ Calls
-  pub changes : v.calls.stage ≡ Moving → changes_pool v.calls.call ≡ true
-  pub busy : v.calls.stage ≡ Moving → v.transfer.next ≢ Rest
-  pub rest : v.pool.plan.pending ≡ Idle → v.transfer.next ≡ Rest
-  pub inside : is_in_call v.calls.stage ≡ true
-
-calling_calls : (call : Call) (v : ProcessView) (t : Bool) → is_in_call v.calls.stage ≡ t
-    → (v.calls.way ≡ Alone → is_in_call v.calls.stage ≡ false) → is_alone (if t then v else call_begun call v).calls.way ≡ false
-calling_calls call v true inside alone = not_alone v.calls.way v.calls.stage alone inside
-calling_calls call v false inside alone = begun_calls call v
-
-way_is : (way : Way) (stage : CallStage) → is_alone way ≡ false → (way ≡ Fresh → is_in_call stage ≡ false) → is_in_call stage ≡ true
-    → way ≡ Calls
-way_is Fresh stage calls fresh inside = absurd (both_ways (fresh refl) inside)
-  where
-    both_ways : {t : Bool} → t ≡ false → t ≡ true → ⊥
-    both_ways e f = grind arith
-way_is Alone stage calls fresh inside = absurd (grind arith)
-way_is Calls stage calls fresh inside = refl
-
-inside_is : (v : ProcessView) → is_alone v.calls.way ≡ false → is_busy v ≡ true → is_in_call v.calls.stage ≡ true
-inside_is v calls busy = rw calls at busy
-
-pub turn_calls : (history : List Entry) (s : CoreState) (i : ℕ) (call : Call) → RunFits s history → is_made (Events i call) s ≡ true
-    → Calling (turning_view (Events i call) s)
-turn_calls history s i call fits made =
-    let turn = Events i call in
-    let v = turning_view turn s in
-    let xs = set s.views i v in
-    let views : ProcessViews = λ o. get_or xs o (opening_view s.sizes o) in
-    let li = turn_low s turn made in
-    let words = word_at s.sizes s.words in
-    let here : views i ≡ v = get_or-set_same s.views i v (opening_view s.sizes i) (rw fits.seats li) in
-    let (ghosts, h) = turn_meets s history turn fits made li in
-    let calls = calling_calls call (view_at s i) (is_in_call (view_at s i).calls.stage) refl
-    (alone_between s.sizes words (view_at s) history i li fits.meets) in
-    let inside = inside_is v calls (turn_busy s history turn fits made li) in
-    let pool = h.pools i li in
-    let used = calls_used s.sizes i v (ghosts.ledgers i) v.calls.way (isnt_alone v.calls.way calls) (rw here at pool) in
-    let kept = keeps s.sizes words views history ghosts i fits.shape li h in
-    record {
-      calls = calls;
-      way = way_is v.calls.way v.calls.stage calls (λ e. ap (λ x. is_in_call x.calls.stage) (used.fresh e).view) inside;
-      changes = used.stage.changes;
-      busy = used.stage.pending;
-      rest = idle_pool_rests s.sizes v (rw here at kept);
-      inside = inside;
-    }
-
--- what a turn of a call leaves, and how it is answered
-pub after_is : (s : CoreState) (history : List Entry) (i : ℕ) (call : Call) → RunFits s history → is_made (Events i call) s ≡ true
-    → is_alone (turning_view (Events i call) s).calls.way ≡ false
-    → view_at (after_turn (Events i call) s) i ≡ call_met_at s.sizes (turning_view (Events i call) s)
-    (met_word s.sizes s.words (next_action s.sizes (turning_view (Events i call) s))) (turning_view (Events i call) s).calls.stage
-after_is s history i call fits made calls =
-    made_view s (Events i call) made (rw fits.seats (turn_low s (Events i call) made)) ∙ met_calls s.sizes (turning_view (Events i call) s)
-    _ calls
-  where
-    met_calls : (sizes : Sizes) (v : ProcessView) (word : ℕ) → is_alone v.calls.way ≡ false
-        → next_met sizes v word ≡ call_met_at sizes v word v.calls.stage
-    met_calls sizes v word calls = rw calls refl
-
-pub answer_is : (s : CoreState) (i : ℕ) (call : Call) → is_made (Events i call) s ≡ true
-    → is_alone (turning_view (Events i call) s).calls.way ≡ false
-    → turn_answer (Events i call) s ≡ call_answer_at (turning_view (Events i call) s)
-    (met_word s.sizes s.words (next_action s.sizes (turning_view (Events i call) s))) (turning_view (Events i call) s).calls.stage
-answer_is s i call made calls = rw made (answer_calls (turning_view (Events i call) s) _ calls)
-  where
-    answer_calls : (v : ProcessView) (word : ℕ) → is_alone v.calls.way ≡ false → next_answer v word ≡ call_answer_at v word v.calls.stage
-    answer_calls v word calls = rw calls refl
 
 met_way : (sizes : Sizes) (v : ProcessView) (word : ℕ) (stage : CallStage) → (call_met_at sizes v word stage).calls.way ≡ v.calls.way
 met_way sizes v word Between = refl
+met_way sizes v word Choosing = refl
 met_way sizes v word Moving = refl
 met_way sizes v word Own = refl
 
@@ -159,10 +86,10 @@ pub turns_age : (history : List Entry) (s : CoreState) → RunFits s history →
 turns_age history s fits i n call made aged goes pends =
     let v = turning_view (Events i call) s in
     let word = met_word s.sizes s.words (next_action s.sizes v) in
-    let k = turn_calls history s i call fits made in
+    let k = turn_turns history s i call fits made in
     let after = after_is s history i call fits made k.calls in
     let met = call_met_at s.sizes v word v.calls.stage in
-    let ages = step_ages s.sizes v word n v.calls.stage refl aged k.changes k.busy (sym (ap (λ x. is_rest x.transfer.next) after) ∙ goes)
+    let ages = step_ages s.sizes v word n v.calls.stage refl aged k.changes k.waits (sym (ap (λ x. is_rest x.transfer.next) after) ∙ goes)
     (λ e. pends (ap (λ x. x.pool.plan.pending) after ∙ e)) in (
       both_same s.sizes.quantum n met (view_at (after_turn (Events i call) s) i) (call_answer_at v word v.calls.stage)
           (turn_answer (Events i call) s) after (answer_is s i call made k.calls) ages,

@@ -7,10 +7,11 @@ use Rattle.pool_model.specs.declared.entry.Entry.{Entry}
 use Rattle.pool_model.specs.History.{own, grip}
 use Rattle.pool_machine.specs.Conditions.{may_use_calls}
 use Rattle.pool_machine.specs.declared.call.Call.{Call}
-use Rattle.pool_machine.specs.declared.call.Call.TheVariants.{Allocate, Free, Read, Write}
+use Rattle.pool_machine.specs.declared.call.Call.TheVariants.{Allocate, Free, Read, Write, Search}
 use Rattle.pool_machine.specs.declared.call.CallStage.{CallStage}
-use Rattle.pool_machine.specs.declared.call.CallStage.TheVariants.{Between, Moving, Own}
+use Rattle.pool_machine.specs.declared.call.CallStage.TheVariants.{Between, Choosing, Moving, Own}
 use Rattle.pool_machine.specs.declared.call.Way.{Way}
+use Rattle.pool_machine.specs.Steps.{is_paced}
 use Rattle.pool_machine.specs.declared.call.Way.TheVariants.{Fresh, Alone, Calls}
 use Rattle.pool_machine.specs.declared.view.ProcessView.{ProcessView}
 use Rattle.batch_invariant.specs.Batches.{ProcessViews}
@@ -30,6 +31,7 @@ block_is_held sizes held Allocate named = tt
 block_is_held sizes held (Free block) named = named
 block_is_held sizes held (Read block index) named = named.0
 block_is_held sizes held (Write block index value) named = named.0
+block_is_held sizes held Search named = tt
 
 uses_calls : (way : Way) → way ≢ Alone → may_use_calls way ≡ true
 uses_calls Fresh ne = refl
@@ -38,13 +40,14 @@ uses_calls Calls ne = refl
 
 moving_stage : (stage : CallStage) → moves_at stage ≡ true → stage ≡ Moving
 moving_stage Between e = absurd (false≢true e)
+moving_stage Choosing e = absurd (false≢true e)
 moving_stage Moving e = refl
 moving_stage Own e = absurd (false≢true e)
 
 -- in a call
 in_call_conditions : (sizes : Sizes) (held : List ℕ) (v : ProcessView) (call : Option Call) → v.calls.call ≡ call
     → changes_pool call ≡ true → v.calls.stage ≡ Moving → may_use_calls v.calls.way ≡ true
-    → NamesHeld sizes held call → v.calls.steps < sizes.quantum → CallConditions sizes held call v
+    → NamesHeld sizes held call → (is_paced call ≡ true → v.calls.steps < sizes.quantum) → CallConditions sizes held call v
 in_call_conditions sizes held v None e changes moving way named few = absurd (false≢true changes)
 in_call_conditions sizes held v (Some call) e changes moving way named few = record {
   changes = changes;
@@ -52,7 +55,7 @@ in_call_conditions sizes held v (Some call) e changes moving way named few = rec
   goes = rw moving refl;
   own = λ inside. e;
   block = block_is_held sizes held call named;
-  few = rw moving few;
+  few = λ paced. rw moving (few paced);
 }
 
 -- alone
@@ -75,7 +78,7 @@ module _ (sizes : Sizes) (words : List ℕ) (views : ProcessViews) (history : Li
       let moving = moving_stage v.calls.stage (rw calls at moves) in
       let entries = (h.entries.each i li).sees.own_entries in
       in_call_conditions sizes (grip (own history i)) v v.calls.call refl (used.stage.changes moving) moving (uses_calls v.calls.way way)
-      (subst (λ es. NamesHeld sizes (grip es) v.calls.call) (sym entries) (h.names i li)) (used.stage.few moving)
+      (subst (λ es. NamesHeld sizes (grip es) v.calls.call) (sym entries) (h.names i li)) (λ paced. used.stage.few moving paced)
 
 pub calls_meet_conditions : CallsMeetConditions
 calls_meet_conditions sizes words views history shape (ghosts, h) i li moves = conditions_by sizes words views history ghosts h i li

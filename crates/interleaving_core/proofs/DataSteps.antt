@@ -14,9 +14,9 @@ use Rattle.transfer_machine.specs.Stages.{kind_of}
 use Rattle.transfer_machine.specs.Words.{name_of}
 use Rattle.transfer_machine.specs.declared.kind.Kind.{Kind}
 use Rattle.pool_machine.specs.declared.call.Call.{Call}
-use Rattle.pool_machine.specs.declared.call.Call.TheVariants.{Allocate, Free, Read, Write}
+use Rattle.pool_machine.specs.declared.call.Call.TheVariants.{Allocate, Free, Read, Write, Search}
 use Rattle.pool_machine.specs.declared.call.CallStage.{CallStage}
-use Rattle.pool_machine.specs.declared.call.CallStage.TheVariants.{Between, Moving, Own}
+use Rattle.pool_machine.specs.declared.call.CallStage.TheVariants.{Between, Choosing, Moving, Own}
 use Rattle.pool_machine.specs.declared.call.Way.TheVariants.{Alone}
 use Rattle.pool_machine.specs.declared.event.Happened.TheVariants.{Step}
 use Rattle.pool_machine.specs.declared.view.PoolView.{PoolView}
@@ -64,10 +64,13 @@ own_step_elsewhere history by other word pool (Some Allocate) ne = recorded_else
 own_step_elsewhere history by other word pool (Some (Free block)) ne = own_other history (Back by block) other (λ e. ne (sym e))
 own_step_elsewhere history by other word pool (Some (Read block index)) ne = nothing_entered history other
 own_step_elsewhere history by other word pool (Some (Write block index value)) ne = nothing_entered history other
+own_step_elsewhere history by other word pool (Some Search) ne = recorded_elsewhere history by other (next_block pool)
+    (own_kind_for pool (Some Search)) ne
 
 call_elsewhere : (history : List Entry) (v : ProcessView) (other word : ℕ) (stage : CallStage) → other ≢ v.transfer.number
     → own (history ++ entries_of (call_answer_at v word stage)) other ≡ own history other
 call_elsewhere history v other word Between ne = nothing_entered history other
+call_elsewhere history v other word Choosing ne = nothing_entered history other
 call_elsewhere history v other word Moving ne = nothing_entered history other
 call_elsewhere history v other word Own ne = own_step_elsewhere history v.transfer.number other word v.pool v.calls.call ne
 
@@ -108,6 +111,7 @@ module _ (sizes : Sizes) (words new : Words) (views : ProcessViews) (history : L
       → ¬ Contains (held_in ghosts.ledgers i) block
       → Acted sizes (call_action_at sizes (views i) stage) words new → new (Data block index) ≡ words (Data block index)
   call_leaves_data Between block index inside lb lk isnt a = absurd (between_is_no_call inside)
+  call_leaves_data Choosing block index inside lb lk isnt a = absurd (between_is_no_call inside)
   call_leaves_data Moving block index inside lb lk isnt a = transfer_steps.data_stays sizes (views i).transfer words new block index a lb lk
   call_leaves_data Own block index inside lb lk isnt a =
       others_words_stay sizes words new (views i).pool (held_in ghosts.ledgers i) (block ∷ []) (views i).calls.call
@@ -149,6 +153,7 @@ module _ (sizes : Sizes) (words new : Words) (views : ProcessViews) (history : L
       → (word : ℕ) → DataHolds sizes new (grip
       (own (history ++ entries_of (call_answer_at (views i) word stage)) i)) (known_at_stage told stage known)
   call_tells Between known told ne e inside a d tells word = absurd (between_is_no_call inside)
+  call_tells Choosing known told ne e inside a d tells word = absurd (between_is_no_call inside)
   call_tells Moving known told ne e inside a d tells word = transfer_tells known a d
   call_tells Own known told ne e inside a d tells word = rw (own_grip word ne e) (tells a)
 
@@ -202,6 +207,7 @@ word_at_stage : (sizes : Sizes) (words : Words) (v : ProcessView) (stage : CallS
     → known_at_stage (known_by_call (words (name_of (own_action v))) v.calls.call known) stage known
     ≡ known_at_stage (known_by_call (words (name_of (call_action_at sizes v stage))) v.calls.call known) stage known
 word_at_stage sizes words v Between known = refl
+word_at_stage sizes words v Choosing known = refl
 word_at_stage sizes words v Moving known = refl
 word_at_stage sizes words v Own known = refl
 

@@ -10,19 +10,19 @@ use Rattle.word_layout.specs.declared.announced.Wish.{Wish}
 use Rattle.pool_model.specs.declared.entry.Entry.{Entry}
 use Rattle.pool_model.specs.History.{own, grip}
 use Rattle.transfer_machine.specs.Stages.{is_rest}
-use Rattle.pool_machine.specs.Beginning.{alone_begun, call_begun}
-use Rattle.pool_machine.specs.Conditions.{may_call, may_use_transfers}
+use Rattle.pool_machine.specs.Beginning.{alone_begun}
+use Rattle.pool_machine.specs.Conditions.{may_use_transfers}
 use Rattle.pool_machine.specs.declared.call.Call.{Call}
 use Rattle.pool_machine.specs.declared.view.ProcessView.{ProcessView}
 use Rattle.batch_invariant.specs.Batches.{ProcessViews, MovedProcess}
 use Rattle.interleaving_core.specs.Invariant.{BlockIsHeld, MeetsInvariant}
-use Rattle.interleaving_core.specs.Moves.{may_go, calling_view, may_go_alone, moving_view}
+use Rattle.interleaving_core.specs.Moves.{may_go, started, calling_view, may_go_alone, moving_view}
 use Rattle.interleaving_core.specs.StepLaws.{TableMeets, StepIsDue, view_after, words_after, history_after, StepsKeepInvariant, CallsAreDue, CallsKeepInvariant, MovesAreDue, MovesKeepInvariant}
 use Rattle.interleaving_core.specs.Steps.{is_busy, is_in_call}
-use Rattle.interleaving_core.proofs.Begins.{alone_begins, call_begins}
+use Rattle.interleaving_core.proofs.Begins.{alone_begins, call_starts}
 use Rattle.interleaving_core.proofs.Busy.{moving_busy, calling_busy}
 use Rattle.interleaving_core.proofs.Standing.{fresh_rests, alone_between, both_first}
-use Rattle.interleaving_core.proofs.Tables.{table_step, rests, between_calls, either_may}
+use Rattle.interleaving_core.proofs.Tables.{table_step, rests}
 
 pub steps_keep_invariant : StepsKeepInvariant
 steps_keep_invariant sizes words views history i due after moved =
@@ -68,12 +68,10 @@ calling_kept : (sizes : Sizes) (words : List ℕ) (views begun : ProcessViews) (
     → TableMeets sizes words views history i
     → may_go sizes holds call (views i) ≡ true → (holds ≡ true → BlockIsHeld (grip (own history i)) call)
     → is_in_call (views i).calls.stage ≡ t
-    → MovedProcess i (if t then views i else call_begun call (views i)) views begun → MeetsInvariant sizes words begun history
+    → MovedProcess i (if t then views i else started call (views i)) views begun → MeetsInvariant sizes words begun history
 calling_kept sizes words views begun history i call holds true m may held inside moved = rw (replaced_by_itself i views begun moved) m.meets
 calling_kept sizes words views begun history i call holds false m may held inside moved =
-    call_begins sizes (word_at sizes words) views begun history i call holds m.shape m.low m.meets
-    (between_calls (views i).calls.stage inside)
-    (either_may (is_in_call (views i).calls.stage) (may_call sizes holds call (views i)) inside may) held moved
+    call_starts sizes (word_at sizes words) views begun history i call holds m.shape m.low m.meets inside may held moved
 
 pub calls_are_due : CallsAreDue
 calls_are_due sizes words views begun history i call holds m may held moved =

@@ -17,11 +17,12 @@ use Rattle.transfer_schedule.specs.Numbers.{Numbers, is_taking, after_take}
 use Rattle.transfer_schedule.specs.declared.pending.Pending.TheVariants.{Idle}
 use Rattle.transfer_machine.specs.declared.stage.NextStep.{NextStep}
 use Rattle.transfer_machine.specs.declared.stage.NextStep.TheVariants.{Rest, Announce, Try, LoadFinalState, LoadReply}
-use Rattle.pool_machine.specs.Beginning.{due, begun_if_due, call_begun}
+use Rattle.pool_machine.specs.Beginning.{due, begun_if_due, search_begun_by, search_chosen, call_begun}
+use Rattle.transfer_schedule.specs.Numbers as schedule
 use Rattle.pool_machine.specs.OwnSteps.{next_block, pool_own_met}
 use Rattle.pool_machine.specs.Pools.{view_begun, pool_met_at, pool_ended, step_counted}
 use Rattle.pool_machine.specs.declared.call.Call.{Call}
-use Rattle.pool_machine.specs.declared.call.Call.TheVariants.{Allocate, Free, Read, Write}
+use Rattle.pool_machine.specs.declared.call.Call.TheVariants.{Allocate, Free, Read, Write, Search}
 use Rattle.pool_machine.specs.declared.view.PoolView.{PoolView}
 use Rattle.pool_machine.specs.declared.view.ProcessView.{ProcessView}
 use Rattle.transfer_invariant.specs.Progress.{has_only_begun}
@@ -142,7 +143,7 @@ pub begun_dry : (wish : Wish) (v : ProcessView) → (view_begun wish v).pool.pla
 begun_dry Take v = refl
 begun_dry (Give head) v = refl
 
-due_dry : (wish : Option Wish) (v : ProcessView) → (begun_if_due wish v).pool.plan.dry ≡ v.pool.plan.dry
+pub due_dry : (wish : Option Wish) (v : ProcessView) → (begun_if_due wish v).pool.plan.dry ≡ v.pool.plan.dry
 due_dry None v = refl
 due_dry (Some wish) v = begun_dry wish v
 
@@ -151,6 +152,11 @@ called_dry Allocate v = due_dry (due v.pool) v
 called_dry (Free block) v = due_dry (due v.pool) v
 called_dry (Read block index) v = refl
 called_dry (Write block index value) v = refl
+called_dry Search v = search_dry (schedule.is_idle v.pool.plan.pending) v
+  where
+    search_dry : (t : Bool) (v : ProcessView) → (search_begun_by t v).pool.plan.dry ≡ v.pool.plan.dry
+    search_dry true v = due_dry (due v.pool) v
+    search_dry false v = refl
 
 pub few_called : (limits : Limits) (history : List Entry) (call : Call) (v : ProcessView) (ledger : Ledger)
     → TakesHadFew limits history ledger v.pool.plan
@@ -161,6 +167,7 @@ few_called limits history (Free block) v ledger h =
     few_same limits history ledger _ v.pool.plan _ refl refl refl (called_dry (Free block) v) h
 few_called limits history (Read block index) v ledger h = h
 few_called limits history (Write block index value) v ledger h = h
+few_called limits history Search v ledger h = few_same limits history ledger _ v.pool.plan _ refl refl refl (called_dry Search v) h
 
 -- the own step of a call: the plan's word stays, and the history grows
 few_allocated : (limits : Limits) (history past : List Entry) (i : ℕ) (block : Option ℕ) (ledger : Ledger) (plan after : Numbers)
@@ -179,6 +186,8 @@ few_by_call limits history past i word pool (Some (Free block)) ledger h =
     few_same limits history ledger _ pool.plan _ refl refl refl (own_same word pool (Some (Free block))).dry h
 few_by_call limits history past i word pool (Some (Read block index)) ledger h = h
 few_by_call limits history past i word pool (Some (Write block index value)) ledger h = h
+few_by_call limits history past i word pool (Some Search) ledger h =
+    few_allocated limits history past i (next_block pool) ledger pool.plan _ (own_same word pool (Some Search)).dry h
 
 pub few_owned : (limits : Limits) (history tail : List Entry) (i word : ℕ) (pool : PoolView) (call : Option Call) (ledger : Ledger)
     → TakesHadFew limits history ledger pool.plan
@@ -187,21 +196,21 @@ few_owned limits history tail i word pool call ledger h =
     few_longer limits history tail _ _ (few_by_call limits history history i word pool call ledger h)
 
 -- the ledger of a process whose transfer makes this step in a call
-call_places : (word made : ℕ) (next : NextStep) (ledger : Ledger)
-    → PlacesMove next (is_taking ledger.account.plan.pending) ledger (ledger_moved_at word made next ledger)
-call_places word made Rest ledger = record { opens = λ e. cc; found = λ e. refl; begun = λ e. refl; stays = λ e. refl; ended = λ e. cc }
-call_places word made Announce ledger = record { opens = λ e. refl; found = λ e. cc; begun = λ e. cc; stays = λ e. refl; ended = λ e. cc }
-call_places word made (Try second step) ledger =
+call_places : (word : ℕ) (next : NextStep) (ledger : Ledger)
+    → PlacesMove next (is_taking ledger.account.plan.pending) ledger (ledger_moved_at word next ledger)
+call_places word Rest ledger = record { opens = λ e. cc; found = λ e. refl; begun = λ e. refl; stays = λ e. refl; ended = λ e. cc }
+call_places word Announce ledger = record { opens = λ e. refl; found = λ e. cc; begun = λ e. cc; stays = λ e. refl; ended = λ e. cc }
+call_places word (Try second step) ledger =
     record { opens = λ e. cc; found = λ e. refl; begun = λ e. refl; stays = λ e. refl; ended = λ e. cc }
-call_places word made LoadFinalState ledger =
+call_places word LoadFinalState ledger =
     record { opens = λ e. cc; found = λ e. refl; begun = λ e. refl; stays = λ e. refl; ended = λ e. cc }
-call_places word made LoadReply ledger =
+call_places word LoadReply ledger =
     record { opens = λ e. cc; found = λ e. refl; begun = λ e. refl; stays = λ ne. absurd (ne refl); ended = λ e. refl }
 
-pub call_places_by : (taking : Bool) (word made : ℕ) (next : NextStep) (ledger : Ledger) → is_taking ledger.account.plan.pending ≡ taking
-    → PlacesMove next taking ledger (ledger_moved_at word made next ledger)
-call_places_by taking word made next ledger e =
-    subst (λ (t : Bool). PlacesMove next t ledger (ledger_moved_at word made next ledger)) e (call_places word made next ledger)
+pub call_places_by : (taking : Bool) (word : ℕ) (next : NextStep) (ledger : Ledger) → is_taking ledger.account.plan.pending ≡ taking
+    → PlacesMove next taking ledger (ledger_moved_at word next ledger)
+call_places_by taking word next ledger e =
+    subst (λ (t : Bool). PlacesMove next t ledger (ledger_moved_at word next ledger)) e (call_places word next ledger)
 
 -- the ledger of one that makes transfers alone: it keeps the places of its takes as well, and enters nothing
 abbrev pub ledger_alone : NextStep → Bool → Ledger → Ledger

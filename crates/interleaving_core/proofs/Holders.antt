@@ -14,7 +14,7 @@ use Rattle.pool_model.specs.Limits.{Limits}
 use Rattle.pool_model.proofs.Histories.{own_grip_more, own_grip_other, legal_take}
 use Rattle.pool_model.proofs.Members.{contains_head, contains_tail, contains_cons_cases, contains_nil, contains_without, without_contains}
 use Rattle.pool_machine.specs.declared.call.Call.{Call}
-use Rattle.pool_machine.specs.declared.call.Call.TheVariants.{Allocate, Free, Read, Write}
+use Rattle.pool_machine.specs.declared.call.Call.TheVariants.{Allocate, Free, Read, Write, Search}
 use Rattle.batch_invariant.specs.Batches.{ProcessViews}
 use Rattle.history_invariant.proofs.Grips.{grip_all}
 use Rattle.history_invariant.proofs.Shared.{legal_shared}
@@ -245,3 +245,4 @@ truly_held sizes history holders i Allocate fit holds = tt
 truly_held sizes history holders i (Free block) fit holds = fit.truly i block holds
 truly_held sizes history holders i (Read block index) fit holds = fit.truly i block holds
 truly_held sizes history holders i (Write block index value) fit holds = fit.truly i block holds
+truly_held sizes history holders i Search fit holds = tt

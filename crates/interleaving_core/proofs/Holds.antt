@@ -5,7 +5,7 @@ use Rattle.pool_model.specs.declared.entry.Entry.{Entry}
 use Rattle.transfer_machine.specs.Machine.{action_of, CanAct, CanMeet}
 use Rattle.pool_machine.specs.Pools.{view_met, CanCount, CanMeetPool}
 use Rattle.transfer_machine.specs.Words.{name_of}
-use Rattle.pool_machine.specs.declared.call.CallStage.TheVariants.{Between, Moving, Own}
+use Rattle.pool_machine.specs.declared.call.CallStage.TheVariants.{Between, Choosing, Moving, Own}
 use Rattle.pool_machine.specs.declared.call.Way.TheVariants.{Alone}
 use Rattle.pool_machine.specs.declared.view.ProcessView.{ProcessView}
 use Rattle.transfer_machine.specs.declared.stage.NextStep.TheVariants.{Rest}
@@ -52,6 +52,7 @@ call_stage_holds : (sizes : Sizes) (words new : Words) (views after : ProcessVie
     → Meets sizes new after
     (history ++ entries_of (call_answer_at (views i) (words (name_of (call_action_at sizes (views i) stage))) stage))
 call_stage_holds sizes words new views after history ghosts i Between shape li h calls e busy acted moved = absurd (outside busy)
+call_stage_holds sizes words new views after history ghosts i Choosing shape li h calls e busy acted moved = absurd (outside busy)
 call_stage_holds sizes words new views after history ghosts i Moving shape li h calls e busy acted moved =
     rw (append-nil history) (call_step_holds sizes words new views after history ghosts i shape li h calls e acted moved)
 call_stage_holds sizes words new views after history ghosts i Own shape li h calls e busy acted moved =
@@ -118,6 +119,7 @@ call_allowed : (sizes : Sizes) (words : Words) (views : ProcessViews) (history :
     → (views i).calls.stage ≡ stage
     → CanActCallAt sizes (views i) stage × CanMeetCallAt sizes (views i) (words (name_of (call_action_at sizes (views i) stage))) stage
 call_allowed sizes words views history ghosts i Between shape li h calls e = (tt, tt)
+call_allowed sizes words views history ghosts i Choosing shape li h calls e = (tt, tt)
 call_allowed sizes words views history ghosts i Moving shape li h calls e =
     let v = views i in
     let (act, meet) = transfer_allowed sizes words views history ghosts i shape li h in

@@ -9,9 +9,9 @@ use Rattle.transfer_machine.specs.Stages.{is_rest}
 use Rattle.pool_machine.specs.Phases.{phase_at, phase_of, waiting_in}
 use Rattle.transfer_machine.specs.Stages.{try_kind, kind_of, try_index, index_of, turn_of}
 use Rattle.pool_machine.specs.declared.call.Call.{Call}
-use Rattle.pool_machine.specs.declared.call.Call.TheVariants.{Allocate, Free, Read, Write}
+use Rattle.pool_machine.specs.declared.call.Call.TheVariants.{Allocate, Free, Read, Write, Search}
 use Rattle.pool_machine.specs.declared.call.CallStage.{CallStage}
-use Rattle.pool_machine.specs.declared.call.CallStage.TheVariants.{Between, Moving, Own}
+use Rattle.pool_machine.specs.declared.call.CallStage.TheVariants.{Between, Choosing, Moving, Own}
 use Rattle.pool_machine.specs.declared.call.Way.{Way}
 use Rattle.pool_machine.specs.declared.call.Way.TheVariants.{Fresh, Alone, Calls}
 use Rattle.transfer_machine.specs.declared.stage.NextStep.{NextStep}
@@ -33,7 +33,7 @@ use Rattle.interleaving_core.specs.LabelLaws.{AnswerFits, AnswersFit, PhaseFits,
 use Rattle.interleaving_core.specs.LabelLaws.{is_moving, WaitingFits, WaitingsFit}
 use Rattle.interleaving_core.specs.Moves.{CoreState, view_at}
 use Rattle.interleaving_core.specs.Steps.{is_alone, is_busy, is_in_call, call_kind_at, next_action, next_answer, next_kind}
-use Rattle.interleaving_core.proofs.Standing.{fresh_rests, alone_between}
+use Rattle.interleaving_core.proofs.Standing.{fresh_rests, alone_stage}
 use Rattle.interleaving_core.proofs.Runs.{RunFits}
 use Rattle.interleaving_core.proofs.CallLaws.{every_run}
 
@@ -96,11 +96,13 @@ own_fits sizes v index pool (Some Allocate) = allocate_fits sizes v index (next_
 own_fits sizes v index pool (Some (Free block)) = (block, (_, refl))
 own_fits sizes v index pool (Some (Read block place)) = (block, (place, refl))
 own_fits sizes v index pool (Some (Write block place value)) = (block, (place, (value, refl)))
+own_fits sizes v index pool (Some Search) = allocate_fits sizes v index (next_block pool)
 
 -- the step of a call, at each stage
 call_fits : (sizes : Sizes) (v : ProcessView) (stage : CallStage) → is_in_call stage ≡ true
     → KindFits sizes v.transfer (call_kind_at v stage) (index_of v.transfer.next) (call_action_at sizes v stage)
 call_fits sizes v Between inside = absurd (grind arith)
+call_fits sizes v Choosing inside = absurd (grind arith)
 call_fits sizes v Moving inside = step_fits sizes v.transfer v.transfer.next
 call_fits sizes v Own inside = own_fits sizes v.transfer (index_of v.transfer.next) v.pool v.calls.call
 
@@ -126,10 +128,12 @@ own_answers v word (Some Allocate) is e = allocate_answers v v.transfer.number (
 own_answers v word (Some (Free block)) is e = (sym e, refl)
 own_answers v word (Some (Read block place)) is e = λ some. e
 own_answers v word (Some (Write block place value)) is e = e
+own_answers v word (Some Search) is e = allocate_answers v v.transfer.number (next_block v.pool) e
 
 call_answers : (v : ProcessView) (word : ℕ) (stage : CallStage) → v.calls.stage ≡ stage → is_alone v.calls.way ≡ false
     → is_in_call stage ≡ true → AnswerFits v (call_answer_at v word stage)
 call_answers v word Between e calls inside = absurd (grind arith)
+call_answers v word Choosing e calls inside = absurd (grind arith)
 call_answers v word Moving e calls inside = rw (calls, e) refl
 call_answers v word Own e calls inside = own_answers v word v.calls.call refl (rw (calls, e) refl)
 
@@ -151,18 +155,21 @@ in_both e f = grind arith
 
 phase_fits : (sizes : Sizes) (v : ProcessView) (way : Way) (stage : CallStage) (rest : Bool) → v.calls.way ≡ way → v.calls.stage ≡ stage
     → is_rest v.transfer.next ≡ rest
-    → (way ≡ Fresh → rest ≡ true) → (way ≡ Alone → is_in_call stage ≡ false)
+    → (way ≡ Fresh → rest ≡ true) → (way ≡ Alone → stage ≡ Between)
     → PhaseFits sizes v (phase_at v stage)
 phase_fits sizes v Fresh Between true e f g fresh alone = rw (e, f, g) refl
 phase_fits sizes v Fresh Between false e f g fresh alone = absurd (in_both refl (fresh refl))
+phase_fits sizes v Fresh Choosing rest e f g fresh alone = rw (e, f) refl
 phase_fits sizes v Fresh Moving rest e f g fresh alone = (refl, rw (e, f) refl, rw (e, f) refl)
 phase_fits sizes v Fresh Own rest e f g fresh alone = (f, rw (e, f) refl, rw (e, f) refl)
 phase_fits sizes v Alone Between true e f g fresh alone = rw (e, f, g) (rw g refl)
 phase_fits sizes v Alone Between false e f g fresh alone = rw (e, f, g) (refl, rw g refl, refl)
-phase_fits sizes v Alone Moving rest e f g fresh alone = absurd (in_both (alone refl) refl)
-phase_fits sizes v Alone Own rest e f g fresh alone = absurd (in_both (alone refl) refl)
+phase_fits sizes v Alone Choosing rest e f g fresh alone = let no = alone refl in cc
+phase_fits sizes v Alone Moving rest e f g fresh alone = let no = alone refl in cc
+phase_fits sizes v Alone Own rest e f g fresh alone = let no = alone refl in cc
 phase_fits sizes v Calls Between true e f g fresh alone = rw (e, f, g) refl
 phase_fits sizes v Calls Between false e f g fresh alone = rw (e, f, g) refl
+phase_fits sizes v Calls Choosing rest e f g fresh alone = rw (e, f) refl
 phase_fits sizes v Calls Moving rest e f g fresh alone = (refl, rw (e, f) refl, rw (e, f) refl)
 phase_fits sizes v Calls Own rest e f g fresh alone = (f, rw (e, f) refl, rw (e, f) refl)
 
@@ -172,7 +179,7 @@ phases_here history s fits i li =
     let v = view_at s i in
     phase_fits s.sizes v v.calls.way v.calls.stage (is_rest v.transfer.next) refl refl refl
     (fresh_rests s.sizes (word_at s.sizes s.words) (view_at s) history i li fits.meets)
-    (alone_between s.sizes (word_at s.sizes s.words) (view_at s) history i li fits.meets)
+    (alone_stage s.sizes (word_at s.sizes s.words) (view_at s) history i li fits.meets)
 
 pub phases_fit : PhasesFit
 phases_fit = every_run _ phases_here

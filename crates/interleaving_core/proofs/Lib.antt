@@ -35,10 +35,10 @@ pub mod CallLawsKept
 pub mod StateLaws
 pub mod CallLaws
 pub mod CallLawsShort
-pub mod CallLawsData
 pub mod CallLawsPending
 pub mod CallLawsTurns
 pub mod CallLawsAges
+pub mod CallLawsData
 pub mod MovingBegins
 pub mod MovingAnswers
 pub mod Labels

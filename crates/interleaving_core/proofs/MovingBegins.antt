@@ -58,7 +58,7 @@ call_begins s i call stands young names =
     let v = view_at s i in
     let fits = both_are (is_young_for call v) (names_fit s.sizes (holds_for s.holders i call) call) young names in
     let may = both_are (may_use_calls v.calls.way) _ (uses_calls v.calls.way stands.way) fits in
-    both_are (nat_lt i s.sizes.processes) _ (is_less i s.sizes.processes stands.low) (second_is (is_in_call v.calls.stage) _ may)
+    both_are (nat_lt i s.sizes.processes) _ (is_less i s.sizes.processes stands.low) (rw stands.between may)
 
 allocates_here : (history : List Entry) (s : CoreState) → RunFits s history → (i : ℕ) → StandsBetween s.sizes i s
     → (view_at s i).transfer.age < most_age

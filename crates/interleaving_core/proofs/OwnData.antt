@@ -10,7 +10,7 @@ use Rattle.transfer_machine.specs.Words.{name_of}
 use Rattle.transfer_machine.specs.declared.action.Action.{Action}
 use Rattle.transfer_machine.specs.declared.action.Action.TheVariants.{Load, Store}
 use Rattle.pool_machine.specs.declared.call.Call.{Call}
-use Rattle.pool_machine.specs.declared.call.Call.TheVariants.{Allocate, Free, Read, Write}
+use Rattle.pool_machine.specs.declared.call.Call.TheVariants.{Allocate, Free, Read, Write, Search}
 use Rattle.pool_machine.specs.declared.view.PoolView.{PoolView}
 use Rattle.transfer_invariant.specs.Memory.{Words, Acted}
 use Rattle.pool_machine.specs.OwnSteps.{next_block, allocate_action, own_action_for}
@@ -131,6 +131,8 @@ others_words_stay sizes words new pool held others (Some (Read block index)) low
 others_words_stay sizes words new pool held others (Some (Write block index value)) low apart names a =
     acts_apart sizes (Store (Data block index) value) words new others low
     (λ b k has. λ e. apart block names.0 (rw (sym (same_block b k block index e)) has)) a
+others_words_stay sizes words new pool held others (Some Search) low apart names a =
+    allocate_apart sizes words new others (next_block pool) low a
 
 -- a process that loaded or stored a data word knows it
 knows_word : (sizes : Sizes) (words new : Words) (held : List ℕ) (known : Known) (block index seen : ℕ) → DataHolds sizes words held known
@@ -187,6 +189,9 @@ own_data sizes words new pool held known (Some (Read block index)) low names a h
 own_data sizes words new pool held known (Some (Write block index value)) low names a h =
     knows_word sizes words new held known block index value h names.0 names.1 a.here
     (λ b k has lt apart. stored_elsewhere sizes block index value words new b k (low b has) lt apart a)
+own_data sizes words new pool held known (Some Search) low names a h =
+    data_stays sizes words new held (with_got (next_block pool) held) known h (allocate_apart sizes words new held (next_block pool) low a)
+    (λ b has. got_too (next_block pool) held b has)
 
 -- and so it does where it doesn't note a word that it read
 pub own_data_unread : (sizes : Sizes) (words new : Words) (pool : PoolView) (held : List ℕ) (known : Known) (call : Option Call) → HeldAreLow sizes held
@@ -200,3 +205,4 @@ own_data_unread sizes words new pool held known (Some (Read block index)) low na
     data_stays sizes words new held held known h (loads_data sizes block index words new held low a) (λ b has. has)
 own_data_unread sizes words new pool held known (Some (Write block index value)) low names a h =
     own_data sizes words new pool held known (Some (Write block index value)) low names a h
+own_data_unread sizes words new pool held known (Some Search) low names a h = own_data sizes words new pool held known (Some Search) low names a h

@@ -11,7 +11,7 @@ use Rattle.transfer_machine.specs.Words.{name_of}
 use Rattle.transfer_machine.specs.declared.action.Action.{Action}
 use Rattle.transfer_machine.specs.declared.action.Action.TheVariants.{Load, Store}
 use Rattle.pool_machine.specs.declared.call.Call.{Call}
-use Rattle.pool_machine.specs.declared.call.Call.TheVariants.{Allocate, Free, Read, Write}
+use Rattle.pool_machine.specs.declared.call.Call.TheVariants.{Allocate, Free, Read, Write, Search}
 use Rattle.pool_machine.specs.declared.view.PoolView.{PoolView}
 use Rattle.transfer_invariant.specs.Memory.{Words, Acted, is_stack_word}
 use Rattle.pool_machine.specs.OwnSteps.{next_block, allocate_action, own_action_for}
@@ -32,6 +32,7 @@ ledger_by_call history i pool (Some Allocate) ledger = ledger_allocated history 
 ledger_by_call history i pool (Some (Free block)) ledger = entered history (Back i block) (gave_back ledger.account) ledger
 ledger_by_call history i pool (Some (Read block index)) ledger = ledger
 ledger_by_call history i pool (Some (Write block index value)) ledger = ledger
+ledger_by_call history i pool (Some Search) ledger = ledger_allocated history i (next_block pool) ledger
 
 -- the blocks that its process then holds
 allocated_grip : (history : List Entry) (i : ℕ) (block : Option ℕ) (ledger : Ledger)
@@ -46,6 +47,7 @@ grip_by_call history i pool (Some Allocate) ledger = allocated_grip history i (n
 grip_by_call history i pool (Some (Free block)) ledger = grip_more ledger.entries (Back i block)
 grip_by_call history i pool (Some (Read block index)) ledger = refl
 grip_by_call history i pool (Some (Write block index value)) ledger = refl
+grip_by_call history i pool (Some Search) ledger = allocated_grip history i (next_block pool) ledger
 
 -- what its take is known to have found stays
 allocated_finds : (history : List Entry) (i : ℕ) (block : Option ℕ) (ledger : Ledger)
@@ -60,6 +62,7 @@ finds_by_call history i pool (Some Allocate) ledger = allocated_finds history i 
 finds_by_call history i pool (Some (Free block)) ledger = refl
 finds_by_call history i pool (Some (Read block index)) ledger = refl
 finds_by_call history i pool (Some (Write block index value)) ledger = refl
+finds_by_call history i pool (Some Search) ledger = allocated_finds history i (next_block pool) ledger
 
 -- an own step leaves all words that the invariant of the stack speaks of
 differs : (name other : WordName) → is_stack_word name ≡ true → is_stack_word other ≡ false → name ≢ other
@@ -90,3 +93,4 @@ own_leaves_stack sizes words new pool (Some (Free block)) a = acts_on_other size
 own_leaves_stack sizes words new pool (Some (Read block index)) a = acts_on_other sizes (Load (Data block index)) words new refl a
 own_leaves_stack sizes words new pool (Some (Write block index value)) a =
     acts_on_other sizes (Store (Data block index) value) words new refl a
+own_leaves_stack sizes words new pool (Some Search) a = allocate_leaves_stack sizes words new (next_block pool) a

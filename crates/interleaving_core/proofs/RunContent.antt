@@ -13,9 +13,9 @@ use Rattle.transfer_machine.specs.States.{StackState}
 use Rattle.transfer_machine.specs.Words.{met_word, name_of}
 use Rattle.transfer_machine.specs.declared.action.Action.{Action}
 use Rattle.pool_machine.specs.declared.call.Call.{Call}
-use Rattle.pool_machine.specs.declared.call.Call.TheVariants.{Allocate, Free, Read, Write}
+use Rattle.pool_machine.specs.declared.call.Call.TheVariants.{Allocate, Free, Read, Write, Search}
 use Rattle.pool_machine.specs.declared.call.CallStage.{CallStage}
-use Rattle.pool_machine.specs.declared.call.CallStage.TheVariants.{Between, Moving, Own}
+use Rattle.pool_machine.specs.declared.call.CallStage.TheVariants.{Between, Choosing, Moving, Own}
 use Rattle.transfer_machine.specs.declared.transfer.TransferView.{TransferView}
 use Rattle.pool_machine.specs.declared.view.ProcessView.{ProcessView}
 use Rattle.transfer_machine.specs.Stages.{is_rest}
@@ -26,10 +26,11 @@ use Rattle.stack_invariant.proofs.Keeps.{steps_keep_stack}
 use Rattle.stack_invariant.proofs.OtherWords.{StackWordsStay, records_stay}
 use Rattle.batch_invariant.specs.Batches.{ProcessViews, MovedProcess}
 use Rattle.batch_invariant.proofs.Steps.{transfers_move}
-use Rattle.pool_machine.specs.Beginning.{due, begun_if_due, alone_begun, call_begun}
+use Rattle.pool_machine.specs.Beginning.{due, begun_if_due, alone_begun, search_begun_by, call_begun}
 use Rattle.pool_machine.specs.OwnSteps.{own_action}
 use Rattle.interleaving_core.specs.Invariant.{Ghosts, Holds}
-use Rattle.interleaving_core.specs.Moves.{CoreState, view_at, with_step}
+use Rattle.interleaving_core.specs.Moves.{CoreState, view_at, with_step, started_at, started}
+use Rattle.transfer_schedule.specs.Numbers.{is_idle}
 use Rattle.interleaving_core.specs.Runs.{Turn, Moves, Events, by_of, is_made, turning_view}
 use Rattle.interleaving_core.specs.Steps.{is_alone, is_busy, is_in_call, next_action, next_met}
 use Rattle.interleaving_core.specs.TransferLaws.{next_step, announced_count, moves_transfer, ShowsState, LeavesContent, AppliesPending}
@@ -53,13 +54,28 @@ moving_exchanges : (wish : Wish) (v : ProcessView) (t : Bool) → IsExchange (if
 moving_exchanges wish v true (second, e) = grind arith
 moving_exchanges wish v false at = at
 
-calling_exchanges : (call : Call) (v : ProcessView) (t : Bool) → IsExchange (if t then v else call_begun call v).transfer.next
+search_exchanges : (t : Bool) (v : ProcessView) → IsExchange (search_begun_by t v).transfer.next → IsExchange v.transfer.next
+search_exchanges true v at = due_exchanges (due v.pool) v at
+search_exchanges false v at = at
+
+begun_exchanges : (call : Call) (v : ProcessView) → IsExchange (call_begun call v).transfer.next → IsExchange v.transfer.next
+begun_exchanges Allocate v at = due_exchanges (due v.pool) v at
+begun_exchanges (Free block) v at = due_exchanges (due v.pool) v at
+begun_exchanges (Read block index) v at = at
+begun_exchanges (Write block index value) v at = at
+begun_exchanges Search v at = search_exchanges (is_idle v.pool.plan.pending) v at
+
+started_exchanges : (call : Call) (v : ProcessView) (stage : CallStage) → IsExchange (started_at stage call v).transfer.next
+    → IsExchange v.transfer.next
+started_exchanges call v Between at = begun_exchanges call v at
+started_exchanges call v Choosing at = due_exchanges (due v.pool) v at
+started_exchanges call v Moving at = begun_exchanges call v at
+started_exchanges call v Own at = begun_exchanges call v at
+
+calling_exchanges : (call : Call) (v : ProcessView) (t : Bool) → IsExchange (if t then v else started call v).transfer.next
     → IsExchange v.transfer.next
 calling_exchanges call v true at = at
-calling_exchanges Allocate v false at = due_exchanges (due v.pool) v at
-calling_exchanges (Free block) v false at = due_exchanges (due v.pool) v at
-calling_exchanges (Read block index) v false at = at
-calling_exchanges (Write block index value) v false at = at
+calling_exchanges call v false at = started_exchanges call v v.calls.stage at
 
 turning_exchanges : (turn : Turn) (s : CoreState) → IsExchange (turning_view turn s).transfer.next → IsExchange (next_step s (by_of turn))
 turning_exchanges (Moves by wish) s at = moving_exchanges wish (view_at s by) (is_rest (view_at s by).transfer.next) at
@@ -73,12 +89,26 @@ moving_age : (wish : Wish) (v : ProcessView) (t : Bool) → (if t then alone_beg
 moving_age wish v true = refl
 moving_age wish v false = refl
 
-calling_age : (call : Call) (v : ProcessView) (t : Bool) → (if t then v else call_begun call v).transfer.age ≡ v.transfer.age
+search_age : (t : Bool) (v : ProcessView) → (search_begun_by t v).transfer.age ≡ v.transfer.age
+search_age true v = due_age (due v.pool) v
+search_age false v = refl
+
+begun_age : (call : Call) (v : ProcessView) → (call_begun call v).transfer.age ≡ v.transfer.age
+begun_age Allocate v = due_age (due v.pool) v
+begun_age (Free block) v = due_age (due v.pool) v
+begun_age (Read block index) v = refl
+begun_age (Write block index value) v = refl
+begun_age Search v = search_age (is_idle v.pool.plan.pending) v
+
+started_age : (call : Call) (v : ProcessView) (stage : CallStage) → (started_at stage call v).transfer.age ≡ v.transfer.age
+started_age call v Between = begun_age call v
+started_age call v Choosing = due_age (due v.pool) v
+started_age call v Moving = begun_age call v
+started_age call v Own = begun_age call v
+
+calling_age : (call : Call) (v : ProcessView) (t : Bool) → (if t then v else started call v).transfer.age ≡ v.transfer.age
 calling_age call v true = refl
-calling_age Allocate v false = due_age (due v.pool) v
-calling_age (Free block) v false = due_age (due v.pool) v
-calling_age (Read block index) v false = refl
-calling_age (Write block index value) v false = refl
+calling_age call v false = started_age call v v.calls.stage
 
 turning_age : (turn : Turn) (s : CoreState) → (turning_view turn s).transfer.age ≡ announced_count s (by_of turn)
 turning_age (Moves by wish) s = moving_age wish (view_at s by) (is_rest (view_at s by).transfer.next)
@@ -97,6 +127,7 @@ pub moves_action : (sizes : Sizes) (v : ProcessView) (t : Bool) (stage : CallSta
     → moves_transfer v ≡ true → next_action sizes v ≡ action_of sizes v.transfer
 moves_action sizes v true stage alone here moves = rw alone refl
 moves_action sizes v false Between alone here moves = absurd (false≢true (rw (alone, here) at moves))
+moves_action sizes v false Choosing alone here moves = absurd (false≢true (rw (alone, here) at moves))
 moves_action sizes v false Moving alone here moves = rw (alone, here) refl
 moves_action sizes v false Own alone here moves = absurd (false≢true (rw (alone, here) at moves))
 
@@ -104,6 +135,7 @@ pub moves_met : (sizes : Sizes) (v : ProcessView) (word : ℕ) (t : Bool) (stage
     → moves_transfer v ≡ true → (next_met sizes v word).transfer ≡ met_of sizes v.transfer word
 moves_met sizes v word true stage alone here moves = rw alone refl
 moves_met sizes v word false Between alone here moves = absurd (false≢true (rw (alone, here) at moves))
+moves_met sizes v word false Choosing alone here moves = absurd (false≢true (rw (alone, here) at moves))
 moves_met sizes v word false Moving alone here moves = rw (alone, here) refl
 moves_met sizes v word false Own alone here moves = absurd (false≢true (rw (alone, here) at moves))
 
@@ -111,6 +143,7 @@ own_acts : (sizes : Sizes) (v : ProcessView) (t : Bool) (stage : CallStage) → 
     → is_busy v ≡ true → moves_transfer v ≡ false → next_action sizes v ≡ own_action v
 own_acts sizes v true stage alone here busy not = absurd (false≢true (sym (rw alone at not)))
 own_acts sizes v false Between alone here busy not = absurd (false≢true (rw (alone, here) at busy))
+own_acts sizes v false Choosing alone here busy not = absurd (false≢true (rw (alone, here) at busy))
 own_acts sizes v false Moving alone here busy not = absurd (false≢true (sym (rw (alone, here) at not)))
 own_acts sizes v false Own alone here busy not = rw (alone, here) refl
 
@@ -118,6 +151,7 @@ own_leaves : (sizes : Sizes) (v : ProcessView) (word : ℕ) (t : Bool) (stage : 
     → is_busy v ≡ true → moves_transfer v ≡ false → (next_met sizes v word).transfer ≡ v.transfer
 own_leaves sizes v word true stage alone here busy not = absurd (false≢true (sym (rw alone at not)))
 own_leaves sizes v word false Between alone here busy not = absurd (false≢true (rw (alone, here) at busy))
+own_leaves sizes v word false Choosing alone here busy not = absurd (false≢true (rw (alone, here) at busy))
 own_leaves sizes v word false Moving alone here busy not = absurd (false≢true (sym (rw (alone, here) at not)))
 own_leaves sizes v word false Own alone here busy not = rw (alone, here) refl
 

@@ -13,16 +13,16 @@ use Rattle.transfer_machine.specs.Machine.{met_at}
 use Rattle.pool_machine.specs.Pools.{opening_view, pool_met_at, view_begun}
 use Rattle.transfer_machine.specs.Words.{met_word}
 use Rattle.pool_machine.specs.declared.call.Call.{Call}
-use Rattle.pool_machine.specs.declared.call.Call.TheVariants.{Allocate, Free, Read, Write}
+use Rattle.pool_machine.specs.declared.call.Call.TheVariants.{Allocate, Free, Read, Write, Search}
 use Rattle.pool_machine.specs.declared.call.CallStage.{CallStage}
-use Rattle.pool_machine.specs.declared.call.CallStage.TheVariants.{Between, Moving, Own}
+use Rattle.pool_machine.specs.declared.call.CallStage.TheVariants.{Between, Choosing, Moving, Own}
 use Rattle.pool_machine.specs.declared.call.Way.{Way}
 use Rattle.pool_machine.specs.declared.call.Way.TheVariants.{Alone}
 use Rattle.pool_machine.specs.declared.view.ProcessView.{ProcessView}
 use Rattle.transfer_machine.specs.declared.stage.NextStep.{NextStep}
 use Rattle.transfer_machine.specs.declared.stage.NextStep.TheVariants.{Rest, Announce, LoadFinalState, LoadReply, Try}
 use Rattle.transfer_machine.specs.Stages.{is_rest}
-use Rattle.pool_machine.specs.Beginning.{due, begun_if_due, alone_begun, call_begun}
+use Rattle.pool_machine.specs.Beginning.{due, begun_if_due, alone_begun, search_begun_by, call_begun}
 use Rattle.pool_machine.specs.Steps.{call_met_at}
 use Rattle.transfer_invariant.specs.Progress.{is_moving}
 use Rattle.pool_invariant.specs.StepCount.{OverlayIsFew}
@@ -31,7 +31,8 @@ use Rattle.pool_invariant.proofs.Ending.{step_left}
 use Rattle.history_invariant.specs.Ledger.{Ledger}
 use Rattle.call_invariant.specs.Uses.{UsesPool}
 use Rattle.call_invariant.proofs.Uses.{calls_used, due_begins}
-use Rattle.interleaving_core.specs.Moves.{CoreState, view_at, with_step}
+use Rattle.interleaving_core.specs.Moves.{CoreState, view_at, with_step, started_at, started}
+use Rattle.transfer_schedule.specs.Numbers.{is_idle}
 use Rattle.interleaving_core.specs.Runs.{Turn, Moves, Events, by_of, is_made, turning_view, after_turn}
 use Rattle.interleaving_core.specs.Steps.{is_alone, is_busy, is_in_call, next_action, next_met}
 use Rattle.interleaving_core.specs.TransferLaws.{rests, steps_made, moves_at, moves_transfer, is_step_of, StepsBounded, TransfersAreBounded}
@@ -48,7 +49,7 @@ moves_unless_rest s h = grind arith
 still_at_rest : (s : NextStep) → is_rest s ≡ true → is_moving s ≡ false
 still_at_rest s h = grind arith
 
-isnt_rest : (s : NextStep) → s ≢ Rest → is_rest s ≡ false
+pub isnt_rest : (s : NextStep) → s ≢ Rest → is_rest s ≡ false
 isnt_rest s h = grind arith
 
 -- the steps of a process are bounded
@@ -56,7 +57,7 @@ most_of : (t : Bool) (steps bound : ℕ) → (t ≡ false → steps + 1 ≤ boun
 most_of true steps bound left none = omega (arith, none refl)
 most_of false steps bound left none = omega (arith, left refl)
 
-left_of : (sizes : Sizes) (v : ProcessView) → PoolRuns sizes v → OverlayIsFew sizes v.transfer → is_rest v.transfer.next ≡ false
+pub left_of : (sizes : Sizes) (v : ProcessView) → PoolRuns sizes v → OverlayIsFew sizes v.transfer → is_rest v.transfer.next ≡ false
     → v.pool.plan.done + 1 ≤ transfer_bound sizes
 left_of sizes v runs few busy =
     let counted = runs.counted (moves_unless_rest v.transfer.next busy) in
@@ -77,7 +78,7 @@ pub transfers_are_bounded : TransfersAreBounded
 transfers_are_bounded sizes past history s i run li = bounded s history i (run_fits sizes past history s run) li
 
 -- each step of a transfer is counted, but the last
-step_counts : (sizes : Sizes) (v : ProcessView) (word : ℕ) (s : NextStep) → is_rest s ≡ false
+pub step_counts : (sizes : Sizes) (v : ProcessView) (word : ℕ) (s : NextStep) → is_rest s ≡ false
     → is_rest (met_at sizes v.transfer word s).next ≡ false → (pool_met_at word v.pool s).plan.done ≡ v.pool.plan.done + 1
 step_counts sizes v word Rest busy goes = grind arith
 step_counts sizes v word Announce busy goes = refl
@@ -93,6 +94,7 @@ stage_counts : (sizes : Sizes) (v : ProcessView) (word : ℕ) (stage : CallStage
     → is_rest (call_met_at sizes v word stage).transfer.next ≡ false
     → (call_met_at sizes v word stage).pool.plan.done ≡ v.pool.plan.done + (if moves_at stage then 1 else 0)
 stage_counts sizes v word Between busy goes = plus_none v.pool.plan.done
+stage_counts sizes v word Choosing busy goes = plus_none v.pool.plan.done
 stage_counts sizes v word Moving busy goes = step_counts sizes v word v.transfer.next (busy refl) goes
 stage_counts sizes v word Own busy goes = (own_same word v.pool v.calls.call).done ∙ plus_none v.pool.plan.done
 
@@ -149,6 +151,19 @@ call_steps Allocate v none = due_steps (due v.pool) v none
 call_steps (Free block) v none = due_steps (due v.pool) v none
 call_steps (Read block index) v none = refl
 call_steps (Write block index value) v none = refl
+call_steps Search v none = search_steps (is_idle v.pool.plan.pending) v none
+  where
+    search_steps : (t : Bool) (v : ProcessView) → ((w : Wish) → due v.pool ≡ Some w → v.pool.plan.done ≡ 0)
+        → (search_begun_by t v).pool.plan.done ≡ v.pool.plan.done
+    search_steps true v none = due_steps (due v.pool) v none
+    search_steps false v none = refl
+
+pub started_steps : (call : Call) (v : ProcessView) (stage : CallStage) → ((w : Wish) → due v.pool ≡ Some w → v.pool.plan.done ≡ 0)
+    → (started_at stage call v).pool.plan.done ≡ v.pool.plan.done
+started_steps call v Between none = call_steps call v none
+started_steps call v Choosing none = due_steps (due v.pool) v none
+started_steps call v Moving none = call_steps call v none
+started_steps call v Own none = call_steps call v none
 
 moving_steps : (wish : Wish) (v : ProcessView) (t : Bool) → (t ≡ true → v.pool.plan.done ≡ 0)
     → (if t then alone_begun wish v else v).pool.plan.done ≡ v.pool.plan.done
@@ -156,9 +171,9 @@ moving_steps wish v true none = begun_steps wish v (none refl)
 moving_steps wish v false none = refl
 
 calling_steps : (call : Call) (v : ProcessView) (t : Bool) → ((w : Wish) → due v.pool ≡ Some w → v.pool.plan.done ≡ 0)
-    → (if t then v else call_begun call v).pool.plan.done ≡ v.pool.plan.done
+    → (if t then v else started call v).pool.plan.done ≡ v.pool.plan.done
 calling_steps call v true none = refl
-calling_steps call v false none = call_steps call v none
+calling_steps call v false none = started_steps call v v.calls.stage none
 
 turning_steps : (s : CoreState) (history : List Entry) (turn : Turn) → RunFits s history → is_made turn s ≡ true
     → (turning_view turn s).pool.plan.done ≡ steps_made s (by_of turn)

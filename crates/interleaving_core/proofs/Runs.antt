@@ -17,23 +17,23 @@ use Rattle.transfer_machine.specs.Stages.{is_rest}
 use Rattle.pool_machine.specs.declared.call.Call.{Call}
 use Rattle.pool_machine.specs.declared.view.ProcessView.{ProcessView}
 use Rattle.batch_invariant.specs.Batches.{ProcessViews, MovedProcess}
-use Rattle.pool_machine.specs.Beginning.{alone_begun, call_begun}
-use Rattle.pool_machine.specs.Conditions.{may_use_transfers, may_call}
+use Rattle.pool_machine.specs.Beginning.{alone_begun}
+use Rattle.pool_machine.specs.Conditions.{may_use_transfers}
 use Rattle.pool_machine.specs.declared.event.Happened.{Happened}
 use Rattle.pool_machine.specs.declared.event.Happened.TheVariants.{Ignored}
 use Rattle.interleaving_core.specs.Turned.{Turned}
 use Rattle.interleaving_core.specs.Invariant.{MeetsInvariant, IsAmong, IsAmongHolding, with_view}
 use Rattle.interleaving_core.specs.Steps.{is_busy, is_in_call, next_action, next_met}
-use Rattle.interleaving_core.specs.Moves.{CoreState, view_at, may_go_alone, moving_view, holds_for, may_go, calling_view, step_answer}
+use Rattle.interleaving_core.specs.Moves.{CoreState, view_at, may_go_alone, moving_view, holds_for, may_go, started, calling_view, step_answer}
 use Rattle.interleaving_core.specs.Moves.{holder_of, with_step, holders_after}
 use Rattle.interleaving_core.specs.Runs.{Turn, Moves, Events, IsRun, opens, turns, opening_views, opened, by_of, is_made, turning_view}
 use Rattle.interleaving_core.specs.Runs.{after_turn, turn_answer, entries_of}
 use Rattle.interleaving_core.proofs.Holders.{HoldersFit, opened_holders, step_holders, truly_held}
-use Rattle.interleaving_core.proofs.Begins.{alone_begins, call_begins}
+use Rattle.interleaving_core.proofs.Begins.{alone_begins, call_starts}
 use Rattle.interleaving_core.proofs.Busy.{moving_busy, calling_busy}
 use Rattle.interleaving_core.proofs.Opens.{opening_holds}
 use Rattle.interleaving_core.proofs.Standing.{number_holds, fresh_rests, alone_between}
-use Rattle.interleaving_core.proofs.Tables.{acted_length, table_step, with_view_here, rests, between_calls, either_may}
+use Rattle.interleaving_core.proofs.Tables.{acted_length, table_step, with_view_here, rests}
 
 -- the words and views at the end of a run are those of the shape, and meet the invariant
 pub record RunFits (s : CoreState) (history : List Entry) : Type 0 where
@@ -123,14 +123,13 @@ moving_meets s history i wish false fits li may rest = rw (set-get_or s.views i 
 calling_meets : (s : CoreState) (history : List Entry) (i : ℕ) (call : Call) (t : Bool) → RunFits s history → i < s.sizes.processes
     → may_go s.sizes (holds_for s.holders i call) call (view_at s i) ≡ true → is_in_call (view_at s i).calls.stage ≡ t
     → MeetsInvariant s.sizes s.words
-    (λ o. get_or (set s.views i (if t then view_at s i else call_begun call (view_at s i))) o (opening_view s.sizes o)) history
+    (λ o. get_or (set s.views i (if t then view_at s i else started call (view_at s i))) o (opening_view s.sizes o)) history
 calling_meets s history i call true fits li may inside = rw (set-get_or s.views i (opening_view s.sizes i)) fits.meets
 calling_meets s history i call false fits li may inside =
     let v = view_at s i in
-    let calls = either_may (is_in_call v.calls.stage) (may_call s.sizes (holds_for s.holders i call) call v) inside may in
-    call_begins s.sizes (word_at s.sizes s.words) (view_at s) _ history i call (holds_for s.holders i call) fits.shape li fits.meets
-    (between_calls v.calls.stage inside) calls
-    (truly_held s.sizes history s.holders i call fits.holders) (moved_seats s.sizes s.views i (call_begun call v) (rw fits.seats li))
+    call_starts s.sizes (word_at s.sizes s.words) (view_at s) _ history i call (holds_for s.holders i call) fits.shape li fits.meets
+    inside may
+    (truly_held s.sizes history s.holders i call fits.holders) (moved_seats s.sizes s.views i (started call v) (rw fits.seats li))
 
 pub turn_meets : (s : CoreState) (history : List Entry) (turn : Turn) → RunFits s history → is_made turn s ≡ true
     → by_of turn < s.sizes.processes

@@ -11,7 +11,8 @@ use Rattle.transfer_schedule.specs.Beginning.{few_spares}
 use Rattle.transfer_schedule.specs.declared.pending.Pending.TheVariants.{Idle}
 use Rattle.pool_machine.specs.Pools.{MayBegin}
 use Rattle.pool_machine.specs.declared.call.Call.{Call}
-use Rattle.pool_machine.specs.declared.call.Call.TheVariants.{Allocate, Free, Read, Write}
+use Rattle.pool_machine.specs.declared.call.Call.TheVariants.{Allocate, Free, Read, Write, Search}
+use Rattle.pool_machine.specs.declared.call.CallStage.TheVariants.{Between}
 use Rattle.pool_machine.specs.declared.call.Way.{Way}
 use Rattle.pool_machine.specs.declared.call.Way.TheVariants.{Fresh, Alone, Calls}
 use Rattle.pool_machine.specs.declared.view.ProcessView.{ProcessView}
@@ -60,6 +61,11 @@ pub alone_between : (sizes : Sizes) (words : Words) (views : ProcessViews) (hist
     → is_in_call (views i).calls.stage ≡ false
 alone_between sizes words views history i li (ghosts, h) alone =
     ap is_in_call (transfers_used sizes i (views i) (ghosts.ledgers i) (views i).calls.way alone (h.pools i li)).stage
+
+pub alone_stage : (sizes : Sizes) (words : Words) (views : ProcessViews) (history : List Entry) (i : ℕ) → i < sizes.processes
+    → Meets sizes words views history → (views i).calls.way ≡ Alone → (views i).calls.stage ≡ Between
+alone_stage sizes words views history i li (ghosts, h) alone =
+    (transfers_used sizes i (views i) (ghosts.ledgers i) (views i).calls.way alone (h.pools i li)).stage
 
 -- a process at rest has nothing pending
 pub rests_idle : (sizes : Sizes) (words : Words) (views : ProcessViews) (history : List Entry) (i : ℕ) → IsShape sizes → i < sizes.processes
@@ -139,6 +145,7 @@ young_by Allocate v e = less v.transfer.age most_age e
 young_by (Free block) v e = less v.transfer.age most_age e
 young_by (Read block index) v e = tt
 young_by (Write block index value) v e = tt
+young_by Search v e = less v.transfer.age most_age e
 
 pub call_young : (sizes : Sizes) (holds : Bool) (call : Call) (v : ProcessView) → may_call sizes holds call v ≡ true → IsYoungFor call v
 call_young sizes holds call v may =

@@ -15,6 +15,15 @@ use Rattle.transfer_schedule.specs.declared.own_step.Source.TheVariants as sourc
 use Rattle.transfer_schedule.proofs.Products.{times_le}
 use Rattle.transfer_schedule.proofs.Reaching.{reached_stands, stands_gives}
 use Rattle.transfer_schedule.proofs.Stock.{nothing_stock}
+use Rattle.std.specs.Prelude.{Option, None, Some}
+use Rattle.transfer_schedule.specs.Laws.{serves}
+use Rattle.pool_machine.specs.Steps.{is_paced}
+use Rattle.pool_machine.specs.declared.call.Call.{Call}
+use Rattle.pool_machine.specs.declared.call.Call.TheVariants.{Allocate, Free, Read, Write, Search}
+use Rattle.pool_machine.specs.declared.call.CallStage.{CallStage}
+use Rattle.pool_machine.specs.declared.call.CallStage.TheVariants.{Between, Choosing, Moving, Own}
+use Rattle.pool_machine.specs.declared.call.CallView.{CallView}
+use Rattle.call_invariant.specs.Phases.{own_phase, moving_phase, call_phase_at}
 use Rattle.pool_machine.specs.declared.call.Way.{Way}
 use Rattle.pool_machine.specs.declared.call.Way.TheVariants.{Fresh, Alone, Calls}
 use Rattle.pool_machine.specs.declared.view.ProcessView.{ProcessView}
@@ -116,12 +125,31 @@ giving_is Giving e = refl
 more_than_none : (l n : ℕ) → l < n → 0 < n
 more_than_none l n lt = omega (arith, lt)
 
+-- each phase of a call keeps the pool in stock
+call_serves : (calls : CallView) (stage : CallStage) → serves (call_phase_at calls stage) ≡ true
+call_serves calls Between = refl
+call_serves calls Choosing = refl
+call_serves calls Moving = moving_serves (is_paced calls.call) calls.chosen calls.steps
+  where
+    moving_serves : (paced chosen : Bool) (steps : ℕ) → serves (moving_phase paced chosen steps) ≡ true
+    moving_serves true chosen steps = refl
+    moving_serves false chosen steps = refl
+call_serves calls Own = own_serves calls.call
+  where
+    own_serves : (call : Option Call) → serves (own_phase call) ≡ true
+    own_serves None = refl
+    own_serves (Some Allocate) = refl
+    own_serves (Some (Free block)) = refl
+    own_serves (Some (Read block index)) = refl
+    own_serves (Some (Write block index value)) = refl
+    own_serves (Some Search) = refl
+
 in_calls_gives : (sizes : Sizes) (i : ℕ) (v : ProcessView) (g : Ledger) → InCalls sizes i v g → Scheduled sizes g.account
     → is_giving v.pool.plan.pending ≡ true → 0 < stock v.pool.plan
 in_calls_gives sizes i v g h s giving =
     let stands = reached_stands sizes.length (transfer_bound sizes) sizes.quantum g.account s.fit s.reached in
     let pending = ap (λ p. p.pending) h.plan ∙ giving_is v.pool.plan.pending giving in
-    subst (λ (p : Numbers). 0 < stock p) h.plan (more_than_none _ _ (stands_gives g.account stands pending))
+    subst (λ (p : Numbers). 0 < stock p) h.plan (more_than_none _ _ (stands_gives g.account stands (rw h.phase (call_serves v.calls v.calls.stage)) pending))
 
 alone_has : (sizes : Sizes) (i : ℕ) (v : ProcessView) (g : Ledger) → InTransfers sizes i v g → 2 ≤ sizes.length → 0 < stock v.pool.plan
 alone_has sizes i v g h long = let full = h.pool.alone.full.full in omega (arith, full, long)

@@ -4,11 +4,11 @@ use Rattle.std.specs.Prelude.{if◌then◌else◌, ◌||◌}
 use Rattle.std.proofs.lemmas.Bool.Decides.{nat_tests}
 use Rattle.word_layout.specs.Sizes.{Sizes, IsShape}
 use Rattle.word_layout.specs.Names.{InRange, table_words, word_at, set_word, place}
-use Rattle.word_layout.specs.Packing.{FitsWish}
+use Rattle.word_layout.specs.Packing.{FitsWish, most_age}
 use Rattle.word_layout.specs.declared.announced.Wish.{Wish}
 use Rattle.word_layout.proofs.Placed.{word_at-set_word_same, word_at-set_word_other}
 use Rattle.pool_model.specs.declared.entry.Entry.{Entry}
-use Rattle.transfer_schedule.specs.Numbers.{source_of}
+use Rattle.transfer_schedule.specs.Numbers.{is_idle, source_of}
 use Rattle.transfer_schedule.specs.declared.own_step.Source.{Source}
 use Rattle.transfer_schedule.specs.declared.own_step.Source.TheVariants as source
 use Rattle.transfer_machine.specs.Machine.{try_action, action_at, action_of, met_in_try, met_at, CanActInTry, CanActAt}
@@ -18,9 +18,9 @@ use Rattle.transfer_machine.specs.Words.{name_of, left_by, acted, met_word}
 use Rattle.transfer_machine.specs.declared.action.Action.{Action}
 use Rattle.pool_machine.specs.declared.view.PoolView.{PoolView}
 use Rattle.pool_machine.specs.declared.call.Call.{Call}
-use Rattle.pool_machine.specs.declared.call.Call.TheVariants.{Allocate, Free, Read, Write}
+use Rattle.pool_machine.specs.declared.call.Call.TheVariants.{Allocate, Free, Read, Write, Search}
 use Rattle.pool_machine.specs.declared.call.CallStage.{CallStage}
-use Rattle.pool_machine.specs.declared.call.CallStage.TheVariants.{Between, Moving, Own}
+use Rattle.pool_machine.specs.declared.call.CallStage.TheVariants.{Between, Choosing, Moving, Own}
 use Rattle.transfer_machine.specs.declared.transfer.TransferView.{TransferView}
 use Rattle.pool_machine.specs.declared.view.ProcessView.{ProcessView}
 use Rattle.transfer_machine.specs.declared.stage.NextStep.{NextStep}
@@ -31,16 +31,16 @@ use Rattle.transfer_machine.specs.declared.stage.TryStep.TheVariants.{LoadState,
 use Rattle.transfer_machine.specs.declared.stage.TryStep.TheVariants.{LoadAnnouncement, LoadPoppedSlot, StoreRecordWord, ExchangeState}
 use Rattle.transfer_invariant.specs.Memory.{Words, Acted}
 use Rattle.batch_invariant.specs.Batches.{ProcessViews, MovedProcess}
-use Rattle.pool_machine.specs.Beginning.{alone_begun, call_begun, begun_if_due, due}
+use Rattle.pool_machine.specs.Beginning.{alone_begun, search_begun_by, search_chosen, call_begun, begun_if_due, due}
 use Rattle.pool_machine.specs.Conditions.{may_call}
 use Rattle.pool_machine.specs.OwnSteps.{own_action_for, allocate_action, block_from}
 use Rattle.pool_machine.specs.Ready.{CanBegin, CanActCallAt, CanAllocate, CanOwnFor}
 use Rattle.pool_machine.specs.Steps.{call_action_at, call_met_at, call_action, call_met, call_answer}
 use Rattle.interleaving_core.specs.Invariant.{MeetsInvariant, IsAmong, IsAmongHolding, with_view}
-use Rattle.interleaving_core.specs.Moves.{may_wish, may_go_alone, moving_view, may_go, calling_view}
+use Rattle.interleaving_core.specs.Moves.{may_wish, may_go_alone, moving_view, may_go, may_start_at, started_at, started, calling_view}
 use Rattle.interleaving_core.specs.Runs.{entries_of}
 use Rattle.interleaving_core.specs.Steps.{is_alone, is_busy, is_in_call, next_action, next_met, next_answer}
-use Rattle.interleaving_core.proofs.Begins.{alone_begins, call_begins}
+use Rattle.interleaving_core.proofs.Begins.{alone_begins, choosing_young, call_starts}
 use Rattle.interleaving_core.proofs.Holds.{StepAllowed, step_allowed, step_holds}
 use Rattle.interleaving_core.proofs.Standing.{rests_idle, wish_fits, call_can_begin}
 
@@ -81,7 +81,8 @@ acts_in_range sizes v LoadReply (row, low) = (row, omega arith)
 call_in_range : (sizes : Sizes) (v : ProcessView) (stage : CallStage) → CanActCallAt sizes v stage
     → InRange sizes (name_of (call_action_at sizes v stage))
 call_in_range sizes v Between can = tt
-call_in_range sizes v Moving can = acts_in_range sizes v.transfer v.transfer.next can.act
+call_in_range sizes v Choosing can = tt
+call_in_range sizes v Moving can = acts_in_range sizes v.transfer v.transfer.next can.go.act
 call_in_range sizes v Own can = own_in_range sizes v v.calls.call can
   where
     allocate_in_range : (sizes : Sizes) (pool : PoolView) (s : Source) → CanAllocate sizes pool s
@@ -97,6 +98,7 @@ call_in_range sizes v Own can = own_in_range sizes v v.calls.call can
     own_in_range sizes v (Some (Free block)) (low, can) = low
     own_in_range sizes v (Some (Read block index)) (low, within) = (low, within)
     own_in_range sizes v (Some (Write block index value)) (low, within) = (low, within)
+    own_in_range sizes v (Some Search) can = allocate_in_range sizes v.pool (source_of v.pool.plan) can
 
 pub next_in_range : (sizes : Sizes) (words : Words) (v : ProcessView) (t : Bool) → is_alone v.calls.way ≡ t → StepAllowed sizes words v
     → InRange sizes (name_of (next_action sizes v))
@@ -125,6 +127,7 @@ met_number sizes v word LoadReply = refl
 call_number : (sizes : Sizes) (v : ProcessView) (word : ℕ) (stage : CallStage)
     → (call_met_at sizes v word stage).transfer.number ≡ v.transfer.number
 call_number sizes v word Between = refl
+call_number sizes v word Choosing = refl
 call_number sizes v word Moving = met_number sizes v.transfer word v.transfer.next
 call_number sizes v word Own = refl
 
@@ -211,8 +214,13 @@ among_can_begin sizes table v shape among =
 pub rests : (s : NextStep) → is_rest s ≡ true → s ≡ Rest
 rests s h = grind arith
 
-pub between_calls : (stage : CallStage) → is_in_call stage ≡ false → stage ≡ Between
-between_calls stage h = grind arith
+-- a search that is to choose has the age for it
+pub among_choosing : (sizes : Sizes) (table : List ℕ) (v : ProcessView) → IsAmong sizes table v → v.calls.stage ≡ Choosing
+    → v.transfer.age < most_age
+among_choosing sizes table v among =
+    let here = with_view_here v among.others in
+    let young = choosing_young sizes (word_at sizes table) (with_view v among.others) among.past v.transfer.number among.low among.meets in
+    rw here at young
 
 -- the view that moves alone
 moving_among : (sizes : Sizes) (table : List ℕ) (v : ProcessView) (wish : Wish) (t : Bool) → IsShape sizes → is_rest v.transfer.next ≡ t
@@ -245,6 +253,17 @@ begun_number Allocate v = due_number (due v.pool) v
 begun_number (Free block) v = due_number (due v.pool) v
 begun_number (Read block index) v = refl
 begun_number (Write block index value) v = refl
+begun_number Search v = searching (is_idle v.pool.plan.pending)
+  where
+    searching : (t : Bool) → (search_begun_by t v).transfer.number ≡ v.transfer.number
+    searching true = due_number (due v.pool) v
+    searching false = refl
+
+started_number : (call : Call) (v : ProcessView) (stage : CallStage) → (started_at stage call v).transfer.number ≡ v.transfer.number
+started_number call v Between = begun_number call v
+started_number call v Choosing = due_number (due v.pool) v
+started_number call v Moving = begun_number call v
+started_number call v Own = begun_number call v
 
 pub either_may : (a b : Bool) → a ≡ false → (a || b) ≡ true → b ≡ true
 either_may true b e h = grind arith
@@ -253,22 +272,21 @@ either_may false b e h = h
 -- the view that goes on with a call
 calling_among : (sizes : Sizes) (table : List ℕ) (v : ProcessView) (call : Call) (holds t : Bool) → IsShape sizes
     → is_in_call v.calls.stage ≡ t → may_go sizes holds call v ≡ true → IsAmongHolding sizes table v holds call
-    → IsAmong sizes table (if t then v else call_begun call v)
+    → IsAmong sizes table (if t then v else started call v)
 calling_among sizes table v call holds true shape inside may h = h.among
 calling_among sizes table v call holds false shape inside may h =
     let among = h.among in
     let here = with_view_here v among.others in
-    let x = call_begun call v in
-    let begins = call_begins sizes (word_at sizes table) (with_view v among.others) (with_view x among.others) among.past v.transfer.number
+    let x = started call v in
+    let begins = call_starts sizes (word_at sizes table) (with_view v among.others) (with_view x among.others) among.past v.transfer.number
     call holds shape among.low among.meets in
-    let number = begun_number call v in
+    let number = started_number call v v.calls.stage in
     record {
       low = rw number among.low;
       others = among.others;
       past = among.past;
       meets =
-          (rw here at begins) (between_calls v.calls.stage inside)
-          (either_may (is_in_call v.calls.stage) (may_call sizes holds call v) inside may) h.held (with_view_moved v x among.others number);
+          (rw here at begins) inside may h.held (with_view_moved v x among.others number);
     }
 
 pub among_calling : (sizes : Sizes) (table : List ℕ) (v : ProcessView) (call : Call) (holds : Bool) → IsShape sizes
@@ -276,9 +294,16 @@ pub among_calling : (sizes : Sizes) (table : List ℕ) (v : ProcessView) (call :
 among_calling sizes table v call holds shape may h = calling_among sizes table v call holds (is_in_call v.calls.stage) shape refl may h
 
 -- a process between two calls that goes on begins one
+goes_at : (sizes : Sizes) (v : ProcessView) (call : Call) (holds : Bool) (stage : CallStage) → stage ≡ Between
+    → (is_in_call stage || may_start_at stage sizes holds call v) ≡ true → may_call sizes holds call v ≡ true
+goes_at sizes v call holds Between e may = may
+goes_at sizes v call holds Choosing e may = cc
+goes_at sizes v call holds Moving e may = cc
+goes_at sizes v call holds Own e may = cc
+
 pub between_goes : (sizes : Sizes) (v : ProcessView) (call : Call) (holds : Bool) → v.calls.stage ≡ Between
     → may_go sizes holds call v ≡ true → may_call sizes holds call v ≡ true
-between_goes sizes v call holds between may = either_may (is_in_call v.calls.stage) (may_call sizes holds call v) (rw between refl) may
+between_goes sizes v call holds between may = goes_at sizes v call holds v.calls.stage between may
 
 -- the step of a process on a table, by its way
 pub alone_met : (sizes : Sizes) (table : List ℕ) (v : ProcessView) → is_alone v.calls.way ≡ true

@@ -135,8 +135,8 @@ call_step_holds sizes words new views after history ghosts i shape li h calls st
           going_fits (limits_of sizes) (transfer_bound sizes) sizes.quantum history i g next (shape_fits sizes shape) (h.entries.each i li)
           carries.goes;
       seen = going_sees g next carries.goes;
-      entries = (enters_nothing word v.calls.steps v.transfer.next g).0;
+      entries = (enters_nothing word v.transfer.next g).0;
       places =
-          call_places_by (is_taking v.pool.plan.pending) word v.calls.steps v.transfer.next g (ap (λ p. is_taking p.pending) used.plan);
+          call_places_by (is_taking v.pool.plan.pending) word v.transfer.next g (ap (λ p. is_taking p.pending) used.plan);
       uses = uses_calls sizes i x next x.calls.way calls carries.calls;
     })

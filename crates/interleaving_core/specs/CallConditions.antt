@@ -4,10 +4,11 @@ use Rattle.word_layout.specs.Sizes.{Sizes}
 use Rattle.pool_machine.specs.Conditions.{may_use_calls, may_use_transfers}
 use Rattle.pool_machine.specs.declared.call.Call.{Call}
 use Rattle.pool_machine.specs.declared.call.CallStage.{CallStage}
-use Rattle.pool_machine.specs.declared.call.CallStage.TheVariants.{Between, Moving, Own}
+use Rattle.pool_machine.specs.declared.call.CallStage.TheVariants.{Between, Choosing, Moving, Own}
 use Rattle.pool_machine.specs.declared.call.CallView.{CallView}
 use Rattle.pool_machine.specs.declared.view.ProcessView.{ProcessView}
 use Rattle.call_invariant.specs.Phases.{changes_pool}
+use Rattle.pool_machine.specs.Steps.{is_paced}
 use Rattle.interleaving_core.specs.Invariant.{BlockIsHeld}
 use Rattle.interleaving_core.specs.Moves.{may_go}
 use Rattle.interleaving_core.specs.Steps.{is_in_call}
@@ -15,6 +16,7 @@ use Rattle.interleaving_core.specs.Steps.{is_in_call}
 -- how many steps of a transfer a call at that stage has made: one that only begins has made none
 abbrev pub steps_at : CallView → CallStage → ℕ
 steps_at calls Between = 0
+steps_at calls Choosing = 0
 steps_at calls Moving = calls.steps
 steps_at calls Own = calls.steps
 
@@ -29,7 +31,7 @@ pub record MovesInCall (sizes : Sizes) (held : List ℕ) (call : Call) (v : Proc
   pub own : is_in_call v.calls.stage ≡ true → v.calls.call ≡ Some call
   -- it holds the block that the call names, and has made fewer than a quantum of steps in it
   pub block : BlockIsHeld held call
-  pub few : steps_at v.calls v.calls.stage < sizes.quantum
+  pub few : is_paced (Some call) ≡ true → steps_at v.calls v.calls.stage < sizes.quantum
 
 -- a step of a transfer is made in that call; without one it is a step of a transfer alone, and the process has begun no call
 abbrev pub CallConditions : Sizes → List ℕ → Option Call → ProcessView → Type 0

@@ -1,5 +1,5 @@
 -- laws of calls over every run
-use Rattle.std.specs.Prelude.{◌≡◌, ◌≢◌, ℕ, ◌+◌, ◌*◌, ◌-◌, ◌<◌, ◌≤◌, ◌↔◌, true, false, Some, List, length, slice_get, take, Contains}
+use Rattle.std.specs.Prelude.{◌≡◌, ◌≢◌, ℕ, ◌+◌, ◌*◌, ◌-◌, ◌<◌, ◌≤◌, ◌↔◌, Bool, true, false, Some, List, length, slice_get, take, Contains}
 use Rattle.word_layout.specs.Sizes.{Sizes, blocks, transfer_bound, limits_of}
 use Rattle.word_layout.specs.Names.{word_at}
 use Rattle.word_layout.specs.declared.announced.Wish.{Wish}
@@ -18,11 +18,12 @@ use Rattle.transfer_machine.specs.Words.{stack}
 use Rattle.pool_machine.specs.declared.call.Call.{Call}
 use Rattle.pool_machine.specs.declared.call.Call.TheVariants.{Read, Write}
 use Rattle.pool_machine.specs.declared.call.CallStage.{CallStage}
-use Rattle.pool_machine.specs.declared.call.CallStage.TheVariants.{Between, Moving, Own}
+use Rattle.pool_machine.specs.declared.call.CallStage.TheVariants.{Between, Choosing, Moving, Own}
 use Rattle.pool_machine.specs.declared.call.CallView.{CallView}
 use Rattle.pool_machine.specs.declared.call.Way.TheVariants.{Alone}
 use Rattle.pool_machine.specs.declared.view.ProcessView.{ProcessView}
 use Rattle.pool_machine.specs.Laws.{most_moves}
+use Rattle.pool_machine.specs.Steps.{is_paced}
 use Rattle.pool_machine.specs.declared.event.Happened.TheVariants.{Loaded, Stored}
 use Rattle.call_invariant.specs.Phases.{call_phase}
 use Rattle.interleaving_core.specs.Kept.{kept}
@@ -73,20 +74,36 @@ abbrev pub AllAreCounted : Type 0
 AllAreCounted = EveryRun (λ sizes history s.
     total sizes.processes (kept s) + length (held history) + sizes.length * length (stack sizes s.words) ≡ blocks sizes)
 
--- how many steps a call makes at most from a stage on: those left of its quantum, and its own one
-abbrev pub steps_left_at : ℕ → ℕ → CallStage → ℕ
-steps_left_at quantum steps Between = 0
-steps_left_at quantum steps Moving = quantum - steps + 1
-steps_left_at quantum steps Own = 1
+-- how many turns a call needs at most at the steps of its transfer: those left of its quantum and its own one; a search those left of the
+-- transfer, those of another one unless it has chosen, and its own one
+abbrev pub moving_left : Bool → Bool → ℕ → ℕ → ℕ → ℕ → ℕ
+moving_left true chosen quantum bound steps done = quantum - steps + 1
+moving_left false true quantum bound steps done = bound - done + 1
+moving_left false false quantum bound steps done = bound - done + bound + 1
 
-abbrev pub steps_left : ℕ → CallView → ℕ
-steps_left quantum calls = steps_left_at quantum calls.steps calls.stage
+-- and from each stage on
+abbrev pub left_at : Bool → Bool → ℕ → ℕ → ℕ → ℕ → CallStage → ℕ
+left_at paced chosen quantum bound steps done Between = 0
+left_at paced chosen quantum bound steps done Choosing = bound + 1
+left_at paced chosen quantum bound steps done Moving = moving_left paced chosen quantum bound steps done
+left_at paced chosen quantum bound steps done Own = 1
+
+abbrev pub steps_left : Sizes → ProcessView → ℕ
+steps_left sizes v =
+    left_at (is_paced v.calls.call) v.calls.chosen sizes.quantum (transfer_bound sizes) v.calls.steps v.pool.plan.done v.calls.stage
+
+-- whether a process is in the middle of a call
+abbrev pub is_within : CallStage → Bool
+is_within Between = false
+is_within Choosing = true
+is_within Moving = true
+is_within Own = true
 
 -- process i goes on with one call from one state to another, in any turns of all, of which so many are steps of that call
 pub data GoesOnWith (i : ℕ) : ℕ → CoreState → CoreState → Type 0 where
   starts : (s : CoreState) → GoesOnWith i 0 s s
   steps : (n : ℕ) (s t : CoreState) (call : Call) → GoesOnWith i n s t
-      → is_in_call (view_at t i).calls.stage ≡ true
+      → is_within (view_at t i).calls.stage ≡ true
       → GoesOnWith i (n + 1) s (after_turn (Events i call) t)
   others : (n : ℕ) (s t : CoreState) (turn : Turn) → GoesOnWith i n s t
       → by_of turn ≢ i
@@ -107,6 +124,7 @@ CallsAreShort = EveryRun (λ sizes history s. (i n : ℕ) (call : Call) (t : Cor
 abbrev pub QuantaAreKept : Type 0
 QuantaAreKept = EveryRun (λ sizes history s. (i : ℕ) → i < sizes.processes
     → (view_at s i).calls.stage ≡ Moving
+    → is_paced (view_at s i).calls.call ≡ true
     → (view_at s i).calls.steps < sizes.quantum)
 
 -- nothing of process i is pending
@@ -142,7 +160,7 @@ pub record EndsByAccount (sizes : Sizes) (mine : List Entry) (v : ProcessView) :
   pub counts : CountsEntries account mine
   pub plan : account.plan ≡ v.pool.plan
   pub phase : account.phase ≡ call_phase v
-  pub since : v.calls.stage ≡ Moving → v.pool.plan.done ≡ sizes.quantum * (length mine - account.begun) + v.calls.steps
+  pub since : v.calls.stage ≡ Moving → is_paced v.calls.call ≡ true → v.pool.plan.done ≡ sizes.quantum * (length mine - account.begun) + v.calls.steps
   pub young : v.pool.plan.pending ≢ Idle → length mine < account.begun + sizes.length
 
 -- a transfer of a process that makes calls is pending in fewer than `length` calls after the one that began it

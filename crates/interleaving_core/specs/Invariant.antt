@@ -10,7 +10,7 @@ use Rattle.pool_model.specs.History.{own, grip}
 use Rattle.transfer_machine.specs.States.{StackState}
 use Rattle.transfer_machine.specs.Tries.{is_take}
 use Rattle.pool_machine.specs.declared.call.Call.{Call}
-use Rattle.pool_machine.specs.declared.call.Call.TheVariants.{Allocate, Free, Read, Write}
+use Rattle.pool_machine.specs.declared.call.Call.TheVariants.{Allocate, Free, Read, Write, Search}
 use Rattle.transfer_machine.specs.declared.transfer.TransferView.{TransferView}
 use Rattle.pool_machine.specs.declared.view.ProcessView.{ProcessView}
 use Rattle.transfer_invariant.specs.Memory.{Words, States, state_tag}
@@ -53,6 +53,7 @@ BlockIsHeld held Allocate = Unit {0}
 BlockIsHeld held (Free block) = Contains held block
 BlockIsHeld held (Read block index) = Contains held block
 BlockIsHeld held (Write block index value) = Contains held block
+BlockIsHeld held Search = Unit {0}
 
 -- Data, of one process: each data word that it knows is one of a block that it holds, and holds that value
 pub record DataHolds (sizes : Sizes) (words : Words) (held : List ℕ) (known : Known) : Type 0 where

@@ -13,10 +13,12 @@ use Rattle.pool_machine.specs.Pools.{opening_view}
 use Rattle.transfer_machine.specs.Words.{acted, met_word}
 use Rattle.transfer_machine.specs.Stages.{is_rest}
 use Rattle.pool_machine.specs.declared.call.Call.{Call}
-use Rattle.pool_machine.specs.declared.call.Call.TheVariants.{Allocate, Free, Read, Write}
+use Rattle.pool_machine.specs.declared.call.Call.TheVariants.{Allocate, Free, Read, Write, Search}
 use Rattle.pool_machine.specs.declared.view.PoolView.{PoolView}
 use Rattle.pool_machine.specs.declared.view.ProcessView.{ProcessView}
-use Rattle.pool_machine.specs.Beginning.{newest, call_begun, alone_begun}
+use Rattle.pool_machine.specs.Beginning.{newest, search_chosen, call_begun, alone_begun}
+use Rattle.pool_machine.specs.declared.call.CallStage.{CallStage}
+use Rattle.pool_machine.specs.declared.call.CallStage.TheVariants.{Choosing}
 use Rattle.pool_machine.specs.Conditions.{may_call, may_use_transfers}
 use Rattle.pool_machine.specs.declared.event.Happened.{Happened}
 use Rattle.pool_machine.specs.declared.event.Happened.TheVariants.{Step, Ended, Loaded, Stored, Ignored}
@@ -48,6 +50,7 @@ holds_for holders by Allocate = true
 holds_for holders by (Free block) = is_holder by (slice_index_or holders block None)
 holds_for holders by (Read block index) = is_holder by (slice_index_or holders block None)
 holds_for holders by (Write block index value) = is_holder by (slice_index_or holders block None)
+holds_for holders by Search = true
 
 -- who holds each block after an entry
 abbrev pub holders_entered : Entry → List (Option ℕ) → List (Option ℕ)
@@ -89,10 +92,23 @@ may_go_alone wish v =
 abbrev pub moving_view : Wish → ProcessView → ProcessView
 moving_view wish v = if is_rest v.transfer.next then alone_begun wish v else v
 
+-- whether a process that has not begun its next step may begin it: a search chooses, and between two calls it begins this one
+abbrev pub may_start_at : CallStage → Sizes → Bool → Call → ProcessView → Bool
+may_start_at Choosing sizes holds call v = true
+may_start_at stage sizes holds call v = may_call sizes holds call v
+
+-- its view once it has
+abbrev pub started_at : CallStage → Call → ProcessView → ProcessView
+started_at Choosing call v = search_chosen v
+started_at stage call v = call_begun call v
+
+abbrev pub started : Call → ProcessView → ProcessView
+started call v = started_at v.calls.stage call v
+
 -- whether a process goes on with its call, or may begin this one
 abbrev pub may_go : Sizes → Bool → Call → ProcessView → Bool
-may_go sizes holds call v = is_in_call v.calls.stage || may_call sizes holds call v
+may_go sizes holds call v = is_in_call v.calls.stage || may_start_at v.calls.stage sizes holds call v
 
--- its view before that step: a process between two calls first begins this one
+-- its view before that step
 abbrev pub calling_view : Call → ProcessView → ProcessView
-calling_view call v = if is_in_call v.calls.stage then v else call_begun call v
+calling_view call v = if is_in_call v.calls.stage then v else started call v

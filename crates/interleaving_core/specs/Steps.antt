@@ -6,7 +6,7 @@ use Rattle.pool_machine.specs.Pools.{view_met}
 use Rattle.transfer_machine.specs.Stages.{kind_of, is_rest}
 use Rattle.transfer_machine.specs.declared.action.Action.{Action}
 use Rattle.pool_machine.specs.declared.call.CallStage.{CallStage}
-use Rattle.pool_machine.specs.declared.call.CallStage.TheVariants.{Between, Moving, Own}
+use Rattle.pool_machine.specs.declared.call.CallStage.TheVariants.{Between, Choosing, Moving, Own}
 use Rattle.pool_machine.specs.declared.call.Way.{Way}
 use Rattle.pool_machine.specs.declared.call.Way.TheVariants.{Fresh, Alone, Calls}
 use Rattle.transfer_machine.specs.declared.kind.Kind.{Kind}
@@ -22,9 +22,10 @@ is_alone Fresh = false
 is_alone Alone = true
 is_alone Calls = false
 
--- whether it is in a call
+-- whether it is in a call and has begun its next step: a search that is to choose has not
 abbrev pub is_in_call : CallStage → Bool
 is_in_call Between = false
+is_in_call Choosing = false
 is_in_call Moving = true
 is_in_call Own = true
 
@@ -47,6 +48,7 @@ next_answer v word = if is_alone v.calls.way then Step (kind_of v.transfer.next)
 -- the kind of a step at that stage of a call
 abbrev pub call_kind_at : ProcessView → CallStage → Kind
 call_kind_at v Between = kind_of v.transfer.next
+call_kind_at v Choosing = kind_of v.transfer.next
 call_kind_at v Moving = kind_of v.transfer.next
 call_kind_at v Own = own_kind v
 

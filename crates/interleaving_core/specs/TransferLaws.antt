@@ -13,7 +13,7 @@ use Rattle.transfer_machine.specs.Tries.{is_pending}
 use Rattle.transfer_machine.specs.Words.{stack}
 use Rattle.pool_machine.specs.declared.call.Call.{Call}
 use Rattle.pool_machine.specs.declared.call.CallStage.{CallStage}
-use Rattle.pool_machine.specs.declared.call.CallStage.TheVariants.{Between, Moving, Own}
+use Rattle.pool_machine.specs.declared.call.CallStage.TheVariants.{Between, Choosing, Moving, Own}
 use Rattle.pool_machine.specs.declared.view.ProcessView.{ProcessView}
 use Rattle.transfer_machine.specs.declared.stage.NextStep.{NextStep}
 use Rattle.transfer_machine.specs.Stages.{is_rest}
@@ -74,6 +74,7 @@ entries_made (turn ∷ more) s = entries_of (turn_answer turn s) ++ entries_made
 -- whether a call at that stage makes steps of the pending transfer
 abbrev pub moves_at : CallStage → Bool
 moves_at Between = false
+moves_at Choosing = false
 moves_at Moving = true
 moves_at Own = false
 

@@ -1,10 +1,10 @@
 // One turn of one process, on the fields of a run.
 ghost use Rattle.std.specs.Prelude.{◌≡◌, ◌<◌, true, None, length, replicate, IfOk, slice_index_or, slice_set};
 ghost use Rattle.word_layout.specs.Names.{table_words};
-ghost use Rattle.word_layout.specs.Packing.{FitsWish};
+ghost use Rattle.word_layout.specs.Packing.{FitsWish, most_age};
 ghost use Rattle.word_layout.specs.Sizes.{blocks};
 ghost use Rattle.transfer_schedule.specs.declared.pending.Pending.TheVariants.{Idle};
-ghost use Rattle.pool_machine.specs.declared.call.CallStage.TheVariants.{Between};
+ghost use Rattle.pool_machine.specs.declared.call.CallStage.TheVariants.{Between, Choosing};
 ghost use Rattle.transfer_machine.specs.declared.stage.NextStep.TheVariants.{Rest};
 ghost use Rattle.pool_machine.specs.Pools.{opening_view, MayBegin};
 ghost use Rattle.pool_machine.specs.Conditions.{IsYoungFor};
@@ -16,8 +16,8 @@ ghost use Rattle.interleaving_core.specs.Turned.{Stepped, Turned};
 
 use crate::step::make_step;
 use pool_machine::{
-    Call, CallStage, Event, Happened, PoolView, ProcessView, begin_call, begin_transfer, may_call,
-    may_move, newest,
+    Call, CallStage, Event, Happened, PoolView, ProcessView, begin_call, begin_transfer, choose,
+    may_call, may_move, newest,
 };
 use pool_model::{Entry, NoMemory};
 use std::alloc::Global;
@@ -48,7 +48,7 @@ pub fn held_by(holders: &[Option<u32>], event: &Event) -> bool
     ensures { result ≡ holds_for holders.now event.now.by event.now.call }
 {
     match event.call {
-        Call::Allocate => true,
+        Call::Allocate | Call::Search => true,
         Call::Free { block } => is_holder(holders, event.by, block),
         Call::Read { block, .. } => is_holder(holders, event.by, block),
         Call::Write { block, .. } => is_holder(holders, event.by, block),
@@ -172,14 +172,17 @@ fn call_view(
     make_step(words, view, shape)
 }
 
-/// Begins a call where the process is in none.
+/// Begins a call where the process is in none; a search that is to choose begins the transfer that is due, if any.
 fn begin_between(view: &mut ProcessView, call: Call)
     requires young { view.old.calls.stage ≡ Between → IsYoungFor call view.old }
+    requires choosing { view.old.calls.stage ≡ Choosing → view.old.transfer.age < most_age }
     requires can { CanBegin view.old }
     ensures { view.new ≡ calling_view call view.old }
 {
-    if view.calls.stage == CallStage::Between {
-        begin_call(view, call);
+    match view.calls.stage {
+        CallStage::Between => begin_call(view, call),
+        CallStage::Choosing => choose(view),
+        CallStage::Moving | CallStage::Own => {}
     }
 }
 

@@ -16,14 +16,14 @@ use Rattle.transfer_schedule.specs.declared.own_step.Source.TheVariants as sourc
 use Rattle.transfer_schedule.specs.declared.own_step.Target.TheVariants as target
 use Rattle.pool_machine.specs.Pools.{pool_met_at, pool_ended, step_counted, opening_view}
 use Rattle.pool_machine.specs.declared.call.Call.{Call}
-use Rattle.pool_machine.specs.declared.call.Call.TheVariants.{Allocate, Free, Read, Write}
+use Rattle.pool_machine.specs.declared.call.Call.TheVariants.{Allocate, Free, Read, Write, Search}
 use Rattle.pool_machine.specs.declared.call.CallStage.{CallStage}
-use Rattle.pool_machine.specs.declared.call.CallStage.TheVariants.{Between, Moving, Own}
+use Rattle.pool_machine.specs.declared.call.CallStage.TheVariants.{Between, Choosing, Moving, Own}
 use Rattle.transfer_machine.specs.declared.stage.NextStep.{NextStep}
 use Rattle.transfer_machine.specs.declared.stage.NextStep.TheVariants.{Rest, Announce, Try, LoadFinalState, LoadReply}
 use Rattle.pool_machine.specs.declared.view.PoolView.{PoolView}
 use Rattle.pool_machine.specs.declared.view.ProcessView.{ProcessView}
-use Rattle.pool_machine.specs.Beginning.{wish_for, due, begun_if_due, before_call, call_begun}
+use Rattle.pool_machine.specs.Beginning.{wish_for, due, begun_if_due, before_call, search_begun_by, call_begun}
 use Rattle.pool_machine.specs.OwnSteps.{allocated, freed, pool_own_met}
 use Rattle.pool_machine.specs.Steps.{call_met, call_met_at}
 use Rattle.pool_machine.specs.Ready.{PlanFits, CanBegin}
@@ -59,6 +59,7 @@ own_plan word pool (Some Allocate) = allocated_plan word pool (schedule.source_o
 own_plan word pool (Some (Free block)) = freed_plan block pool (schedule.target_of pool.plan)
 own_plan word pool (Some (Read block index)) = refl
 own_plan word pool (Some (Write block index value)) = refl
+own_plan word pool (Some Search) = allocated_plan word pool (schedule.source_of pool.plan)
 
 -- each step of the schedule keeps the sizes
 choice_fits : (sizes : Sizes) (x : schedule.Numbers) → PlanFits sizes x → PlanFits sizes (schedule.after_choice x)
@@ -79,6 +80,7 @@ after_fits sizes (Some Allocate) x h = took_fits sizes x h
 after_fits sizes (Some (Free block)) x h = gave_fits sizes x h
 after_fits sizes (Some (Read block index)) x h = h
 after_fits sizes (Some (Write block index value)) x h = h
+after_fits sizes (Some Search) x h = took_fits sizes x h
 
 -- beginnings and steps keep the sizes
 begun_fits_at : (sizes : Sizes) (v : ProcessView) → PlanFits sizes v.pool.plan → PlanFits sizes (before_call v).pool.plan
@@ -89,6 +91,11 @@ begun_fits sizes Allocate v h = begun_fits_at sizes v h
 begun_fits sizes (Free block) v h = begun_fits_at sizes v h
 begun_fits sizes (Read block index) v h = h
 begun_fits sizes (Write block index value) v h = h
+begun_fits sizes Search v h = search_fits sizes (schedule.is_idle v.pool.plan.pending) v h
+  where
+    search_fits : (sizes : Sizes) (t : Bool) (v : ProcessView) → PlanFits sizes v.pool.plan → PlanFits sizes (search_begun_by t v).pool.plan
+    search_fits sizes true v h = begun_fits_at sizes v h
+    search_fits sizes false v h = h
 
 ended_fits : (sizes : Sizes) (r : Reply) (pool : PoolView) → PlanFits sizes pool.plan → PlanFits sizes (pool_ended r pool).plan
 ended_fits sizes reply.Nothing pool h = end_fits sizes false pool.plan h
@@ -107,6 +114,7 @@ moved_fits sizes word pool LoadReply h = ended_fits sizes (reply_of (value_of wo
 
 met_fits_at : (sizes : Sizes) (v : ProcessView) (word : ℕ) (s : CallStage) → PlanFits sizes v.pool.plan → PlanFits sizes (call_met_at sizes v word s).pool.plan
 met_fits_at sizes v word Between h = h
+met_fits_at sizes v word Choosing h = h
 met_fits_at sizes v word Moving h = moved_fits sizes word v.pool v.transfer.next h
 met_fits_at sizes v word Own h = rw (own_plan word v.pool v.calls.call) (after_fits sizes v.calls.call v.pool.plan h)
 

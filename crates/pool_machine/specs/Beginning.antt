@@ -1,5 +1,5 @@
 -- what a process knows once it has begun a call
-use Rattle.std.specs.Prelude.{ℕ, ◌-◌, if◌then◌else◌, Option, None, Some, length, slice_index}
+use Rattle.std.specs.Prelude.{ℕ, ◌-◌, Bool, true, false, if◌then◌else◌, Option, None, Some, length, slice_index}
 use Rattle.word_layout.specs.declared.announced.Wish.{Wish}
 use Rattle.word_layout.specs.declared.announced.Wish.TheVariants.{Take, Give}
 use Rattle.transfer_schedule.specs.Numbers as schedule
@@ -7,7 +7,7 @@ use Rattle.transfer_schedule.specs.declared.pending.Pending.{Pending}
 use Rattle.transfer_schedule.specs.declared.pending.Pending.TheVariants.{Idle, Taking, Giving}
 use Rattle.pool_machine.specs.Pools.{view_begun}
 use Rattle.pool_machine.specs.declared.call.Call.{Call}
-use Rattle.pool_machine.specs.declared.call.Call.TheVariants.{Allocate, Free, Read, Write}
+use Rattle.pool_machine.specs.declared.call.Call.TheVariants.{Allocate, Free, Read, Write, Search}
 use Rattle.pool_machine.specs.declared.call.CallStage.{CallStage}
 use Rattle.pool_machine.specs.declared.call.CallStage.TheVariants.{Moving, Own}
 use Rattle.pool_machine.specs.declared.call.Way.TheVariants.{Alone, Calls}
@@ -41,9 +41,22 @@ before_call v = begun_if_due (due v.pool) v
 abbrev pub first_stage : ProcessView → CallStage
 first_stage v = if schedule.is_idle v.pool.plan.pending then Own else Moving
 
--- a call begins at that stage
+-- a call begins at that stage; all but a search have no more to choose
+abbrev pub entered_so : Bool → Call → CallStage → ProcessView → ProcessView
+entered_so chosen call stage v =
+    record v { calls = record { stage = stage; call = Some call; steps = 0; chosen = chosen; way = Calls } }
+
 abbrev pub entered : Call → CallStage → ProcessView → ProcessView
-entered call stage v = record v { calls = record { stage = stage; call = Some call; steps = 0; way = Calls } }
+entered call stage v = entered_so true call stage v
+
+-- a search with nothing pending chooses: it begins the transfer that is due, if any
+abbrev pub search_chosen : ProcessView → ProcessView
+search_chosen v = entered Search (first_stage (before_call v)) (before_call v)
+
+-- a search begins, by whether nothing is pending: else it first makes the steps of the transfer that it met
+abbrev pub search_begun_by : Bool → ProcessView → ProcessView
+search_begun_by true v = search_chosen v
+search_begun_by false v = entered_so false Search Moving v
 
 -- a call begins: an allocate or a free with the transfer that is due, a read or a write at its own step at once
 abbrev pub call_begun : Call → ProcessView → ProcessView
@@ -51,6 +64,7 @@ call_begun Allocate v = entered Allocate (first_stage (before_call v)) (before_c
 call_begun (Free block) v = entered (Free block) (first_stage (before_call v)) (before_call v)
 call_begun (Read block index) v = entered (Read block index) Own v
 call_begun (Write block index value) v = entered (Write block index value) Own v
+call_begun Search v = search_begun_by (schedule.is_idle v.pool.plan.pending) v
 
 -- a transfer begins alone, outside any call
 abbrev pub alone_begun : Wish → ProcessView → ProcessView

@@ -3,7 +3,7 @@ use Rattle.std.specs.Prelude.{◌≡◌, ◌<◌, Bool, IsTrue, true, false, ◌
 use Rattle.word_layout.specs.Sizes.{Sizes}
 use Rattle.word_layout.specs.Packing.{most_age}
 use Rattle.pool_machine.specs.declared.call.Call.{Call}
-use Rattle.pool_machine.specs.declared.call.Call.TheVariants.{Allocate, Free, Read, Write}
+use Rattle.pool_machine.specs.declared.call.Call.TheVariants.{Allocate, Free, Read, Write, Search}
 use Rattle.pool_machine.specs.declared.call.Way.{Way}
 use Rattle.pool_machine.specs.declared.call.Way.TheVariants.{Fresh, Alone, Calls}
 use Rattle.pool_machine.specs.declared.view.ProcessView.{ProcessView}
@@ -14,6 +14,7 @@ NamesFit sizes holds Allocate = Unit {0}
 NamesFit sizes holds (Free block) = IsTrue holds
 NamesFit sizes holds (Read block index) = IsTrue holds × (index < sizes.words)
 NamesFit sizes holds (Write block index value) = IsTrue holds × (index < sizes.words)
+NamesFit sizes holds Search = Unit {0}
 
 -- a call that may begin a transfer, an allocate or a free, needs an age below the limit; a read and a write begin at any age
 abbrev pub IsYoungFor : Call → ProcessView → Type 0
@@ -21,6 +22,7 @@ IsYoungFor Allocate v = v.transfer.age < most_age
 IsYoungFor (Free block) v = v.transfer.age < most_age
 IsYoungFor (Read block index) v = Unit {0}
 IsYoungFor (Write block index value) v = Unit {0}
+IsYoungFor Search v = v.transfer.age < most_age
 
 -- which ways of using the pool leave a process its calls: all but transfers alone
 abbrev pub may_use_calls : Way → Bool
@@ -50,6 +52,7 @@ names_fit sizes holds Allocate = true
 names_fit sizes holds (Free block) = holds
 names_fit sizes holds (Read block index) = holds && nat_lt index sizes.words
 names_fit sizes holds (Write block index value) = holds && nat_lt index sizes.words
+names_fit sizes holds Search = true
 
 -- whether a process is young enough for a call, as a test
 abbrev pub is_young_for : Call → ProcessView → Bool
@@ -57,6 +60,7 @@ is_young_for Allocate v = nat_lt v.transfer.age most_age
 is_young_for (Free block) v = nat_lt v.transfer.age most_age
 is_young_for (Read block index) v = true
 is_young_for (Write block index value) v = true
+is_young_for Search v = nat_lt v.transfer.age most_age
 
 -- a process may begin a call, as a test
 abbrev pub may_call : Sizes → Bool → Call → ProcessView → Bool

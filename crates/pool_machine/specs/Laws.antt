@@ -1,20 +1,20 @@
 -- what holds of every view, every call and every word
-use Rattle.std.specs.Prelude.{◌≡◌, ◌≢◌, ℕ, ◌+◌, ◌<◌, ◌≤◌, ◌↔◌, Bool, IsTrue, Option, None, Some}
-use Rattle.word_layout.specs.Sizes.{Sizes}
+use Rattle.std.specs.Prelude.{◌≡◌, ◌≢◌, ℕ, ◌+◌, ◌*◌, ◌<◌, ◌≤◌, ◌↔◌, Bool, IsTrue, true, Option, None, Some}
+use Rattle.word_layout.specs.Sizes.{Sizes, transfer_bound}
 use Rattle.word_layout.specs.Packing.{FitsWish}
 use Rattle.word_layout.specs.declared.announced.Wish.{Wish}
 use Rattle.transfer_schedule.specs.Numbers as schedule
 use Rattle.transfer_schedule.specs.declared.pending.Pending.TheVariants.{Idle}
 use Rattle.pool_machine.specs.Pools.{opening_view, MayBegin}
 use Rattle.pool_machine.specs.declared.call.Call.{Call}
-use Rattle.pool_machine.specs.declared.call.Call.TheVariants.{Allocate, Free, Read, Write}
+use Rattle.pool_machine.specs.declared.call.Call.TheVariants.{Allocate, Free, Read, Write, Search}
 use Rattle.pool_machine.specs.declared.call.CallStage.TheVariants.{Between}
 use Rattle.transfer_machine.specs.declared.stage.NextStep.TheVariants.{Rest}
 use Rattle.pool_machine.specs.declared.view.ProcessView.{ProcessView}
 use Rattle.pool_machine.specs.Beginning.{due, before_call, call_begun}
 use Rattle.pool_machine.specs.Conditions.{MayCall, MayMove, may_call, may_move}
 use Rattle.pool_machine.specs.OwnSteps.{own_met}
-use Rattle.pool_machine.specs.Steps.{call_met}
+use Rattle.pool_machine.specs.Steps.{call_met, is_paced}
 use Rattle.pool_machine.specs.Ready.{PlanFits, CanBegin}
 
 -- the test of the condition on a call is this condition
@@ -48,6 +48,7 @@ plan_after (Some Allocate) plan = schedule.after_took_one plan
 plan_after (Some (Free block)) plan = schedule.after_gave_one plan
 plan_after (Some (Read block index)) plan = plan
 plan_after (Some (Write block index value)) plan = plan
+plan_after (Some Search) plan = schedule.after_took_one plan
 
 -- an own step is one of the schedule
 abbrev pub OwnStepsAreThePlans : Type 0
@@ -80,11 +81,13 @@ most_moves sizes Allocate = sizes.quantum
 most_moves sizes (Free block) = sizes.quantum
 most_moves sizes (Read block index) = 0
 most_moves sizes (Write block index value) = 0
+most_moves sizes Search = 2 * transfer_bound sizes
 
--- a call takes at most so many steps and its own one
+-- a call but a search takes at most so many steps and its own one, whatever words it meets
 abbrev pub CallsEnd : Type 0
 CallsEnd =
     (sizes : Sizes) (call : Call) (n : ℕ) (views : ℕ → ProcessView) (words : ℕ → ℕ)
     → 1 ≤ sizes.quantum
+    → is_paced (Some call) ≡ true
     → CallSteps sizes call n views words
     → n ≤ most_moves sizes call + 1

@@ -1,5 +1,5 @@
 -- The own step of a call: what it does to which word, what it makes of the view, and how it answers.
-use Rattle.std.specs.Prelude.{ℕ, ◌+◌, ◌-◌, Option, None, Some, [], ◌∷◌, ◌++◌, length, take}
+use Rattle.std.specs.Prelude.{ℕ, ◌+◌, ◌-◌, false, Option, None, Some, [], ◌∷◌, ◌++◌, length, take}
 use Rattle.word_layout.specs.declared.name.WordName.TheVariants.{State, Next, Data}
 use Rattle.transfer_schedule.specs.Numbers as schedule
 use Rattle.transfer_schedule.specs.declared.own_step.Source.{Source}
@@ -12,7 +12,7 @@ use Rattle.transfer_machine.specs.declared.action.Action.TheVariants.{Load, Stor
 use Rattle.transfer_machine.specs.declared.kind.Kind.{Kind}
 use Rattle.transfer_machine.specs.declared.kind.Kind.TheVariants.{K12, K13, K14, K15, K16, K19}
 use Rattle.pool_machine.specs.declared.call.Call.{Call}
-use Rattle.pool_machine.specs.declared.call.Call.TheVariants.{Allocate, Free, Read, Write}
+use Rattle.pool_machine.specs.declared.call.Call.TheVariants.{Allocate, Free, Read, Write, Search}
 use Rattle.pool_machine.specs.declared.call.CallStage.TheVariants.{Between}
 use Rattle.pool_machine.specs.declared.call.CallView.{CallView}
 use Rattle.pool_machine.specs.declared.view.PoolView.{PoolView}
@@ -48,6 +48,7 @@ own_action_for pool (Some Allocate) = allocate_action (next_block pool)
 own_action_for pool (Some (Free block)) = Store (Next block) (follower pool (schedule.target_of pool.plan))
 own_action_for pool (Some (Read block index)) = Load (Data block index)
 own_action_for pool (Some (Write block index value)) = Store (Data block index) value
+own_action_for pool (Some Search) = allocate_action (next_block pool)
 
 -- what the own step of the present call does, and to which word
 abbrev pub own_action : ProcessView → Action
@@ -79,10 +80,11 @@ pool_own_met word pool (Some Allocate) = allocated word pool (schedule.source_of
 pool_own_met word pool (Some (Free block)) = freed block pool (schedule.target_of pool.plan)
 pool_own_met word pool (Some (Read block index)) = pool
 pool_own_met word pool (Some (Write block index value)) = pool
+pool_own_met word pool (Some Search) = allocated word pool (schedule.source_of pool.plan)
 
 -- the call has ended
 abbrev pub call_left : CallView → CallView
-call_left calls = record calls { stage = Between; call = None; steps = 0 }
+call_left calls = record calls { stage = Between; call = None; steps = 0; chosen = false }
 
 -- the view after the own step of its call met this word
 abbrev pub own_met : ProcessView → ℕ → ProcessView
@@ -100,6 +102,7 @@ own_answer_for by pool word (Some Allocate) = allocate_answer by (next_block poo
 own_answer_for by pool word (Some (Free block)) = Recorded (Back by block)
 own_answer_for by pool word (Some (Read block index)) = Loaded word
 own_answer_for by pool word (Some (Write block index value)) = Stored
+own_answer_for by pool word (Some Search) = allocate_answer by (next_block pool)
 
 -- how the own step of the present call answers where it met this word
 abbrev pub own_answer : ProcessView → ℕ → OwnAnswer
@@ -117,6 +120,7 @@ own_kind_for pool (Some Allocate) = allocate_kind (next_block pool)
 own_kind_for pool (Some (Free block)) = K13
 own_kind_for pool (Some (Read block index)) = K15
 own_kind_for pool (Some (Write block index value)) = K16
+own_kind_for pool (Some Search) = allocate_kind (next_block pool)
 
 -- the kind of the own step of the present call
 abbrev pub own_kind : ProcessView → Kind

@@ -19,6 +19,7 @@ has_called Calls = true
 -- what a process is at, by its stage in a call: a transfer that is begun outside any call moves, that of a call waits between two
 abbrev pub phase_at : ProcessView → CallStage → Phase
 phase_at v call.Between = if is_rest v.transfer.next || has_called v.calls.way then phase.Between else phase.Moving (stage_of v.transfer)
+phase_at v call.Choosing = phase.Between
 phase_at v call.Moving = phase.Moving (stage_of v.transfer)
 phase_at v call.Own = phase.Own
 

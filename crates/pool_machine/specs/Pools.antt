@@ -31,7 +31,7 @@ opening_pool sizes process = record {
 
 -- the calls of a process at the opening: it has begun nothing
 abbrev pub opening_calls : CallView
-opening_calls = record { stage = Between; call = None; steps = 0; way = Fresh }
+opening_calls = record { stage = Between; call = None; steps = 0; chosen = false; way = Fresh }
 
 -- what a process knows at the opening
 abbrev pub opening_view : Sizes → ℕ → ProcessView

@@ -1,5 +1,5 @@
 -- the numbers that the next step of a call names are in their ranges
-use Rattle.std.specs.Prelude.{◌≡◌, ◌≢◌, ℕ, ◌^◌, ◌<◌, ◌≤◌, Option, None, Some, List, length}
+use Rattle.std.specs.Prelude.{◌≡◌, ◌≢◌, ℕ, ◌^◌, ◌<◌, ◌≤◌, true, Option, None, Some, List, length}
 use Rattle.word_layout.specs.Sizes.{Sizes, blocks, most_blocks, transfer_bound}
 use Rattle.word_layout.specs.Names.{table_words}
 use Rattle.transfer_schedule.specs.Numbers as schedule
@@ -12,14 +12,14 @@ use Rattle.transfer_machine.specs.Machine.{CanAct, CanMeet}
 use Rattle.pool_machine.specs.Pools.{CanCount, CanMeetPool}
 use Rattle.transfer_machine.specs.Words.{met_word}
 use Rattle.pool_machine.specs.declared.call.Call.{Call}
-use Rattle.pool_machine.specs.declared.call.Call.TheVariants.{Allocate, Free, Read, Write}
+use Rattle.pool_machine.specs.declared.call.Call.TheVariants.{Allocate, Free, Read, Write, Search}
 use Rattle.pool_machine.specs.declared.call.CallStage.{CallStage}
-use Rattle.pool_machine.specs.declared.call.CallStage.TheVariants.{Between, Moving, Own}
+use Rattle.pool_machine.specs.declared.call.CallStage.TheVariants.{Between, Choosing, Moving, Own}
 use Rattle.transfer_machine.specs.declared.stage.NextStep.TheVariants.{Rest}
 use Rattle.pool_machine.specs.declared.view.PoolView.{PoolView}
 use Rattle.pool_machine.specs.declared.view.ProcessView.{ProcessView}
 use Rattle.pool_machine.specs.Beginning.{newest}
-use Rattle.pool_machine.specs.Steps.{call_action}
+use Rattle.pool_machine.specs.Steps.{call_action, is_paced}
 
 -- the plan has the sizes of the shape
 pub record PlanFits (sizes : Sizes) (plan : schedule.Numbers) : Type 0 where
@@ -34,12 +34,20 @@ pub record CanBegin (v : ProcessView) : Type 0 where
   pub heads : length v.pool.heads ≡ v.pool.plan.spares
   pub fits : v.pool.plan.spares ≡ 3 → newest v.pool < most_blocks
 
--- a call can make one more step of its transfer
-pub record CanMove (sizes : Sizes) (v : ProcessView) : Type 0 where
+-- a call that makes steps in its pace has made fewer than a quantum
+pub record HasStepLeft (sizes : Sizes) (v : ProcessView) : Type 0 where
+  pub few : is_paced v.calls.call ≡ true → v.calls.steps < sizes.quantum
+
+-- a transfer can make one more step
+pub record CanGoOn (sizes : Sizes) (v : ProcessView) : Type 0 where
   pub busy : v.transfer.next ≢ Rest
   pub act : CanAct sizes v.transfer
   pub count : CanCount v.pool
-  pub few : v.calls.steps < sizes.quantum
+
+-- and so can its call
+pub record CanMove (sizes : Sizes) (v : ProcessView) : Type 0 where
+  pub go : CanGoOn sizes v
+  pub left : HasStepLeft sizes v
 
 -- and what it makes of the view stays in range where it meets this word
 pub record CanMeetMoving (sizes : Sizes) (v : ProcessView) (word : ℕ) : Type 0 where
@@ -64,6 +72,7 @@ CanOwnFor sizes pool (Some Allocate) = CanAllocate sizes pool (schedule.source_o
 CanOwnFor sizes pool (Some (Free block)) = (block < blocks sizes) × CanFree pool (schedule.target_of pool.plan)
 CanOwnFor sizes pool (Some (Read block index)) = (block < blocks sizes) × (index < sizes.words)
 CanOwnFor sizes pool (Some (Write block index value)) = (block < blocks sizes) × (index < sizes.words)
+CanOwnFor sizes pool (Some Search) = CanAllocate sizes pool (schedule.source_of pool.plan)
 
 -- what the own step of the present call names is in range
 abbrev pub CanOwn : Sizes → ProcessView → Type 0
@@ -82,6 +91,7 @@ CanMeetOwnFor pool word (Some Allocate) = CanFollow word (schedule.source_of poo
 CanMeetOwnFor pool word (Some (Free block)) = Unit {0}
 CanMeetOwnFor pool word (Some (Read block index)) = Unit {0}
 CanMeetOwnFor pool word (Some (Write block index value)) = Unit {0}
+CanMeetOwnFor pool word (Some Search) = CanFollow word (schedule.source_of pool.plan)
 
 -- the same of the present call
 abbrev pub CanMeetOwn : ProcessView → ℕ → Type 0
@@ -90,6 +100,7 @@ CanMeetOwn v word = CanMeetOwnFor v.pool word v.calls.call
 -- what the next step at that stage names is in range
 abbrev pub CanActCallAt : Sizes → ProcessView → CallStage → Type 0
 CanActCallAt sizes v Between = Unit {0}
+CanActCallAt sizes v Choosing = Unit {0}
 CanActCallAt sizes v Moving = CanMove sizes v
 CanActCallAt sizes v Own = CanOwn sizes v
 
@@ -100,6 +111,7 @@ CanActCall sizes v = CanActCallAt sizes v v.calls.stage
 -- what the next step at that stage makes of the view stays in range where it meets this word
 abbrev pub CanMeetCallAt : Sizes → ProcessView → ℕ → CallStage → Type 0
 CanMeetCallAt sizes v word Between = Unit {0}
+CanMeetCallAt sizes v word Choosing = Unit {0}
 CanMeetCallAt sizes v word Moving = CanMeetMoving sizes v word
 CanMeetCallAt sizes v word Own = CanMeetOwn v word
 

@@ -1,5 +1,5 @@
 -- one step of a call: of the pending transfer until a quantum of them is made or the transfer ends, then the own one
-use Rattle.std.specs.Prelude.{ℕ, ◌+◌, ◌==◌, ◌||◌, if◌then◌else◌}
+use Rattle.std.specs.Prelude.{ℕ, ◌+◌, ◌==◌, ◌||◌, Bool, true, false, if◌then◌else◌, Option, None, Some}
 use Rattle.word_layout.specs.Sizes.{Sizes}
 use Rattle.word_layout.specs.declared.name.WordName.TheVariants.{State}
 use Rattle.transfer_machine.specs.Machine.{action_of}
@@ -10,8 +10,10 @@ use Rattle.transfer_machine.specs.declared.action.Action.{Action}
 use Rattle.transfer_machine.specs.declared.action.Action.TheVariants.{Load}
 use Rattle.transfer_machine.specs.declared.kind.Kind.{Kind}
 use Rattle.transfer_machine.specs.declared.stage.NextStep.{NextStep}
+use Rattle.pool_machine.specs.declared.call.Call.{Call}
+use Rattle.pool_machine.specs.declared.call.Call.TheVariants.{Allocate, Free, Read, Write, Search}
 use Rattle.pool_machine.specs.declared.call.CallStage.{CallStage}
-use Rattle.pool_machine.specs.declared.call.CallStage.TheVariants.{Between, Moving, Own}
+use Rattle.pool_machine.specs.declared.call.CallStage.TheVariants.{Between, Choosing, Moving, Own}
 use Rattle.pool_machine.specs.declared.view.ProcessView.{ProcessView}
 use Rattle.pool_machine.specs.declared.answer.OwnAnswer.{OwnAnswer}
 use Rattle.pool_machine.specs.declared.answer.OwnAnswer.TheVariants as answer
@@ -22,6 +24,7 @@ use Rattle.pool_machine.specs.OwnSteps.{own_action, own_met, own_answer, own_kin
 -- what a process does next at that stage of its call, and to which word
 abbrev pub call_action_at : Sizes → ProcessView → CallStage → Action
 call_action_at sizes v Between = Load State
+call_action_at sizes v Choosing = Load State
 call_action_at sizes v Moving = action_of sizes v.transfer
 call_action_at sizes v Own = own_action v
 
@@ -33,15 +36,41 @@ call_action sizes v = call_action_at sizes v v.calls.stage
 abbrev pub after_move : ℕ → ℕ → NextStep → CallStage
 after_move quantum steps next = if is_rest next || (steps == quantum) then Own else Moving
 
+-- where a search stands: one that has chosen follows with its own step
+abbrev pub after_search_move : Bool → NextStep → CallStage
+after_search_move chosen next = if is_rest next then (if chosen then Own else Choosing) else Moving
+
+-- whether a call makes steps of a transfer in its own pace, at most a quantum: all but a search
+abbrev pub is_paced : Option Call → Bool
+is_paced None = true
+is_paced (Some Allocate) = true
+is_paced (Some (Free block)) = true
+is_paced (Some (Read block index)) = true
+is_paced (Some (Write block index value)) = true
+is_paced (Some Search) = false
+
+-- where any call stands after one more step of its transfer, and how many steps it then counts
+abbrev pub stage_after : Bool → Bool → ℕ → ℕ → NextStep → CallStage
+stage_after true chosen quantum steps next = after_move quantum (steps + 1) next
+stage_after false chosen quantum steps next = after_search_move chosen next
+
+abbrev pub steps_after : Bool → ℕ → ℕ
+steps_after true steps = steps + 1
+steps_after false steps = steps
+
 -- the call has made one step more of its transfer
 abbrev pub move_counted : Sizes → ProcessView → ProcessView
 move_counted sizes v =
-    let steps = v.calls.steps + 1 in
-    record v { calls = record v.calls { stage = after_move sizes.quantum steps v.transfer.next; steps = steps } }
+    let paced = is_paced v.calls.call in
+    record v { calls = record v.calls {
+      stage = stage_after paced v.calls.chosen sizes.quantum v.calls.steps v.transfer.next;
+      steps = steps_after paced v.calls.steps;
+    } }
 
 -- the view after its next step at that stage met this word
 abbrev pub call_met_at : Sizes → ProcessView → ℕ → CallStage → ProcessView
 call_met_at sizes v word Between = v
+call_met_at sizes v word Choosing = v
 call_met_at sizes v word Moving = move_counted sizes (view_met sizes v word)
 call_met_at sizes v word Own = own_met v word
 
@@ -58,6 +87,7 @@ happened kind answer.Stored = Stored
 -- what happened in the next step at that stage, where it met this word
 abbrev pub call_answer_at : ProcessView → ℕ → CallStage → Happened
 call_answer_at v word Between = Ignored
+call_answer_at v word Choosing = Ignored
 call_answer_at v word Moving = Step (kind_of v.transfer.next)
 call_answer_at v word Own = happened (own_kind v) (own_answer v word)
 

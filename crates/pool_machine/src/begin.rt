@@ -1,10 +1,10 @@
 // The beginning of a call.
-ghost use Rattle.std.specs.Prelude.{◌≡◌, ◌<◌, ◌≤◌, length};
+ghost use Rattle.std.specs.Prelude.{◌≡◌, ◌<◌, ◌≤◌, false, length};
 ghost use Rattle.word_layout.specs.Packing.{most_age, FitsWish};
 ghost use Rattle.transfer_schedule.specs.declared.pending.Pending.TheVariants.{Idle};
 ghost use Rattle.transfer_machine.specs.declared.stage.NextStep.TheVariants.{Rest};
 ghost use Rattle.pool_machine.specs.Pools.{MayBegin};
-ghost use Rattle.pool_machine.specs.Beginning.{newest, due, before_call, first_stage, entered, call_begun, alone_begun};
+ghost use Rattle.pool_machine.specs.Beginning.{newest, due, before_call, first_stage, entered, search_chosen, search_begun_by, call_begun, alone_begun};
 ghost use Rattle.pool_machine.specs.Conditions.{IsYoungFor};
 ghost use Rattle.pool_machine.specs.Ready.{CanBegin};
 
@@ -59,7 +59,38 @@ pub fn begin_call(view: &mut ProcessView, call: Call)
             enter(view, call, stage);
         }
         Call::Read { .. } | Call::Write { .. } => enter(view, call, CallStage::Own),
+        Call::Search => {
+            if view.pool.plan.pending() == Pending::Idle {
+                choose(view);
+            } else {
+                meet(view);
+            }
+        }
     }
+}
+
+/// A search with nothing pending begins the transfer that is due, if any.
+pub fn choose(view: &mut ProcessView)
+    requires young { view.old.transfer.age < most_age }
+    requires can { CanBegin view.old }
+    ensures { view.new ≡ search_chosen view.old }
+{
+    before_call(view);
+    let stage = first_stage(view);
+    enter(view, Call::Search, stage);
+}
+
+/// A search begins in the midst of a transfer.
+fn meet(view: &mut ProcessView)
+    ensures { view.new ≡ search_begun_by false view.old }
+{
+    view.calls = CallView {
+        stage: CallStage::Moving,
+        call: Some(Call::Search),
+        steps: 0,
+        chosen: false,
+        way: Way::Calls,
+    };
 }
 
 /// Where an allocate or a free stands as it begins.
@@ -96,6 +127,7 @@ fn enter(view: &mut ProcessView, call: Call, stage: CallStage)
         stage,
         call: Some(call),
         steps: 0,
+        chosen: true,
         way: Way::Calls,
     };
 }

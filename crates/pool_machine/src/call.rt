@@ -14,6 +14,8 @@ pub enum Call {
     Read { block: u32, index: u32 },
     /// Store a value as data word `index` of a held block.
     Write { block: u32, index: u32, value: u64 },
+    /// Get a block, after whole transfers: one that is pending is run to its end, and then the one that is due.
+    Search,
 }
 
 /// How a process has used its pool so far.
@@ -54,6 +56,8 @@ impl Way {
 pub enum CallStage {
     /// In no call.
     Between,
+    /// In a search whose met transfer has ended: with its next step it begins the one that is due, if any.
+    Choosing,
     /// At a step of the pending transfer.
     Moving,
     /// At the own step of the call.
@@ -67,8 +71,10 @@ pub struct CallView {
     pub stage: CallStage,
     /// The present call.
     pub call: Option<Call>,
-    /// How many steps of the pending transfer the call has made.
+    /// How many steps of its quantum an allocate or a free has made.
     pub steps: u32,
+    /// Whether a search has begun the transfer that was due, or found none due.
+    pub chosen: bool,
     /// How the process has used its pool so far.
     pub way: Way,
 }
@@ -82,6 +88,7 @@ impl CallView {
             stage: CallStage::Between,
             call: None,
             steps: 0,
+            chosen: false,
             way: Way::Fresh,
         }
     }

@@ -29,7 +29,9 @@ fn is_young_for(view: &ProcessView, call: Call) -> bool
     ensures fact { IsTrue result ↔ IsYoungFor call view.now }
 {
     match call {
-        Call::Allocate | Call::Free { .. } => view.transfer.age < Announced::MOST_AGE,
+        Call::Allocate | Call::Free { .. } | Call::Search => {
+            view.transfer.age < Announced::MOST_AGE
+        }
         Call::Read { .. } | Call::Write { .. } => true,
     }
 }
@@ -40,7 +42,7 @@ fn names_fit(shape: &Shape, call: Call, holds: bool) -> bool
     ensures fact { IsTrue result ↔ NamesFit shape.now holds call }
 {
     match call {
-        Call::Allocate => true,
+        Call::Allocate | Call::Search => true,
         Call::Free { .. } => holds,
         Call::Read { index, .. } | Call::Write { index, .. } => holds && index < shape.words(),
     }

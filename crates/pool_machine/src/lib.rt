@@ -24,7 +24,7 @@ mod tests;
 mod view;
 
 pub use answer::OwnAnswer;
-pub use begin::{before_call, begin_call, begin_transfer, newest};
+pub use begin::{before_call, begin_call, begin_transfer, choose, newest};
 pub use call::{Call, CallStage, CallView, Way};
 pub use conditions::{may_call, may_move};
 pub use event::{Event, Happened};

@@ -68,7 +68,7 @@ pub fn own_action(view: &ProcessView, call: Option<Call>, shape: &Shape) -> Acti
 {
     match call {
         None => load(WordName::State),
-        Some(Call::Allocate) => match next_block(&view.pool, shape) {
+        Some(Call::Allocate | Call::Search) => match next_block(&view.pool, shape) {
             None => load(WordName::State),
             Some(block) => load(WordName::Next { block }),
         },
@@ -122,7 +122,7 @@ pub fn own_meet(view: &mut ProcessView, call: Option<Call>, shape: &Shape, word:
 {
     prove!(shape.blocks() <= Shape::MOST_BLOCKS);
     match call {
-        Some(Call::Allocate) => allocate(&mut view.pool, shape, word),
+        Some(Call::Allocate | Call::Search) => allocate(&mut view.pool, shape, word),
         Some(Call::Free { block }) => free(&mut view.pool, block),
         Some(Call::Read { .. } | Call::Write { .. }) | None => {}
     }
@@ -188,6 +188,7 @@ fn leave(calls: &mut CallView)
     calls.stage = CallStage::Between;
     calls.call = None;
     calls.steps = 0;
+    calls.chosen = false;
 }
 
 /// How the own step of the present call answers where it met this word.
@@ -199,7 +200,7 @@ pub fn own_answer(view: &ProcessView, call: Option<Call>, shape: &Shape, word: u
 {
     let by = view.transfer.number;
     match call {
-        Some(Call::Allocate) => OwnAnswer::Recorded(match next_block(&view.pool, shape) {
+        Some(Call::Allocate | Call::Search) => OwnAnswer::Recorded(match next_block(&view.pool, shape) {
             None => Entry::Dry { by },
             Some(block) => Entry::Got { by, block },
         }),
@@ -216,7 +217,7 @@ pub fn own_kind(view: &ProcessView, shape: &Shape) -> Kind
 {
     match view.calls.call {
         None => Kind::K19,
-        Some(Call::Allocate) => match next_block(&view.pool, shape) {
+        Some(Call::Allocate | Call::Search) => match next_block(&view.pool, shape) {
             None => Kind::K14,
             Some(_) => Kind::K12,
         },

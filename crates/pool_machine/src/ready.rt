@@ -3,13 +3,13 @@ ghost use Rattle.std.specs.Prelude.{◌≡◌, ◌≢◌, ◌↔◌, IsTrue};
 ghost use Rattle.transfer_schedule.specs.Numbers.{source_of, target_of};
 ghost use Rattle.transfer_machine.specs.Machine.{CanAct};
 ghost use Rattle.pool_machine.specs.Pools.{CanEnd};
-ghost use Rattle.pool_machine.specs.Ready.{PlanFits, CanBegin, CanMove, CanMeetMoving, CanActCall, CanMeetCall, CanStepCall};
+ghost use Rattle.pool_machine.specs.Ready.{PlanFits, CanBegin, HasStepLeft, CanGoOn, CanMove, CanMeetMoving, CanActCall, CanMeetCall, CanStepCall};
 ghost use Rattle.pool_machine.specs.Ready.{CanAllocate, CanFree, CanFollow, CanOwn, CanMeetOwn};
 
 use crate::begin::newest;
 use crate::call::{Call, CallStage};
 use crate::own::{source_of, target_of};
-use crate::step::call_action;
+use crate::step::{call_action, is_paced};
 use crate::view::{PoolView, ProcessView};
 use transfer_machine::NextStep;
 use transfer_schedule::{Pending, Source, Target};
@@ -45,7 +45,7 @@ fn can_act_call(view: &ProcessView, shape: &Shape) -> bool
     ensures { IsTrue result ↔ CanActCall shape.now view.now }
 {
     match view.calls.stage {
-        CallStage::Between => true,
+        CallStage::Between | CallStage::Choosing => true,
         CallStage::Moving => can_move(view, shape),
         CallStage::Own => can_own(view, shape),
     }
@@ -57,7 +57,7 @@ fn can_meet_call(view: &ProcessView, shape: &Shape, word: u64) -> bool
     ensures { IsTrue result ↔ CanMeetCall shape.now view.now word }
 {
     match view.calls.stage {
-        CallStage::Between => true,
+        CallStage::Between | CallStage::Choosing => true,
         CallStage::Moving => can_meet_moving(view, shape, word),
         CallStage::Own => can_meet_own(view, word),
     }
@@ -68,11 +68,30 @@ fn can_move(view: &ProcessView, shape: &Shape) -> bool
     requires { PlanFits shape.now view.now.pool.plan }
     ensures { IsTrue result ↔ CanMove shape.now view.now }
 {
+    can_go_on(view, shape) && has_step_left(view, shape)
+}
+
+/// Whether its transfer can.
+fn can_go_on(view: &ProcessView, shape: &Shape) -> bool
+    requires { PlanFits shape.now view.now.pool.plan }
+    ensures { IsTrue result ↔ CanGoOn shape.now view.now }
+{
     view.transfer.next != NextStep::Rest
         && view.transfer.can_act(shape)
         && view.pool.plan.pending() != Pending::Idle
         && view.pool.plan.done() < shape.transfer_bound()
-        && view.calls.steps < shape.quantum()
+        && 1 <= shape.quantum()
+}
+
+/// Whether a call that makes steps in its pace has made fewer than a quantum.
+fn has_step_left(view: &ProcessView, shape: &Shape) -> bool
+    ensures { IsTrue result ↔ HasStepLeft shape.now view.now }
+{
+    if is_paced(view.calls.call) {
+        view.calls.steps < shape.quantum()
+    } else {
+        true
+    }
 }
 
 /// Whether a step of the transfer stays in range where it meets this word.
@@ -102,7 +121,7 @@ fn can_own(view: &ProcessView, shape: &Shape) -> bool
 {
     match view.calls.call {
         None => true,
-        Some(Call::Allocate) => can_allocate(&view.pool, shape),
+        Some(Call::Allocate | Call::Search) => can_allocate(&view.pool, shape),
         Some(Call::Free { block }) => block < shape.blocks() && can_free(&view.pool),
         Some(Call::Read { block, index } | Call::Write { block, index, .. }) => {
             block < shape.blocks() && index < shape.words()
@@ -136,7 +155,7 @@ fn can_meet_own(view: &ProcessView, word: u64) -> bool
     ensures { IsTrue result ↔ CanMeetOwn view.now word }
 {
     match view.calls.call {
-        Some(Call::Allocate) => can_follow(&view.pool, word),
+        Some(Call::Allocate | Call::Search) => can_follow(&view.pool, word),
         Some(Call::Free { .. } | Call::Read { .. } | Call::Write { .. }) | None => true,
     }
 }

@@ -1,16 +1,17 @@
 // One step of a call, or of a transfer alone.
-ghost use Rattle.std.specs.Prelude.{◌≡◌, ◌≢◌};
+ghost use Rattle.std.specs.Prelude.{◌≡◌, ◌≢◌, if◌then◌else◌};
 ghost use Rattle.word_layout.specs.Names.{InRange};
 ghost use Rattle.transfer_machine.specs.declared.stage.NextStep.TheVariants.{Rest};
 ghost use Rattle.transfer_machine.specs.Machine.{action_of};
 ghost use Rattle.transfer_machine.specs.Stages.{kind_of};
 ghost use Rattle.transfer_machine.specs.Words.{acted, met_word, name_of, CanStep};
-ghost use Rattle.pool_machine.specs.Steps.{call_action, call_met, call_answer, happened, move_counted};
+ghost use Rattle.pool_machine.specs.Steps.{call_action, call_met, call_answer, happened, is_paced, move_counted};
+ghost use Rattle.pool_machine.specs.declared.call.CallStage.TheVariants.{Choosing, Moving, Own};
 ghost use Rattle.pool_machine.specs.Ready.{CanActCall, CanMeetCall, CanMove, CanMeetMoving, CanStepCall};
 ghost use Rattle.pool_machine.specs.Pools.{view_met, CanCount, CanMeetPool};
 
 use crate::answer::OwnAnswer;
-use crate::call::CallStage;
+use crate::call::{Call, CallStage};
 use crate::event::Happened;
 use crate::own::{own_action, own_answer, own_kind, own_meet};
 use crate::view::ProcessView;
@@ -24,7 +25,7 @@ pub fn call_action(view: &ProcessView, shape: &Shape) -> Action
     ensures within { InRange shape.now (name_of result) }
 {
     match view.calls.stage {
-        CallStage::Between => Action::Load {
+        CallStage::Between | CallStage::Choosing => Action::Load {
             name: WordName::State,
         },
         CallStage::Moving => view.transfer.action(shape),
@@ -39,7 +40,7 @@ pub fn call_meet(view: &mut ProcessView, shape: &Shape, word: u64)
     ensures { view.new ≡ call_met shape.now view.old word }
 {
     match view.calls.stage {
-        CallStage::Between => {}
+        CallStage::Between | CallStage::Choosing => {}
         CallStage::Moving => move_on(view, shape, word),
         CallStage::Own => {
             let call = view.calls.call;
@@ -58,12 +59,40 @@ fn move_on(view: &mut ProcessView, shape: &Shape, word: u64)
     let quantum = shape.quantum();
     prove!(quantum <= 16);
     view.meet(shape, word);
-    view.calls.steps += 1;
-    view.calls.stage = if view.transfer.next == NextStep::Rest || view.calls.steps == quantum {
+    let ended = view.transfer.next == NextStep::Rest;
+    if is_paced(view.calls.call) {
+        view.calls.steps += 1;
+        view.calls.stage = if ended || view.calls.steps == quantum {
+            CallStage::Own
+        } else {
+            CallStage::Moving
+        };
+    } else {
+        view.calls.stage = after_search_move(view.calls.chosen, ended);
+    }
+}
+
+/// Where a search stands after a step of its transfer.
+fn after_search_move(chosen: bool, ended: bool) -> CallStage
+    ensures { result ≡ (if ended then (if chosen then Own else Choosing) else Moving) }
+{
+    if !ended {
+        CallStage::Moving
+    } else if chosen {
         CallStage::Own
     } else {
-        CallStage::Moving
-    };
+        CallStage::Choosing
+    }
+}
+
+/// Whether a call makes at most a quantum of steps of a transfer.
+pub fn is_paced(call: Option<Call>) -> bool
+    ensures { result ≡ is_paced call }
+{
+    match call {
+        None | Some(Call::Allocate | Call::Free { .. } | Call::Read { .. } | Call::Write { .. }) => true,
+        Some(Call::Search) => false,
+    }
 }
 
 /// What happened in the next step, where it met this word.
@@ -72,7 +101,7 @@ pub fn call_answer(view: &ProcessView, shape: &Shape, word: u64) -> Happened
     ensures { result ≡ call_answer view.now word }
 {
     match view.calls.stage {
-        CallStage::Between => Happened::Ignored,
+        CallStage::Between | CallStage::Choosing => Happened::Ignored,
         CallStage::Moving => Happened::Step(view.transfer.next.kind()),
         CallStage::Own => {
             let answer = own_answer(view, view.calls.call, shape, word);

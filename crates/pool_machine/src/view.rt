@@ -131,6 +131,7 @@ impl ProcessView {
                     Phase::Moving(self.transfer.stage())
                 }
             }
+            CallStage::Choosing => Phase::Between,
             CallStage::Moving => Phase::Moving(self.transfer.stage()),
             CallStage::Own => Phase::Own,
         }

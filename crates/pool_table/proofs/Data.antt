@@ -8,9 +8,9 @@ use Rattle.word_layout.specs.declared.name.WordName.{WordName}
 use Rattle.pool_model.specs.declared.entry.Entry.{Entry}
 use Rattle.pool_model.specs.History.{own, grip}
 use Rattle.pool_machine.specs.declared.call.Call.{Call}
-use Rattle.pool_machine.specs.declared.call.Call.TheVariants.{Allocate, Free, Read, Write}
+use Rattle.pool_machine.specs.declared.call.Call.TheVariants.{Allocate, Free, Read, Write, Search}
 use Rattle.pool_machine.specs.declared.call.CallStage.{CallStage}
-use Rattle.pool_machine.specs.declared.call.CallStage.TheVariants.{Between, Moving, Own}
+use Rattle.pool_machine.specs.declared.call.CallStage.TheVariants.{Between, Choosing, Moving, Own}
 use Rattle.pool_machine.specs.declared.view.ProcessView.{ProcessView}
 use Rattle.batch_invariant.specs.Batches.{ProcessViews}
 use Rattle.interleaving_core.specs.DataWords.{forgets, changed_by_call, known_at_stage, changed_after}
@@ -58,10 +58,12 @@ call_changes (Some Allocate) known block index = refl
 call_changes (Some (Free freed)) known block index = forget_forgets freed known block index
 call_changes (Some (Read read place)) known block index = refl
 call_changes (Some (Write written place value)) known block index = refl
+call_changes (Some Search) known block index = refl
 
 stage_changes : (stage : CallStage) (call : Option Call) (known : List KnownWord)
     → SameKnown (known_in (words_at_stage stage call known)) (known_at_stage (changed_by_call call (known_in known)) stage (known_in known))
 stage_changes Between call known block index = refl
+stage_changes Choosing call known block index = refl
 stage_changes Moving call known block index = refl
 stage_changes Own call known block index = call_changes call known block index
 

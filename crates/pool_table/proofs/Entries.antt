@@ -12,9 +12,9 @@ use Rattle.pool_model.specs.History.{process_of, own}
 use Rattle.transfer_machine.specs.declared.kind.Kind.{Kind}
 use Rattle.transfer_machine.specs.Stages.{kind_of}
 use Rattle.pool_machine.specs.declared.call.Call.{Call}
-use Rattle.pool_machine.specs.declared.call.Call.TheVariants.{Allocate, Free, Read, Write}
+use Rattle.pool_machine.specs.declared.call.Call.TheVariants.{Allocate, Free, Read, Write, Search}
 use Rattle.pool_machine.specs.declared.call.CallStage.{CallStage}
-use Rattle.pool_machine.specs.declared.call.CallStage.TheVariants.{Between, Moving, Own}
+use Rattle.pool_machine.specs.declared.call.CallStage.TheVariants.{Between, Choosing, Moving, Own}
 use Rattle.pool_machine.specs.declared.event.Happened.TheVariants.{Step}
 use Rattle.pool_machine.specs.declared.view.PoolView.{PoolView}
 use Rattle.pool_machine.specs.declared.view.ProcessView.{ProcessView}
@@ -47,9 +47,11 @@ own_step_own by word pool (Some Allocate) = allocate_own by (next_block pool) (o
 own_step_own by word pool (Some (Free block)) = one_own by (Back by block) refl
 own_step_own by word pool (Some (Read block index)) = refl
 own_step_own by word pool (Some (Write block index value)) = refl
+own_step_own by word pool (Some Search) = allocate_own by (next_block pool) (own_kind_for pool (Some Search))
 
 call_own : (v : ProcessView) (word : ℕ) (stage : CallStage) → AllOwn v.transfer.number (entries_of (call_answer_at v word stage))
 call_own v word Between = refl
+call_own v word Choosing = refl
 call_own v word Moving = refl
 call_own v word Own = own_step_own v.transfer.number word v.pool v.calls.call
 

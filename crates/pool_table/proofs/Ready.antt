@@ -14,6 +14,8 @@ use Rattle.pool_machine.specs.declared.call.Call.{Call}
 use Rattle.pool_machine.specs.declared.call.Call.TheVariants.{Allocate, Free, Read, Write}
 use Rattle.pool_machine.specs.declared.call.Way.{Way}
 use Rattle.pool_machine.specs.declared.call.Way.TheVariants.{Fresh, Alone, Calls}
+use Rattle.interleaving_core.specs.Moves.{started}
+use Rattle.interleaving_core.proofs.CallLawsShort.{started_calls}
 use Rattle.pool_machine.specs.declared.view.ProcessView.{ProcessView}
 use Rattle.interleaving_core.specs.Invariant.{BlockIsHeld}
 use Rattle.interleaving_core.specs.Moves.{may_go, calling_view, may_wish}
@@ -69,9 +71,9 @@ in_call_not_alone call v ne = by (is_in_call v.calls.stage)
     not_alone Alone ne = absurd (ne refl)
     not_alone Calls ne = refl
 
-    by : (t : Bool) → is_alone (if t then v else call_begun call v).calls.way ≡ false
+    by : (t : Bool) → is_alone (if t then v else started call v).calls.way ≡ false
     by true = not_alone v.calls.way ne
-    by false = begun_calls call v
+    by false = started_calls call v v.calls.stage
 
 -- and the step can be made
 pub call_can_act : (sizes : Sizes) (call : Call) (v : SeatView) → CanStep sizes (InCall call) v → v.mind.view.calls.way ≢ Alone

@@ -14,9 +14,9 @@ use Rattle.transfer_machine.specs.declared.stage.TryStep.TheVariants.{LoadAnnoun
 use Rattle.transfer_machine.specs.declared.transfer.TransferView.{TransferView}
 use Rattle.pool_machine.specs.Pools.{CanMeetPool, pool_met_at, view_met}
 use Rattle.pool_machine.specs.declared.call.Call.{Call}
-use Rattle.pool_machine.specs.declared.call.Call.TheVariants.{Allocate, Free, Read, Write}
+use Rattle.pool_machine.specs.declared.call.Call.TheVariants.{Allocate, Free, Read, Write, Search}
 use Rattle.pool_machine.specs.declared.call.CallStage.{CallStage}
-use Rattle.pool_machine.specs.declared.call.CallStage.TheVariants.{Between, Moving, Own}
+use Rattle.pool_machine.specs.declared.call.CallStage.TheVariants.{Between, Choosing, Moving, Own}
 use Rattle.pool_machine.specs.declared.view.PoolView.{PoolView}
 use Rattle.pool_machine.specs.declared.view.ProcessView.{ProcessView}
 use Rattle.pool_machine.specs.OwnSteps.{own_action_for, allocate_action, next_block, pool_own_met, own_answer_for, own_kind_for, call_left}
@@ -74,6 +74,7 @@ own_pool_same pool (Some Allocate) name stored a b e = absurd (allocate_loads (n
 own_pool_same pool (Some (Free block)) name stored a b e = (refl, tt)
 own_pool_same pool (Some (Read block index)) name stored a b e = (refl, tt)
 own_pool_same pool (Some (Write block index value)) name stored a b e = (refl, tt)
+own_pool_same pool (Some Search) name stored a b e = absurd (allocate_loads (next_block pool) name stored e)
 
 own_answer_same : (by : ℕ) (pool : PoolView) (call : Option Call) (name : WordName) (stored a b : ℕ)
     → own_action_for pool call ≡ Store name stored → own_answer_for by pool a call ≡ own_answer_for by pool b call
@@ -82,6 +83,7 @@ own_answer_same by pool (Some Allocate) name stored a b e = refl
 own_answer_same by pool (Some (Free block)) name stored a b e = refl
 own_answer_same by pool (Some (Read block index)) name stored a b e = absurd (cc)
 own_answer_same by pool (Some (Write block index value)) name stored a b e = refl
+own_answer_same by pool (Some Search) name stored a b e = refl
 
 -- a step at a stage of a call that stores
 record SameAtStage (sizes : Sizes) (v : ProcessView) (stage : CallStage) (a b : ℕ) : Type 0 where
@@ -92,6 +94,7 @@ record SameAtStage (sizes : Sizes) (v : ProcessView) (stage : CallStage) (a b : 
 call_same : (sizes : Sizes) (v : ProcessView) (stage : CallStage) (name : WordName) (stored a b : ℕ)
     → call_action_at sizes v stage ≡ Store name stored → SameAtStage sizes v stage a b
 call_same sizes v Between name stored a b e = record { met = refl; answer = refl; can = tt }
+call_same sizes v Choosing name stored a b e = record { met = refl; answer = refl; can = tt }
 call_same sizes v Moving name stored a b e = record {
   met = ap (move_counted sizes) (view_same sizes v name stored a b e);
   answer = refl;

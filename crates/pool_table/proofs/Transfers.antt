@@ -18,7 +18,7 @@ use Rattle.pool_machine.specs.Beginning.{alone_begun}
 use Rattle.pool_machine.specs.Conditions.{may_use_transfers}
 use Rattle.pool_machine.specs.Ready.{CanActCallAt, CanMeetCallAt}
 use Rattle.pool_machine.specs.declared.call.CallStage.{CallStage}
-use Rattle.pool_machine.specs.declared.call.CallStage.TheVariants.{Between, Moving, Own}
+use Rattle.pool_machine.specs.declared.call.CallStage.TheVariants.{Between, Choosing, Moving, Own}
 use Rattle.pool_machine.specs.declared.call.Way.{Way}
 use Rattle.pool_machine.specs.declared.call.Way.TheVariants.{Fresh, Alone, Calls}
 use Rattle.pool_machine.specs.declared.view.ProcessView.{ProcessView}
@@ -42,6 +42,7 @@ use Rattle.pool_table.proofs.Turns.{seat_step_due}
 
 at_moving : (stage : CallStage) → moves_at stage ≡ true → stage ≡ Moving
 at_moving Between e = absurd (grind arith)
+at_moving Choosing e = absurd (grind arith)
 at_moving Moving e = refl
 at_moving Own e = absurd (grind arith)
 
@@ -62,7 +63,7 @@ becomes sizes w word false e moves = let moving = in_moving_call w e moves in rw
 can : (sizes : Sizes) (words : WordName → ℕ) (w : ProcessView) (alone : Bool) → is_alone w.calls.way ≡ alone → moves_transfer w ≡ true
     → StepAllowed sizes words w → CanAct sizes w.transfer
 can sizes words w true e moves allowed = allowed.act e
-can sizes words w false e moves allowed = (subst (CanActCallAt sizes w) (in_moving_call w e moves) (allowed.call_act e)).act
+can sizes words w false e moves allowed = (subst (CanActCallAt sizes w) (in_moving_call w e moves) (allowed.call_act e)).go.act
 
 meets : (sizes : Sizes) (w : ProcessView) (word : ℕ) (alone : Bool) → is_alone w.calls.way ≡ alone → moves_transfer w ≡ true
     → CanMeetNext sizes w word → CanMeet sizes w.transfer word
@@ -115,7 +116,7 @@ transfer_can_act sizes a v t c agrees =
 going : (sizes : Sizes) (words : WordName → ℕ) (w : ProcessView) (alone : Bool) → is_alone w.calls.way ≡ alone → moves_transfer w ≡ true
     → StepAllowed sizes words w → w.transfer.next ≢ Rest
 going sizes words w true e moves allowed = allowed.busy e
-going sizes words w false e moves allowed = (subst (CanActCallAt sizes w) (in_moving_call w e moves) (allowed.call_act e)).busy
+going sizes words w false e moves allowed = (subst (CanActCallAt sizes w) (in_moving_call w e moves) (allowed.call_act e)).go.busy
 
 pub transfer_is_going : (sizes : Sizes) (a : About) (v : SeatView) (t : TransferView) → CanStep sizes a v → Agrees a v t → t.next ≢ Rest
 transfer_is_going sizes a v t c agrees =

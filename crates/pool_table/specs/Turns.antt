@@ -3,9 +3,9 @@ use Rattle.std.specs.Prelude.{◌≡◌, ℕ, ◌+◌, ◌==◌, if◌then◌els
 use Rattle.word_layout.specs.Sizes.{Sizes}
 use Rattle.pool_model.specs.declared.entry.Entry.{Entry}
 use Rattle.pool_machine.specs.declared.call.Call.{Call}
-use Rattle.pool_machine.specs.declared.call.Call.TheVariants.{Allocate, Free, Read, Write}
+use Rattle.pool_machine.specs.declared.call.Call.TheVariants.{Allocate, Free, Read, Write, Search}
 use Rattle.pool_machine.specs.declared.call.CallStage.{CallStage}
-use Rattle.pool_machine.specs.declared.call.CallStage.TheVariants.{Between, Moving, Own}
+use Rattle.pool_machine.specs.declared.call.CallStage.TheVariants.{Between, Choosing, Moving, Own}
 use Rattle.pool_machine.specs.declared.view.ProcessView.{ProcessView}
 use Rattle.interleaving_core.specs.Invariant.{BlockIsHeld}
 use Rattle.interleaving_core.specs.Moves.{may_go_alone, moving_view, may_go, calling_view}
@@ -44,10 +44,12 @@ words_by_call (Some Allocate) known = known
 words_by_call (Some (Free block)) known = forget block known
 words_by_call (Some (Read block index)) known = known
 words_by_call (Some (Write block index value)) known = record { block = block; index = index; value = value } ∷ known
+words_by_call (Some Search) known = known
 
 -- and after a step at that stage of a call
 abbrev pub words_at_stage : CallStage → Option Call → List KnownWord → List KnownWord
 words_at_stage Between call known = known
+words_at_stage Choosing call known = known
 words_at_stage Moving call known = known
 words_at_stage Own call known = words_by_call call known
 

@@ -18,8 +18,8 @@ pub fn transfers_begin()
     ensures gives { GivesBegin }
 {}
 
-/// An allocate or a free that has begun is answered by the time that its process has had a turn more than a quantum,
-/// a read or a write by the first turn, whatever turns the other processes have meanwhile.
+/// A call that has begun is answered by the time that its process has had a turn more than the call makes steps of
+/// transfers at most, whatever turns the other processes have meanwhile.
 pub fn calls_are_answered()
     ensures { CallsAreAnswered }
 {}

@@ -42,6 +42,34 @@ fn first_allocates(rt: HostRuntime) -> Result<(), Fail> {
     Ok(())
 }
 
+/// A search runs its own transfer to the end, and one that it meets; it makes none where none is due.
+#[test]
+fn searches(rt: HostRuntime) -> Result<(), Fail> {
+    let shape = Shape::new(1, 10, 0)?;
+    let mut run = CoreRun::open(rt.alloc(), &shape)?;
+    let mut rows = [(0, 0); 4];
+    for row in &mut rows {
+        *row = search(&rt, &mut run, 0);
+    }
+    assert_eq!(rt; rows, [(0, 16), (1, 1), (2, 1), (3, 1)]);
+    let mut run = CoreRun::open(rt.alloc(), &shape)?;
+    assert_eq!(rt; allocate(&rt, &mut run, 0), (Some(0), 9));
+    assert_eq!(rt; search(&rt, &mut run, 0), (1, 8));
+    Ok(())
+}
+
+/// A whole search: the block that it got, and how many steps it made.
+fn search(rt: &impl Abort, run: &mut CoreRun, by: u32) -> (u32, u32) {
+    let (happened, steps) = whole_call(rt, run, by, Call::Search);
+    match happened {
+        Happened::Ended {
+            entry: Entry::Got { block, .. },
+            ..
+        } => (block, steps),
+        _ => panic!(rt; "{happened:?}"),
+    }
+}
+
 /// Where nothing is in the stack, a process alone gets the blocks that it keeps at the opening, and no more.
 #[test]
 fn alone_until_dry(rt: HostRuntime) -> Result<(), Fail> {

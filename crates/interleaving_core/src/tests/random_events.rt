@@ -43,7 +43,7 @@ fn count_of(held: &Held, by: u32) -> usize {
 /// Whether a process may begin this call.
 fn may_begin(held: &Held, event: Event) -> bool {
     match event.call {
-        Call::Allocate => true,
+        Call::Allocate | Call::Search => true,
         Call::Free { block } | Call::Read { block, .. } | Call::Write { block, .. } => {
             held_by(held, block) == Some(event.by)
         }
@@ -56,9 +56,9 @@ fn may_begin(held: &Held, event: Event) -> bool {
 fn enter(rt: &impl Abort, held: &mut Held, length: u32, event: Event, happened: Happened) -> bool {
     let by = event.by;
     match (event.call, happened) {
-        (Call::Allocate | Call::Free { .. }, Happened::Step(_)) => true,
+        (Call::Allocate | Call::Free { .. } | Call::Search, Happened::Step(_)) => true,
         (
-            Call::Allocate,
+            Call::Allocate | Call::Search,
             Happened::Ended {
                 entry: Entry::Got { by: to, block },
                 ..
@@ -69,7 +69,7 @@ fn enter(rt: &impl Abort, held: &mut Held, length: u32, event: Event, happened: 
             to == by && unheld
         }
         (
-            Call::Allocate,
+            Call::Allocate | Call::Search,
             Happened::Ended {
                 entry: Entry::Dry { by: to },
                 ..
@@ -139,6 +139,7 @@ fn some_event(held: &Held, frees: bool, seed: &mut u32) -> Event {
         2 => Call::Free {
             block: next_number(seed) % MOST_BLOCKS,
         },
+        3 => Call::Search,
         number if (number < 6) != frees => Call::Free { block },
         _ => Call::Allocate,
     };

@@ -2,7 +2,7 @@ use Rattle.call_invariant.proofs.Owned.{phase_own, gets_leave, refusals_leave, f
 use Rattle.call_invariant.proofs.laws.own_steps.Goals as goal
 
 pub returns-clause-due : goal.returns-clause-due
-returns-clause-due c sizes i v ledger h own changes = phase_own sizes i v ledger h own changes
+returns-clause-due c sizes i v ledger h own = phase_own sizes i v ledger h own
 
 pub returns-clause-gots : goal.returns-clause-gots
 returns-clause-gots c sizes i v ledger word history entry h own call = rw own (gets_leave sizes i v word ledger history entry h own call)

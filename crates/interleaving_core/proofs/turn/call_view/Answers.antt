@@ -1,5 +1,5 @@
 use Rattle.interleaving_core.proofs.Standing.{call_young}
-use Rattle.interleaving_core.proofs.Tables.{among_can_begin, among_calling, between_goes}
+use Rattle.interleaving_core.proofs.Tables.{among_can_begin, among_calling, among_choosing, between_goes}
 use Rattle.interleaving_core.proofs.Runs.{calling_next}
 use Rattle.interleaving_core.proofs.turn.call_view.Goals as goal
 
@@ -7,6 +7,10 @@ pub begin_between-requires-clause-young : goal.begin_between-requires-clause-you
 begin_between-requires-clause-young c =
     λ between. call_young c.args.shape.now c.args.holds c.args.call c.args.view.now
     (between_goes c.args.shape.now c.args.view.now c.args.call c.args.holds between c.requires.goes)
+
+pub begin_between-requires-clause-choosing : goal.begin_between-requires-clause-choosing
+begin_between-requires-clause-choosing c =
+    among_choosing c.args.shape.now c.args.words.now c.args.view.now c.requires.invariant.among
 
 pub begin_between-requires-clause-can : goal.begin_between-requires-clause-can
 begin_between-requires-clause-can c =

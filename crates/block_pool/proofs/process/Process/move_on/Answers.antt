@@ -27,7 +27,7 @@ loop-made-preserved g c =
     let same = c.step.ensures.one.same in
     let moved = c.step.ensures.moved in
     let go = runs_moving _ _ _ _ x (omega (arith, c.loop-made-test.true)) h.running in
-    let within = (can_move _ _ _ x go).count.within in
+    let within = (can_move _ _ _ x go).go.count.within in
     let same_done = ap (λ p. p.done) h.plan in
     let same_bound = ap (λ p. p.bound) h.plan in
     record {
