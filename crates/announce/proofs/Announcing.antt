@@ -3,7 +3,7 @@ use Rattle.std.proofs.Common.{◌≡◌, ℕ, ◌+◌, ◌<◌, ◌≤◌, refl,
 use Rattle.word_rule.specs.Moves.{Keeps, Learned, replaced_by}
 use Rattle.word_layout.specs.Sizes.{Sizes}
 use Rattle.word_layout.specs.Names.{place, table_words}
-use Rattle.word_layout.specs.Packing.{most_age, FitsWish}
+use Rattle.word_layout.specs.Packing.{tag_limit, FitsWish}
 use Rattle.word_layout.specs.declared.announced.Wish.{Wish}
 use Rattle.word_layout.specs.declared.name.WordName.TheVariants.{Announcement}
 use Rattle.word_layout.proofs.Placed.{place_below}
@@ -41,7 +41,7 @@ announce_is_next a v process number word wish s e =
 
 -- the number and the wish fit a word, and the process is one of the shape's
 pub record AnnouncementFits (sizes : Sizes) (process number : ℕ) (wish : Wish) : Type 0 where
-  pub number_fits : number ≤ most_age
+  pub number_fits : number < tag_limit
   pub wish_fits : FitsWish wish
   pub within : 1 + process < table_words sizes
   pub few : process < 32

@@ -1,6 +1,6 @@
 // The store of the own announcement.
-ghost use Rattle.std.specs.Prelude.{◌≡◌, ◌≤◌};
-ghost use Rattle.word_layout.specs.Packing.{FitsWish, most_age};
+ghost use Rattle.std.specs.Prelude.{◌≡◌, ◌<◌};
+ghost use Rattle.word_layout.specs.Packing.{FitsWish, tag_limit};
 ghost use Rattle.word_layout.specs.declared.announced.Wish.TheVariants.{Take, Give};
 ghost use Rattle.word_layout.specs.declared.name.WordName.TheVariants.{Announcement};
 ghost use Rattle.transfer_machine.specs.declared.action.Action.TheVariants.{Store};
@@ -82,7 +82,7 @@ fn announce<L: Ledger>(
 /// The store that announces this wish of a process, as its transfer of this number, for whoever has the shape.
 #[inline(always)]
 pub fn store_of_announcement(process: u32, number: u64, wish: Wish) -> Action
-    requires number { number ≤ most_age }
+    requires number { number < tag_limit }
     requires wish { FitsWish wish }
     ensures { result ≡ Store (Announcement process) (announcement number wish) }
 {
@@ -95,7 +95,7 @@ pub fn store_of_announcement(process: u32, number: u64, wish: Wish) -> Action
 /// The word of that announcement.
 #[inline(always)]
 fn announcement(number: u64, wish: Wish) -> u64
-    requires number { number ≤ most_age }
+    requires number { number < tag_limit }
     requires wish { FitsWish wish }
     ensures { result ≡ announcement number wish }
 {

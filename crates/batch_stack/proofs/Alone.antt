@@ -66,13 +66,13 @@ pub turns_at_rest : (wish : Wish) (v : ProcessView) → is_rest v.transfer.next 
 turns_at_rest wish v rest = rw rest refl
 
 -- what begins at rest
-begins : (sizes : Sizes) (wish : Wish) (v : SeatView) (t : TransferView) → RestsAlone sizes v t → t.age < most_age
+begins : (sizes : Sizes) (wish : Wish) (v : SeatView) (t : TransferView) → RestsAlone sizes v t → t.age < most_age sizes
     → may_wish wish v.mind.view.pool ≡ true → GoesAlone sizes v (begun wish t)
 begins sizes wish v t r young wishes =
     let rests = at_rest sizes v t r in
     let turns = turns_at_rest wish v.mind.view rests in
-    let age : v.mind.view.transfer.age < most_age = subst (λ (u : TransferView). u.age < most_age) (sym r.same) young in
-    let young_so : nat_lt v.mind.view.transfer.age most_age ≡ true = grind (arith, nat_tests) in
+    let age : v.mind.view.transfer.age < most_age sizes = subst (λ (u : TransferView). u.age < most_age sizes) (sym r.same) young in
+    let young_so : nat_lt v.mind.view.transfer.age (most_age sizes) ≡ true = grind (arith, nat_tests) in
     record {
       can = record { of_process = r.of_process; shape = r.shape; may = rw (r.way, rests, young_so, wishes) refl; among = r.among };
       agrees = record {
@@ -81,7 +81,7 @@ begins sizes wish v t r young wishes =
       };
     }
 
-pub take_begins : (sizes : Sizes) (v : SeatView) (t : TransferView) → RestsAlone sizes v t → length (spares_in v) ≤ 1 → t.age < most_age
+pub take_begins : (sizes : Sizes) (v : SeatView) (t : TransferView) → RestsAlone sizes v t → length (spares_in v) ≤ 1 → t.age < most_age sizes
     → GoesAlone sizes v (begun Take t)
 take_begins sizes v t r few young =
     let counted = spares_counted sizes v t r in
@@ -89,7 +89,7 @@ take_begins sizes v t r few young =
     begins sizes Take v t r young (grind (arith, nat_tests))
 
 pub give_begins : (sizes : Sizes) (v : SeatView) (t : TransferView) (head : ℕ) → RestsAlone sizes v t → spares_in v ≡ head ∷ []
-    → t.age < most_age → GoesAlone sizes v (begun (Give head) t)
+    → t.age < most_age sizes → GoesAlone sizes v (begun (Give head) t)
 give_begins sizes v t head r has young =
     let counted = spares_counted sizes v t r in
     let one : v.mind.view.pool.plan.spares ≡ 1 = sym counted ∙ ap length has in
@@ -106,13 +106,13 @@ give_spares sizes v t head r has =
     ∙ ap (λ list. take (length list - 1) list) has
 
 -- the same of a transfer by its fields, before and after
-pub take_goes : (old new : Running) (v : SeatView) → RestsAlone old.sizes v old.part → length (spares_in v) ≤ 1 → old.part.age < most_age
+pub take_goes : (old new : Running) (v : SeatView) → RestsAlone old.sizes v old.part → length (spares_in v) ≤ 1 → old.part.age < most_age old.sizes
     → new ≡ wishing Take old → GoesAlone new.sizes v new.part
 take_goes old new v r few young e =
     subst (λ (n : Running). GoesAlone n.sizes v n.part) (sym e) (take_begins old.sizes v old.part r few young)
 
 pub give_goes : (old new : Running) (v : SeatView) (head : ℕ) → RestsAlone old.sizes v old.part → spares_in v ≡ head ∷ []
-    → old.part.age < most_age → new ≡ wishing (Give head) old → GoesAlone new.sizes v new.part
+    → old.part.age < most_age old.sizes → new ≡ wishing (Give head) old → GoesAlone new.sizes v new.part
 give_goes old new v head r has young e =
     subst (λ (n : Running). GoesAlone n.sizes v n.part) (sym e) (give_begins old.sizes v old.part head r has young)
 

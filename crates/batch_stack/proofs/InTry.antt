@@ -46,9 +46,9 @@ is_busy : (sizes : Sizes) (v : SeatView) (t : TransferView) (s : TryStep) → Go
 is_busy sizes v t s goes tries = busy_by v t s (is_rest v.mind.view.transfer.next) refl goes.agrees tries
 
 -- so it may make its next step whatever wish is named
-may_go_busy : (wish next : Wish) (v : ProcessView) → is_rest v.transfer.next ≡ false → may_go_alone wish v ≡ true
-    → may_go_alone next v ≡ true
-may_go_busy wish next v busy may = let goes = rw busy at may in rw busy goes
+may_go_busy : (sizes : Sizes) (wish next : Wish) (v : ProcessView) → is_rest v.transfer.next ≡ false → may_go_alone sizes wish v ≡ true
+    → may_go_alone sizes next v ≡ true
+may_go_busy sizes wish next v busy may = let goes = rw busy at may in rw busy goes
 
 pub any_wish_can : (sizes : Sizes) (v : SeatView) (t : TransferView) (s : TryStep) (next : Wish) → GoesAlone sizes v t → IsInTry t s
     → CanStep sizes (Alone next) v
@@ -57,7 +57,7 @@ any_wish_can sizes v t s next goes tries =
     record {
       of_process = can.of_process;
       shape = can.shape;
-      may = may_go_busy t.wish next v.mind.view (is_busy sizes v t s goes tries) can.may;
+      may = may_go_busy sizes t.wish next v.mind.view (is_busy sizes v t s goes tries) can.may;
       among = can.among;
     }
 

@@ -1,7 +1,7 @@
 -- the next step of a transfer's part, as the crates below say it
 use Rattle.std.proofs.Common.{◌≡◌, ℕ, ◌+◌, ◌<◌, sym, ap, ◌∙◌, subst}
 use Rattle.word_layout.specs.Sizes.{Sizes}
-use Rattle.word_layout.specs.Packing.{most_age, FitsWish}
+use Rattle.word_layout.specs.Packing.{tag_limit, FitsWish}
 use Rattle.word_layout.specs.declared.name.WordName.TheVariants.{Announcement}
 use Rattle.transfer_machine.specs.Loads.{loaded_tag, loaded_record}
 use Rattle.transfer_machine.specs.Machine.{CanAct, CanActAt, CanActInTry, action_at, action_of, try_action}
@@ -22,7 +22,7 @@ use Rattle.batch_stack.specs.Running.{IsInTry}
 
 -- what is announced fits a word
 pub record AnnouncesFit (t : TransferView) : Type 0 where
-  pub young : t.age < most_age
+  pub young : t.age + 1 < tag_limit
   pub wish : FitsWish t.wish
 
 pub announces_fit : (sizes : Sizes) (t : TransferView) → CanAct sizes t → t.next ≡ Announce → AnnouncesFit t

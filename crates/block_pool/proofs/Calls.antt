@@ -1,5 +1,5 @@
 -- whole calls: how they begin and how they end
-use Rattle.std.proofs.Common.{◌≡◌, ℕ, ◌<◌, Bool, true, List, [], ◌∷◌, ◌++◌, refl, sym, ap, ◌∙◌, subst, arith}
+use Rattle.std.proofs.Common.{◌≡◌, ◌≢◌, ℕ, ◌<◌, Bool, true, List, [], ◌∷◌, ◌++◌, refl, sym, ap, ◌∙◌, subst, arith}
 use Rattle.std.specs.Prelude.{◌&&◌, ◌||◌, nat_lt, if◌then◌else◌, Option, None, Some, Contains}
 use Rattle.std.proofs.lemmas.Bool.Decides.{nat_tests}
 use Rattle.word_layout.specs.Sizes.{Sizes}
@@ -8,12 +8,15 @@ use Rattle.word_layout.specs.declared.announced.Wish.{Wish}
 use Rattle.pool_model.specs.declared.entry.Entry.{Entry}
 use Rattle.pool_model.specs.declared.entry.Entry.TheVariants.{Back}
 use Rattle.transfer_schedule.specs.Numbers.{Numbers, is_idle, after_choice}
+use Rattle.transfer_schedule.specs.Numbers as numbers
+use Rattle.transfer_schedule.specs.declared.pending.Pending.{Pending}
+use Rattle.transfer_schedule.specs.declared.pending.Pending.TheVariants.{Idle, Taking, Giving}
 use Rattle.transfer_schedule.proofs.Operations.{choice_sizes}
 use Rattle.transfer_machine.specs.declared.transfer.TransferView.{TransferView}
 use Rattle.transfer_machine.specs.declared.kind.Kind.{Kind}
 use Rattle.pool_machine.specs.Steps.{is_paced}
 use Rattle.pool_machine.specs.Beginning.{due, begun_if_due, before_call, first_stage, entered, call_begun}
-use Rattle.pool_machine.specs.Conditions.{may_call, may_use_calls, is_young_for, names_fit}
+use Rattle.pool_machine.specs.Conditions.{HasAgeFor, has_age_for, may_call, may_use_calls, is_young_for, names_fit}
 use Rattle.pool_machine.specs.OwnSteps.{own_answer_for, own_kind_for, next_block, allocate_answer}
 use Rattle.pool_machine.specs.Ready.{CanBegin}
 use Rattle.pool_machine.specs.Steps.{happened}
@@ -62,12 +65,12 @@ may_begin : (sizes : Sizes) (call : Call) (v : ProcessView) → v.calls.stage �
 may_begin sizes call v e may =
     ap (λ stage. is_in_call stage || may_start_at stage sizes true call v) e ∙ may
 
-call_starts : (sizes : Sizes) (call : Call) (x : Process) → BetweenCalls sizes x → is_young_for call x.seat.view.mind.view ≡ true
+call_starts : (sizes : Sizes) (call : Call) (x : Process) → BetweenCalls sizes x → is_young_for sizes call x.seat.view.mind.view ≡ true
     → names_fit sizes true call ≡ true → BlockIsHeld (held_in x.seat.view.mind) call → is_paced (Some call) ≡ true
     → CanGo sizes call (call_begun call x.seat.view.mind.view) x.seat.view
 call_starts sizes call x f young names held paced =
     let v = x.seat.view in
-    let may = both_hold (may_use_calls v.mind.view.calls.way) (is_young_for call v.mind.view) (names_fit sizes true call)
+    let may = both_hold (may_use_calls v.mind.view.calls.way) (is_young_for sizes call v.mind.view) (names_fit sizes true call)
     f.way young names in
     record {
       can = call_can_step sizes call v f.of_process f.shape f.among (may_begin sizes call v.mind.view f.between may) held;
@@ -78,9 +81,18 @@ call_starts sizes call x f young names held paced =
 low_test : (a b : ℕ) → a < b → nat_lt a b ≡ true
 low_test a b lt = grind (arith, nat_tests)
 
-young_test : (sizes : Sizes) (x : Process) → BetweenCalls sizes x → x.transfer.age < most_age
-    → nat_lt x.seat.view.mind.view.transfer.age most_age ≡ true
-young_test sizes x f lt = ap (λ (t : TransferView). nat_lt t.age most_age) f.transfer ∙ low_test x.transfer.age most_age lt
+age_test : (sizes : Sizes) (due : Pending) (age : ℕ) → (due ≢ Idle → age < most_age sizes)
+    → (is_idle due || nat_lt age (most_age sizes)) ≡ true
+age_test sizes Idle age young = refl
+age_test sizes Taking age young = low_test age (most_age sizes) (young (λ e. grind arith))
+age_test sizes Giving age young = low_test age (most_age sizes) (young (λ e. grind arith))
+
+young_test : (sizes : Sizes) (x : Process) → BetweenCalls sizes x → HasAgeFor sizes x.pool.plan x.transfer.age
+    → has_age_for sizes x.seat.view.mind.view.pool.plan x.seat.view.mind.view.transfer.age ≡ true
+young_test sizes x f young =
+    ap (λ (p : PoolView). has_age_for sizes p.plan x.seat.view.mind.view.transfer.age) f.pool
+    ∙ (ap (λ (t : TransferView). has_age_for sizes x.pool.plan t.age) f.transfer
+    ∙ age_test sizes (numbers.due x.pool.plan) x.transfer.age young)
 
 -- an allocate or a free begins with what is due
 begun_parts : (call : Call) (d : Option Wish) (t : TransferView) (p : PoolView) (calls : CallView)
@@ -113,13 +125,13 @@ starts_there sizes call x y f seat transfer pool go =
     let there = subst (λ w. CanGo sizes call w x.seat.view) same go in
     subst (λ s. CanGo sizes call (beginning call y) s.view) (sym seat) there
 
-pub allocate_starts : (sizes : Sizes) (x y : Process) → BetweenCalls sizes x → x.transfer.age < most_age
+pub allocate_starts : (sizes : Sizes) (x y : Process) → BetweenCalls sizes x → HasAgeFor sizes x.pool.plan x.transfer.age
     → y.seat ≡ x.seat → y.transfer ≡ transfer_begun (due x.pool) x.transfer → y.pool ≡ pool_begun_by (due x.pool) x.pool
     → CanGo sizes Allocate (beginning Allocate y) y.seat.view
 allocate_starts sizes x y f young seat transfer pool =
     starts_there sizes Allocate x y f seat transfer pool (call_starts sizes Allocate x f (young_test sizes x f young) refl tt refl)
 
-pub free_starts : (sizes : Sizes) (block : ℕ) (x y : Process) → BetweenCalls sizes x → x.transfer.age < most_age
+pub free_starts : (sizes : Sizes) (block : ℕ) (x y : Process) → BetweenCalls sizes x → HasAgeFor sizes x.pool.plan x.transfer.age
     → Contains (held_in x.seat.view.mind) block
     → y.seat ≡ x.seat → y.transfer ≡ transfer_begun (due x.pool) x.transfer → y.pool ≡ pool_begun_by (due x.pool) x.pool
     → CanGo sizes (Free block) (beginning (Free block) y) y.seat.view

@@ -5,7 +5,7 @@ use Rattle.word_layout.specs.Sizes.{Sizes}
 use Rattle.word_table.specs.Seats.{Seated}
 use Rattle.pool_model.specs.declared.entry.Entry.{Entry}
 use Rattle.transfer_schedule.specs.Numbers.{Numbers}
-use Rattle.pool_machine.specs.Conditions.{may_use_calls}
+use Rattle.pool_machine.specs.Conditions.{HasAgeFor, may_use_calls}
 use Rattle.pool_machine.specs.declared.call.CallStage.TheVariants.{Between}
 use Rattle.pool_table.specs.Minds.{KnownWord, number_of, entries_in, held_in}
 use Rattle.pool_table.specs.Views.{SeatView}
@@ -36,6 +36,10 @@ pub record Passed : Type 0 where
 pub record IsOf (pool : Pooled) (pass : Passed) : Type 0 where
   pub table : pass.table ≡ pool.table
   pub sizes : pass.sizes ≡ pool.sizes
+
+-- the pass may make an allocate or a free: where a transfer is due, it has begun fewer than a pass may
+abbrev pub HasAge : Passed → Type 0
+HasAge pass = HasAgeFor pass.sizes pass.plan pass.age
 
 -- what clauses see of a pass, by its seat
 abbrev pub pass_of : Seated SeatView → Passed

@@ -1,6 +1,7 @@
 // The pass of a process, and the blocks that it holds.
-ghost use Rattle.std.specs.Prelude.{◌≡◌, length, Contains};
+ghost use Rattle.std.specs.Prelude.{◌≡◌, ◌↔◌, IsTrue, length, Contains};
 ghost use Rattle.transfer_schedule.specs.Numbers.{after_choice, is_idle};
+ghost use Rattle.block_pool.specs.Passing.{HasAge};
 ghost use Rattle.block_pool.specs.Standing.{StandsWell};
 
 use crate::process::Process;
@@ -91,6 +92,15 @@ impl Pass {
     {
         let plan = &self.process.pool.plan;
         plan.pending() == Pending::Idle && plan.spares() == Pass::RESTING_SPARES
+    }
+
+    /// Whether it may make an allocate or a free now: no transfer is due, or it has begun fewer than a pass may.
+    #[inline]
+    pub fn has_age(&self) -> bool
+        ensures { IsTrue result ↔ HasAge self.now }
+    {
+        self.process.transfer.age < self.shape.most_age()
+            || self.process.pool.plan.due() == Pending::Idle
     }
 
     /// The token of a block that the pass holds, by its number.

@@ -1,13 +1,12 @@
 // The pool, and the calls that passes make of it.
 ghost use Rattle.std.specs.Prelude.{◌≡◌, ℕ, ◌+◌, ◌<◌, ◌≤◌, ◌^◌, Some, ◌∷◌, Contains};
-ghost use Rattle.word_layout.specs.Packing.{most_age};
 ghost use Rattle.word_layout.specs.Sizes.{limits_of};
 ghost use Rattle.pool_model.specs.declared.entry.Entry.TheVariants.{Back};
 ghost use Rattle.pool_model.specs.Legal.{IsLegal};
 ghost use Rattle.transfer_schedule.specs.Numbers.{after_gave_one};
 ghost use Rattle.pool_table.specs.Minds.{known_in};
 ghost use Rattle.pool_table.specs.Turns.{forget};
-ghost use Rattle.block_pool.specs.Passing.{IsOf};
+ghost use Rattle.block_pool.specs.Passing.{HasAge, IsOf};
 ghost use Rattle.block_pool.specs.Calls.{SamePass, Counted, Entered, WasFree, Allocated, PlanMoved, entry_of};
 ghost use Rattle.block_pool.specs.declared.pool.Answer.TheVariants.{Got};
 
@@ -63,7 +62,7 @@ impl Pool {
     #[inline(always)]
     pub fn allocate<L: Ledger>(&self, pass: &mut Pass, steps: &mut Steps<L>) -> Answer
         requires pass { IsOf self.now pass.old }
-        requires young { pass.old.age < most_age }
+        requires young { HasAge pass.old }
         requires room { steps.old + pass.old.sizes.quantum + 1 < 2 ^ 64 }
         ensures pass { SamePass pass.old pass.new }
         ensures steps { Counted pass.old.sizes.quantum steps.old steps.new pass.old pass.new }
@@ -91,7 +90,7 @@ impl Pool {
     #[inline(always)]
     pub fn free<L: Ledger>(&self, pass: &mut Pass, block: Block, steps: &mut Steps<L>)
         requires pass { IsOf self.now pass.old }
-        requires young { pass.old.age < most_age }
+        requires young { HasAge pass.old }
         requires held { Contains pass.old.held block }
         requires room { steps.old + pass.old.sizes.quantum + 1 < 2 ^ 64 }
         ensures pass { SamePass pass.old pass.new }

@@ -52,7 +52,7 @@ alone_pool : (sizes : Sizes) (i : ℕ) (v : ProcessView) (wish : Wish) → PoolA
 alone_pool sizes i v wish h idle may = search rules
 
 alone_begins : (sizes : Sizes) (i : ℕ) (v : ProcessView) (wish : Wish) (g : Ledger) → PoolHolds sizes i v → NothingEntered sizes g → v.calls.stage ≡ Between → v.calls.call ≡ None
-    → v.transfer.next ≡ Rest → MayBegin wish v.pool → v.transfer.age < most_age
+    → v.transfer.next ≡ Rest → MayBegin wish v.pool → v.transfer.age < most_age sizes
     → InTransfers sizes i (alone_begun wish v) g
 alone_begins sizes i v wish g pool nothing stage none rest may young = record {
   way = refl;
@@ -65,13 +65,13 @@ alone_begins sizes i v wish g pool nothing stage none rest may young = record {
   nothing = nothing;
 }
 
-fresh_begins : (sizes : Sizes) (i : ℕ) (v : ProcessView) (wish : Wish) (g : Ledger) → IsFresh sizes i v g → v.transfer.next ≡ Rest → MayBegin wish v.pool → v.transfer.age < most_age
+fresh_begins : (sizes : Sizes) (i : ℕ) (v : ProcessView) (wish : Wish) (g : Ledger) → IsFresh sizes i v g → v.transfer.next ≡ Rest → MayBegin wish v.pool → v.transfer.age < most_age sizes
     → InTransfers sizes i (alone_begun wish v) g
 fresh_begins sizes i v wish g f rest may young =
     alone_begins sizes i v wish g (rw f.view (opened_pool sizes i)) f.nothing (ap (λ x. x.calls.stage) f.view) (ap (λ x. x.calls.call) f.view) rest may young
 
 pub moves_alone : (sizes : Sizes) (i : ℕ) (v : ProcessView) (wish : Wish) (g : Ledger) (way : Way) → v.calls.way ≡ way → UsesPoolBy way sizes i v g → MayMove v → v.transfer.next ≡ Rest
-    → MayBegin wish v.pool → v.transfer.age < most_age
+    → MayBegin wish v.pool → v.transfer.age < most_age sizes
     → InTransfers sizes i (alone_begun wish v) g
 moves_alone sizes i v wish g Fresh e h moves rest may young = fresh_begins sizes i v wish g (h.fresh e) rest may young
 moves_alone sizes i v wish g Alone e h moves rest may young = alone_begins sizes i v wish g h.pool h.nothing h.stage h.none rest may young

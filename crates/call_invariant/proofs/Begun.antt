@@ -9,6 +9,8 @@ use Rattle.word_layout.specs.Sizes.{Sizes}
 use Rattle.word_layout.specs.declared.announced.Wish.{Wish}
 use Rattle.word_layout.specs.declared.announced.Wish.TheVariants.{Take, Give}
 use Rattle.transfer_schedule.specs.Numbers.{Numbers, is_idle, after_choice}
+use Rattle.transfer_schedule.specs.Numbers as numbers
+use Rattle.transfer_schedule.specs.declared.pending.Pending.TheVariants.{Idle}
 use Rattle.transfer_schedule.specs.Account.{Account}
 use Rattle.transfer_schedule.specs.Account as schedule
 use Rattle.transfer_schedule.proofs.Operations.{idle_is, busy_not_idle}
@@ -25,7 +27,7 @@ use Rattle.transfer_invariant.specs.Progress.{has_announced, is_moving}
 use Rattle.pool_machine.specs.Beginning.{newest, due, begun_if_due, before_call, first_stage, entered, entered_so, search_chosen}
 use Rattle.pool_machine.specs.Beginning.{search_begun_by, call_begun}
 use Rattle.pool_machine.specs.Steps.{is_paced}
-use Rattle.pool_machine.specs.Conditions.{IsYoungFor}
+use Rattle.pool_machine.specs.Conditions.{HasAgeFor, IsYoungFor}
 use Rattle.pool_machine.proofs.Plans.{choice_is_the_plans}
 use Rattle.pool_invariant.specs.Kept.{PoolKept}
 use Rattle.pool_invariant.specs.Holds.{PoolRuns}
@@ -51,6 +53,10 @@ pub due_may_begin : (pool : PoolView) (wish : Wish) → length pool.heads ≡ po
 due_may_begin pool Take heads e = due_take pool e
 due_may_begin pool (Give head) heads e = let (three, is) = due_give pool head e in (omega arith, omega arith, is)
 
+-- what is due is no idleness
+due_is_some : (pool : PoolView) (wish : Wish) → due pool ≡ Some wish → numbers.due pool.plan ≢ Idle
+due_is_some pool wish e = λ idle. grind arith
+
 due_idle : (pool : PoolView) (wish : Wish) → due pool ≡ Some wish → is_idle pool.plan.pending ≡ true
 due_idle pool wish e = grind (arith, nat_tests)
 
@@ -58,7 +64,7 @@ pub due_rests : (sizes : Sizes) (v : ProcessView) (wish : Wish) → PoolKept siz
 due_rests sizes v wish h e = idle_rests sizes v h (idle_is v.pool.plan.pending (due_idle v.pool wish e))
 
 -- the facts of the pool once a transfer is begun
-pub runs_begun : (sizes : Sizes) (v : ProcessView) (wish : Wish) → PoolRuns sizes v → v.transfer.next ≡ Rest → MayBegin wish v.pool → v.transfer.age < most_age → PoolRuns sizes (view_begun wish v)
+pub runs_begun : (sizes : Sizes) (v : ProcessView) (wish : Wish) → PoolRuns sizes v → v.transfer.next ≡ Rest → MayBegin wish v.pool → v.transfer.age < most_age sizes → PoolRuns sizes (view_begun wish v)
 runs_begun sizes v wish h rest may young = search rules
 
 heads_begun : (v : ProcessView) (wish : Wish) → length v.pool.heads ≡ v.pool.plan.spares → MayBegin wish v.pool → length (view_begun wish v).pool.heads ≡ (view_begun wish v).pool.plan.spares
@@ -74,12 +80,12 @@ record Enters (sizes : Sizes) (x : ProcessView) : Type 0 where
   heads : length x.pool.heads ≡ x.pool.plan.spares
   announced : has_announced x.transfer.next ≡ true → 0 < x.pool.plan.done
 
-enters_if_due : (sizes : Sizes) (v : ProcessView) (wish : Option Wish) → due v.pool ≡ wish → v.transfer.age < most_age → Enters sizes v → Enters sizes (begun_if_due wish v)
+enters_if_due : (sizes : Sizes) (v : ProcessView) (wish : Option Wish) → due v.pool ≡ wish → HasAgeFor sizes v.pool.plan v.transfer.age → Enters sizes v → Enters sizes (begun_if_due wish v)
 enters_if_due sizes v None e young h = h
 enters_if_due sizes v (Some wish) e young h =
     let may = due_may_begin v.pool wish h.heads e in
     record {
-      runs = runs_begun sizes v wish h.runs (due_rests sizes v wish h.runs.kept e) may young;
+      runs = runs_begun sizes v wish h.runs (due_rests sizes v wish h.runs.kept e) may (young (due_is_some v.pool wish e));
       heads = heads_begun v wish h.heads may;
       announced = λ announced. grind arith;
     }
@@ -165,7 +171,8 @@ between_phase : (sizes : Sizes) (i : ℕ) (v : ProcessView) (g : Ledger) → InC
 between_phase sizes i v g h e = h.phase ∙ ap (call_phase_at v.calls) e
 
 changing_begun : (sizes : Sizes) (i : ℕ) (v : ProcessView) (g : Ledger) (call : Call) → changes_pool (Some call) ≡ true
-    → own_phase (Some call) ≡ schedule.Own → moving_phase (is_paced (Some call)) true 0 ≡ schedule.Moving 0 → 0 < sizes.quantum → v.calls.stage ≡ Between → v.transfer.age < most_age
+    → own_phase (Some call) ≡ schedule.Own → moving_phase (is_paced (Some call)) true 0 ≡ schedule.Moving 0 → 0 < sizes.quantum → v.calls.stage ≡ Between
+    → HasAgeFor sizes v.pool.plan v.transfer.age
     → InCalls sizes i v g → CarriesOn sizes i (entered call (first_stage (before_call v)) (before_call v)) g (record g { account = account_begun g.account })
 changing_begun sizes i v g call changes owns moves some between young h =
     let a = g.account in
@@ -209,7 +216,7 @@ chooses_still schedule.Joining e = refl
 chooses_still schedule.Returning e = cc
 
 search_goes_on : (sizes : Sizes) (i : ℕ) (v : ProcessView) (g : Ledger) → 0 < sizes.quantum → schedule.chooses_in g.account.phase ≡ true
-    → is_idle v.pool.plan.pending ≡ true → v.transfer.age < most_age → InCalls sizes i v g
+    → is_idle v.pool.plan.pending ≡ true → v.transfer.age < most_age sizes → InCalls sizes i v g
     → CarriesOn sizes i (search_chosen v) g (ledger_chosen g)
 search_goes_on sizes i v g some chooses idle young h =
     let a = g.account in
@@ -222,7 +229,7 @@ search_goes_on sizes i v g some chooses idle young h =
       calls = enters_call sizes i x Search (ledger_chosen g) refl some
           (sought_plan a t ∙ chosen)
           (sought_phase a t ∙ ap (λ plan. if is_idle plan.pending then schedule.Sought else schedule.Seeking true) chosen)
-          (enters_if_due sizes v (due v.pool) refl young (record { runs = h.runs; heads = h.heads; announced = h.announced }));
+          (enters_if_due sizes v (due v.pool) refl (λ some. young) (record { runs = h.runs; heads = h.heads; announced = h.announced }));
     }
 
 pub search_chooses : (sizes : Sizes) (i : ℕ) (v : ProcessView) (g : Ledger) → 0 < sizes.quantum → v.calls.stage ≡ Choosing → InCalls sizes i v g
@@ -238,7 +245,7 @@ not_announcing : (sizes : Sizes) (v : ProcessView) → PoolRuns sizes v → 1 �
 not_announcing sizes v runs sent = λ e. (let few : v.pool.plan.done ≤ 0 = rw e at runs.counted refl in absurd (omega (arith, sent, few)))
 
 search_begins_by : (sizes : Sizes) (i : ℕ) (v : ProcessView) (g : Ledger) (t : Bool) → is_idle v.pool.plan.pending ≡ t → Scheduled sizes g.account
-    → v.calls.stage ≡ Between → v.transfer.age < most_age → InCalls sizes i v g
+    → v.calls.stage ≡ Between → v.transfer.age < most_age sizes → InCalls sizes i v g
     → CarriesOn sizes i (search_begun_by t v) g (record g { account = account_searching t g.account })
 search_begins_by sizes i v g true idle s between young h =
     search_goes_on sizes i v g (some_quantum sizes s.fit) (rw (between_phase sizes i v g h between) refl) idle young h
@@ -292,17 +299,9 @@ keeping_begun sizes i v g call keeps between h = record {
     kept_phase (Write block index value) e = refl
     kept_phase Search e = grind arith
 
--- a call that changes the pool begins only at an age below the limit
-pub young_to_change : (v : ProcessView) (call : Call) → changes_pool (Some call) ≡ true → IsYoungFor call v → v.transfer.age < most_age
-young_to_change v Allocate changes young = young
-young_to_change v (Free block) changes young = young
-young_to_change v (Read block index) changes young = grind arith
-young_to_change v (Write block index value) changes young = grind arith
-young_to_change v Search changes young = young
-
 -- each call begins
-pub changing_call_begins : (sizes : Sizes) (i : ℕ) (v : ProcessView) (g : Ledger) (call : Call) → changes_pool (Some call) ≡ true → Scheduled sizes g.account → v.calls.stage ≡ Between
-    → v.transfer.age < most_age
+pub changing_call_begins : (sizes : Sizes) (i : ℕ) (v : ProcessView) (g : Ledger) (call : Call) → changes_pool (Some call) ≡ true → Scheduled sizes g.account
+    → v.calls.stage ≡ Between → IsYoungFor sizes call v
     → InCalls sizes i v g → CarriesOn sizes i (call_begun call v) g (ledger_begun call g)
 changing_call_begins sizes i v g Allocate changes s between young h =
     changing_begun sizes i v g Allocate changes refl refl (some_quantum sizes s.fit) between young h

@@ -83,8 +83,8 @@ one_step_more plan = omega arith
 never_announces : (next : NextStep) → has_only_begun next ≡ false → next ≢ Announce
 never_announces next e = λ a. grind arith
 
-going_chooses : (sizes : Sizes) (v : ProcessView) (word : ℕ) (s : NextStep) → goes_on s ≡ true → MayChoose v
-    → MayChoose (record v { transfer = met_at sizes v.transfer word s; pool = pool_met_at word v.pool s })
+going_chooses : (sizes : Sizes) (v : ProcessView) (word : ℕ) (s : NextStep) → goes_on s ≡ true → MayChoose sizes v
+    → MayChoose sizes (record v { transfer = met_at sizes v.transfer word s; pool = pool_met_at word v.pool s })
 going_chooses sizes v word s going k =
     let stays = step_stays sizes v.transfer word s going in
     record { young = omega (arith, k.young, stays.age); sent = never_announces _ stays.announced }

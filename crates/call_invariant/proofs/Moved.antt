@@ -34,7 +34,7 @@ pub record Moves (sizes : Sizes) (v : ProcessView) (g : Ledger) : Type 0 where
   pub runs : PoolRuns sizes v
   pub heads : length v.pool.heads ≡ v.pool.plan.spares
   pub announced : has_announced v.transfer.next ≡ true → 0 < v.pool.plan.done
-  pub choice : may_choose_at v.calls Moving ≡ true → MayChoose v
+  pub choice : may_choose_at v.calls Moving ≡ true → MayChoose sizes v
 
 pub moving_moves : (paced chosen : Bool) (steps : ℕ) → schedule.moves_in (moving_phase paced chosen steps) ≡ true
 moving_moves true chosen steps = refl
@@ -174,7 +174,7 @@ pub counted_calls : (sizes : Sizes) (i : ℕ) (v x : ProcessView) (g new : Ledge
     → PoolRuns sizes x
     → length x.pool.heads ≡ x.pool.plan.spares
     → (has_announced x.transfer.next ≡ true → 0 < x.pool.plan.done)
-    → (MayChoose v → MayChoose x)
+    → (MayChoose sizes v → MayChoose sizes x)
     → InCalls sizes i (move_counted sizes x) new
 counted_calls sizes i v x g new m same plan phase runs heads sent choice =
     let calls : changes_pool x.calls.call ≡ true = rw same m.changes in

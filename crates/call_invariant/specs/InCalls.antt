@@ -46,8 +46,8 @@ pub record StageFits (quantum : ℕ) (calls : CallView) (next : NextStep) : Type
   pub rests : calls.stage ≡ Choosing → next ≡ Rest
 
 -- a call that may still begin a transfer has the age for it, which stays: what is pending is announced
-pub record MayChoose (v : ProcessView) : Type 0 where
-  pub young : v.transfer.age < most_age
+pub record MayChoose (sizes : Sizes) (v : ProcessView) : Type 0 where
+  pub young : v.transfer.age < most_age sizes
   pub sent : v.transfer.next ≢ Announce
 
 -- the ledger has the plan of the pool and the phase of the process; each spare has its head; an announced transfer has made a step; a
@@ -60,7 +60,7 @@ pub record InCalls (sizes : Sizes) (process : ℕ) (v : ProcessView) (ledger : L
   pub heads : length v.pool.heads ≡ v.pool.plan.spares
   pub announced : has_announced v.transfer.next ≡ true → 0 < v.pool.plan.done
   pub stage : StageFits sizes.quantum v.calls v.transfer.next
-  pub choice : may_choose_at v.calls v.calls.stage ≡ true → MayChoose v
+  pub choice : may_choose_at v.calls v.calls.stage ≡ true → MayChoose sizes v
   pub fresh : v.calls.way ≡ Fresh → IsFresh sizes process v ledger
 
 -- a step that makes no entry leads from one ledger to another, with which the view of the process goes

@@ -148,7 +148,7 @@ TransfersBegin = (sizes : Sizes) (i : ℕ) (v : ProcessView) (ledger : Ledger) (
     → MayMove v
     → v.transfer.next ≡ Rest
     → MayBegin wish v.pool
-    → v.transfer.age < most_age
+    → v.transfer.age < most_age sizes
     → InTransfers sizes i (alone_begun wish v) ledger
 
 -- a step of such a transfer

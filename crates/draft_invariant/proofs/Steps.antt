@@ -2,7 +2,8 @@
 use Rattle.std.proofs.Common.{◌≡◌, Bool, ℕ, ◌+◌, ◌-◌, ◌*◌, ◌<◌, ◌≤◌, true, refl, arith, get_or}
 use Rattle.word_layout.specs.Sizes.{Sizes, IsShape, blocks}
 use Rattle.word_layout.specs.Names.{records, record_words}
-use Rattle.word_layout.specs.Packing.{value_of, value_limit, tag_limit, most_age}
+use Rattle.word_layout.specs.Packing.{value_of, value_limit, tag_limit}
+use Rattle.word_layout.proofs.Ages.{age_is_tag}
 use Rattle.word_layout.specs.declared.name.WordName.TheVariants.{Slot}
 use Rattle.transfer_machine.specs.Loads.{loaded_tag, loaded_base, overlay_length}
 use Rattle.transfer_machine.specs.NextStates.{IsLoaded}
@@ -127,7 +128,7 @@ module _ (sizes : Sizes) (words : Words) (views : Views) (states : States) (i : 
     can_meet LoadFinalState e = tt
     can_meet LoadReply e = tt
 
-    module _ (covers : CoversWithin (views i)) (few : state_tag words ≤ 32 * most_age + 1) where
+    module _ (covers : CoversWithin (views i)) (few : state_tag words + 1 < tag_limit) where
       tag_low : has_loaded (views i).next ≡ true → loaded_tag (views i).loaded + 1 < tag_limit
       tag_low has = let past = (inv.records.loaded i li).past has in omega arith
 
@@ -155,7 +156,7 @@ module _ (sizes : Sizes) (words : Words) (views : Views) (states : States) (i : 
 
       pub can_act : (s : NextStep) → (views i).next ≡ s → CanActAt sizes (views i) s
       can_act Rest e = tt
-      can_act Announce e = (given.number, given.age e, wish_fits sizes (views i).wish shape.few_blocks (given.fits_wish e))
+      can_act Announce e = (given.number, omega (arith, given.age e, age_is_tag sizes shape), wish_fits sizes (views i).wish shape.few_blocks (given.fits_wish e))
       can_act (Try second step) e = can_act_in_try second step e
       can_act LoadFinalState e = tt
       can_act LoadReply e = ((inv.records.loaded i li).row (rw e refl), given.number)

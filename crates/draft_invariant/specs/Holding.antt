@@ -33,6 +33,6 @@ pub record DraftsHold (sizes : Sizes) (words : Words) (views : Views) (states : 
 pub record DraftPremises (sizes : Sizes) (words : Words) (states : States) (v : TransferView) : Type 0 where
   pub number : v.number < sizes.processes
   pub fits_wish : v.next ≡ Announce → WishIsBlock sizes v.wish
-  pub age : v.next ≡ Announce → v.age < most_age
+  pub age : v.next ≡ Announce → v.age < most_age sizes
   pub slots : (s : ℕ) → s < sizes.batches → slot_value words s < blocks sizes
   pub below : (s : ℕ) → s < (states (state_tag words)).base → slot_value words s ≡ (states (state_tag words)).content s

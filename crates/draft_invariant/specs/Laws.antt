@@ -2,7 +2,7 @@
 use Rattle.std.specs.Prelude.{◌≡◌, ℕ, ◌+◌, ◌*◌, ◌<◌, ◌≤◌, Bool, slice_index}
 use Rattle.word_layout.specs.Sizes.{Sizes, IsShape, blocks}
 use Rattle.word_layout.specs.Names.{InRange}
-use Rattle.word_layout.specs.Packing.{most_age, value_limit}
+use Rattle.word_layout.specs.Packing.{tag_limit, value_limit}
 use Rattle.word_layout.specs.declared.name.WordName.{WordName}
 use Rattle.word_layout.specs.declared.name.WordName.TheVariants.{State}
 use Rattle.transfer_machine.specs.Loads.{loaded_base, overlay_length}
@@ -55,7 +55,7 @@ StepsCanBeMade = (sizes : Sizes) (words : Words) (views : Views) (states : State
     → DraftsHold sizes words views states
     → DraftPremises sizes words states (views i)
     → CoversWithin (views i)
-    → state_tag words ≤ 32 * most_age + 1
+    → state_tag words + 1 < tag_limit
     → CanAct sizes (views i) × CanMeet sizes (views i) (words (name_of (action_of sizes (views i))))
 
 -- what a view stores in its next record fits a value

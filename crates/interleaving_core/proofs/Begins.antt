@@ -42,7 +42,7 @@ use Rattle.call_invariant.specs.Ledgers.{ledger_begun, ledger_chosen}
 use Rattle.call_invariant.specs.Phases.{changes_pool}
 use Rattle.call_invariant.specs.Uses.{UsesPoolBy, UsesPool}
 use Rattle.call_invariant.proofs.Alone.{moves_alone}
-use Rattle.call_invariant.proofs.Begun.{young_to_change, changing_call_begins, keeping_call_begins, search_chooses}
+use Rattle.call_invariant.proofs.Begun.{changing_call_begins, keeping_call_begins, search_chooses}
 use Rattle.call_invariant.proofs.Standing.{some_quantum}
 use Rattle.call_invariant.proofs.Uses.{due_begins, uses_calls, calls_used, uses_transfers}
 use Rattle.interleaving_core.specs.EmptyTakes.{TakesHadFew}
@@ -71,7 +71,7 @@ pub alone_begins_at : (sizes : Sizes) (words : Words) (views after : ProcessView
     (wish : Wish)
     → IsShape sizes → i < sizes.processes
     → Holds sizes words views history ghosts
-    → MayMove (views i) → (views i).transfer.next ≡ Rest → MayBegin wish (views i).pool → (views i).transfer.age < most_age
+    → MayMove (views i) → (views i).transfer.next ≡ Rest → MayBegin wish (views i).pool → (views i).transfer.age < most_age sizes
     → MovedProcess i (alone_begun wish (views i)) views after → Holds sizes words after history ghosts
 alone_begins_at sizes words views after history ghosts i wish shape li h free rest begins young moved =
     let v = views i in
@@ -108,18 +108,18 @@ alone_begins_at sizes words views after history ghosts i wish shape li h free re
 
 pub alone_begins : (sizes : Sizes) (words : Words) (views after : ProcessViews) (history : List Entry) (i : ℕ) (wish : Wish) → IsShape sizes
     → i < sizes.processes → Meets sizes words views history
-    → (views i).transfer.next ≡ Rest → may_go_alone wish (views i) ≡ true
+    → (views i).transfer.next ≡ Rest → may_go_alone sizes wish (views i) ≡ true
     → MovedProcess i (alone_begun wish (views i)) views after → Meets sizes words after history
 alone_begins sizes words views after history i wish shape li (ghosts, h) rest may moved =
     let v = views i in
-    let tests : (may_use_transfers v.calls.way && (nat_lt v.transfer.age most_age && may_wish wish v.pool)) ≡ true = rw rest at may in
-    let both = both_second (may_use_transfers v.calls.way) (nat_lt v.transfer.age most_age && may_wish wish v.pool) tests in
+    let tests : (may_use_transfers v.calls.way && (nat_lt v.transfer.age (most_age sizes) && may_wish wish v.pool)) ≡ true = rw rest at may in
+    let both = both_second (may_use_transfers v.calls.way) (nat_lt v.transfer.age (most_age sizes) && may_wish wish v.pool) tests in
     let fits = wish_fits_at sizes words views history ghosts i wish shape li h
-    (both_second (nat_lt v.transfer.age most_age) (may_wish wish v.pool) both) in (
+    (both_second (nat_lt v.transfer.age (most_age sizes)) (may_wish wish v.pool) both) in (
       ghosts,
       alone_begins_at sizes words views after history ghosts i wish shape li h
-          (both_first (may_use_transfers v.calls.way) (nat_lt v.transfer.age most_age && may_wish wish v.pool) tests)
-          rest fits.1 (less v.transfer.age most_age (both_first (nat_lt v.transfer.age most_age) (may_wish wish v.pool) both)) moved,
+          (both_first (may_use_transfers v.calls.way) (nat_lt v.transfer.age (most_age sizes) && may_wish wish v.pool) tests)
+          rest fits.1 (less v.transfer.age (most_age sizes) (both_first (nat_lt v.transfer.age (most_age sizes)) (may_wish wish v.pool) both)) moved,
     )
 
 -- the transfer that begins with a call, if any
@@ -305,10 +305,10 @@ keeping_ledger Search l e = cc
 pub call_goes : (sizes : Sizes) (history : List Entry) (i : ℕ) (v : ProcessView) (ledgers : Ledgers) (call : Call) (t : Bool)
     → changes_pool (Some call) ≡ t → i < sizes.processes
     → HistoryHolds (limits_of sizes) (transfer_bound sizes) sizes.quantum history ledgers
-    → Scheduled sizes (ledgers i).account → InCalls sizes i v (ledgers i) → v.calls.stage ≡ Between → IsYoungFor call v
+    → Scheduled sizes (ledgers i).account → InCalls sizes i v (ledgers i) → v.calls.stage ≡ Between → IsYoungFor sizes call v
     → BeginsSo sizes history i v (call_begun call v) (call_wish call v) ledgers (ledger_begun call (ledgers i))
 call_goes sizes history i v ledgers call true changes li h s calls between young =
-    let carries = changing_call_begins sizes i v (ledgers i) call changes s between (young_to_change v call changes young) calls in
+    let carries = changing_call_begins sizes i v (ledgers i) call changes s between young calls in
     let same = begun_same call (ledgers i) in
     record {
       parts = call_parts call v;
@@ -369,12 +369,6 @@ pub choosing_in_calls : (sizes : Sizes) (i : ℕ) (v : ProcessView) (g : Ledger)
     → InCalls sizes i v g
 choosing_in_calls sizes i v g stage uses =
     calls_used sizes i v g v.calls.way (λ alone. choosing_by_way sizes i v g v.calls.way stage alone uses) uses
-
--- a search that is to choose has the age for it
-pub choosing_young : (sizes : Sizes) (words : Words) (views : ProcessViews) (history : List Entry) (i : ℕ) → i < sizes.processes
-    → Meets sizes words views history → (views i).calls.stage ≡ Choosing → (views i).transfer.age < most_age
-choosing_young sizes words views history i li (ghosts, h) stage =
-    ((choosing_in_calls sizes i (views i) (ghosts.ledgers i) stage (h.pools i li)).choice (rw stage refl)).young
 
 -- a search goes on to its own transfer
 pub search_goes : (sizes : Sizes) (words : Words) (views after : ProcessViews) (history : List Entry) (i : ℕ)

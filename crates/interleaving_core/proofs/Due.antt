@@ -99,7 +99,7 @@ calls_keep_invariant sizes words views after history i call holds m may held mov
 
 -- a transfer alone
 moving_kept : (sizes : Sizes) (words : List ℕ) (views begun : ProcessViews) (history : List Entry) (i : ℕ) (wish : Wish) (t : Bool)
-    → TableMeets sizes words views history i → may_go_alone wish (views i) ≡ true
+    → TableMeets sizes words views history i → may_go_alone sizes wish (views i) ≡ true
     → is_rest (views i).transfer.next ≡ t → MovedProcess i (if t then alone_begun wish (views i) else views i) views begun
     → MeetsInvariant sizes words begun history
 moving_kept sizes words views begun history i wish true m may rest moved = alone_begins sizes

@@ -3,12 +3,15 @@ use Rattle.std.proofs.Common.{◌≡◌, ◌≢◌, ℕ, ◌<◌, ◌≤◌, ◌
 use Rattle.std.specs.Prelude.{nat_lt, nat_le, ◌&&◌, ◌||◌, not}
 use Rattle.std.proofs.lemmas.Bool.Decides.{nat_tests}
 use Rattle.word_layout.specs.Names.{word_at}
+use Rattle.word_layout.specs.Sizes.{Sizes}
 use Rattle.word_layout.specs.Packing.{most_age}
 use Rattle.word_layout.specs.declared.announced.Wish.{Wish}
 use Rattle.word_layout.specs.declared.announced.Wish.TheVariants.{Take, Give}
 use Rattle.pool_model.specs.declared.entry.Entry.{Entry}
 use Rattle.transfer_schedule.specs.Beginning.{may_begin}
-use Rattle.transfer_schedule.specs.declared.pending.Pending.TheVariants.{Giving}
+use Rattle.transfer_schedule.specs.Numbers.{due, is_idle}
+use Rattle.transfer_schedule.specs.declared.pending.Pending.{Pending}
+use Rattle.transfer_schedule.specs.declared.pending.Pending.TheVariants.{Idle, Taking, Giving}
 use Rattle.transfer_machine.specs.Stages.{is_rest}
 use Rattle.pool_machine.specs.declared.call.Call.{Call}
 use Rattle.pool_machine.specs.declared.call.Call.TheVariants.{Allocate, Free, Read, Write}
@@ -16,7 +19,7 @@ use Rattle.pool_machine.specs.declared.call.Way.{Way}
 use Rattle.pool_machine.specs.declared.call.Way.TheVariants.{Fresh, Alone, Calls}
 use Rattle.pool_machine.specs.declared.view.PoolView.{PoolView}
 use Rattle.pool_machine.specs.Beginning.{newest}
-use Rattle.pool_machine.specs.Conditions.{may_use_calls, may_use_transfers, is_young_for, names_fit}
+use Rattle.pool_machine.specs.Conditions.{may_use_calls, may_use_transfers, IsYoungFor, is_young_for, names_fit}
 use Rattle.interleaving_core.specs.Moves.{CoreState, view_at, holder_of, is_holder, holds_for, may_wish}
 use Rattle.interleaving_core.specs.Runs.{Moves, Events, is_made}
 use Rattle.interleaving_core.specs.Steps.{is_in_call}
@@ -52,28 +55,34 @@ uses_transfers Alone ne = refl
 uses_transfers Calls ne = absurd (ne refl)
 
 -- a call whose names fit begins between two calls
-call_begins : (s : CoreState) (i : ℕ) (call : Call) → StandsBetween s.sizes i s → is_young_for call (view_at s i) ≡ true
+call_begins : (s : CoreState) (i : ℕ) (call : Call) → StandsBetween s.sizes i s → is_young_for s.sizes call (view_at s i) ≡ true
     → names_fit s.sizes (holds_for s.holders i call) call ≡ true → is_made (Events i call) s ≡ true
 call_begins s i call stands young names =
     let v = view_at s i in
-    let fits = both_are (is_young_for call v) (names_fit s.sizes (holds_for s.holders i call) call) young names in
+    let fits = both_are (is_young_for s.sizes call v) (names_fit s.sizes (holds_for s.holders i call) call) young names in
     let may = both_are (may_use_calls v.calls.way) _ (uses_calls v.calls.way stands.way) fits in
     both_are (nat_lt i s.sizes.processes) _ (is_less i s.sizes.processes stands.low) (rw stands.between may)
 
+age_for : (sizes : Sizes) (due : Pending) (age : ℕ) → (due ≢ Idle → age < most_age sizes)
+    → (is_idle due || nat_lt age (most_age sizes)) ≡ true
+age_for sizes Idle age young = refl
+age_for sizes Taking age young = is_less age (most_age sizes) (young (λ e. grind arith))
+age_for sizes Giving age young = is_less age (most_age sizes) (young (λ e. grind arith))
+
 allocates_here : (history : List Entry) (s : CoreState) → RunFits s history → (i : ℕ) → StandsBetween s.sizes i s
-    → (view_at s i).transfer.age < most_age
+    → IsYoungFor s.sizes Allocate (view_at s i)
     → is_made (Events i Allocate) s ≡ true
 allocates_here history s fits i stands young =
-    call_begins s i Allocate stands (is_less (view_at s i).transfer.age most_age young) refl
+    call_begins s i Allocate stands (age_for s.sizes (due (view_at s i).pool.plan) (view_at s i).transfer.age young) refl
 
 pub allocates_begin : laws.AllocatesBegin
 allocates_begin = every_run _ allocates_here
 
 frees_here : (history : List Entry) (s : CoreState) → RunFits s history → (i block : ℕ) → StandsBetween s.sizes i s
-    → (view_at s i).transfer.age < most_age
+    → IsYoungFor s.sizes (Free block) (view_at s i)
     → is_holder i (holder_of s block) ≡ true → is_made (Events i (Free block)) s ≡ true
 frees_here history s fits i block stands young holds =
-    call_begins s i (Free block) stands (is_less (view_at s i).transfer.age most_age young) holds
+    call_begins s i (Free block) stands (age_for s.sizes (due (view_at s i).pool.plan) (view_at s i).transfer.age young) holds
 
 pub frees_begin : laws.FreesBegin
 frees_begin = every_run _ frees_here
@@ -103,7 +112,7 @@ transfer_begins : (s : CoreState) (i : ℕ) (wish : Wish) → StandsAtRest s.siz
     → is_made (Moves i wish) s ≡ true
 transfer_begins s i wish stands may =
     let v = view_at s i in
-    let young = both_are (nat_lt v.transfer.age most_age) (may_wish wish v.pool) (is_less v.transfer.age most_age stands.young) may in
+    let young = both_are (nat_lt v.transfer.age (most_age s.sizes)) (may_wish wish v.pool) (is_less v.transfer.age (most_age s.sizes) stands.young) may in
     let first = second_is (not (is_rest v.transfer.next)) _ young in
     both_are (nat_lt i s.sizes.processes) _ (is_less i s.sizes.processes stands.low)
     (both_are (may_use_transfers v.calls.way) _ (uses_transfers v.calls.way stands.way) first)

@@ -67,7 +67,7 @@ runs_make_steps sizes past history s by run li =
       moves = λ wish made. both (is_made (Moves by wish) s) (moves_transfer (moving_view wish v)) made
           (moving_moves wish v v.calls.way (is_rest v.transfer.next) refl fresh refl
           (first_may (nat_lt by s.sizes.processes) (may_use_transfers v.calls.way)
-          (not (is_rest v.transfer.next) || (nat_lt v.transfer.age most_age && may_wish wish v.pool)) made));
+          (not (is_rest v.transfer.next) || (nat_lt v.transfer.age (most_age s.sizes) && may_wish wish v.pool)) made));
       events = λ moving call.
           let (calls, busy) = calls_busy v v.calls.way Moving refl alone moving refl in
           both (is_made (Events by call) s) (moves_transfer (calling_view call v)) ((busy_go_on s by li busy).1 calls call)

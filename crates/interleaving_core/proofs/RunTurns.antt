@@ -118,8 +118,8 @@ pub busy_go_on : BusyProcessesGoOn
 busy_go_on s process low busy =
     let v = view_at s process in (
       λ alone wish. is_low process s.sizes.processes
-          (may_use_transfers v.calls.way && (not (is_rest v.transfer.next) || (nat_lt v.transfer.age most_age && may_wish wish v.pool))) low
-          (moves_on v.calls.way (is_rest v.transfer.next) (nat_lt v.transfer.age most_age && may_wish wish v.pool) alone
+          (may_use_transfers v.calls.way && (not (is_rest v.transfer.next) || (nat_lt v.transfer.age (most_age s.sizes) && may_wish wish v.pool))) low
+          (moves_on v.calls.way (is_rest v.transfer.next) (nat_lt v.transfer.age (most_age s.sizes) && may_wish wish v.pool) alone
           (rw alone at busy)),
       λ calls call. is_low process s.sizes.processes
           (is_in_call v.calls.stage || may_start_at v.calls.stage s.sizes (holds_for s.holders process call) call v) low

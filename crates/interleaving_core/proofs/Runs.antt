@@ -112,7 +112,7 @@ first_may false b h = grind arith
 
 -- a process that turns first begins its transfer or its call where it is in none
 moving_meets : (s : CoreState) (history : List Entry) (i : ℕ) (wish : Wish) (t : Bool) → RunFits s history → i < s.sizes.processes
-    → may_go_alone wish (view_at s i) ≡ true → is_rest (view_at s i).transfer.next ≡ t
+    → may_go_alone s.sizes wish (view_at s i) ≡ true → is_rest (view_at s i).transfer.next ≡ t
     → MeetsInvariant s.sizes s.words
     (λ o. get_or (set s.views i (if t then alone_begun wish (view_at s i) else view_at s i)) o (opening_view s.sizes o)) history
 moving_meets s history i wish true fits li may rest =
@@ -136,7 +136,7 @@ pub turn_meets : (s : CoreState) (history : List Entry) (turn : Turn) → RunFit
     → MeetsInvariant s.sizes s.words (λ o. get_or (set s.views (by_of turn) (turning_view turn s)) o (opening_view s.sizes o)) history
 turn_meets s history (Moves by wish) fits made li =
     moving_meets s history by wish (is_rest (view_at s by).transfer.next) fits li
-    (both_may (nat_lt by s.sizes.processes) (may_go_alone wish (view_at s by)) made) refl
+    (both_may (nat_lt by s.sizes.processes) (may_go_alone s.sizes wish (view_at s by)) made) refl
 turn_meets s history (Events by call) fits made li =
     calling_meets s history by call (is_in_call (view_at s by).calls.stage) fits li (both_may (nat_lt by s.sizes.processes) _ made) refl
 
@@ -144,7 +144,7 @@ pub turn_busy : (s : CoreState) (history : List Entry) (turn : Turn) → RunFits
     → by_of turn < s.sizes.processes → is_busy (turning_view turn s) ≡ true
 turn_busy s history (Moves by wish) fits made li =
     let v = view_at s by in
-    let may = both_may (nat_lt by s.sizes.processes) (may_go_alone wish v) made in
+    let may = both_may (nat_lt by s.sizes.processes) (may_go_alone s.sizes wish v) made in
     moving_busy wish v v.calls.way (is_rest v.transfer.next) refl
     (fresh_rests s.sizes (word_at s.sizes s.words) (view_at s) history by li fits.meets) refl
     (first_may (may_use_transfers v.calls.way) _ may)
@@ -154,7 +154,7 @@ turn_busy s history (Events by call) fits made li =
     (alone_between s.sizes (word_at s.sizes s.words) (view_at s) history by li fits.meets) refl
 
 pub turn_low : (s : CoreState) (turn : Turn) → is_made turn s ≡ true → by_of turn < s.sizes.processes
-turn_low s (Moves by wish) made = both_low by s.sizes.processes (may_go_alone wish (view_at s by)) made
+turn_low s (Moves by wish) made = both_low by s.sizes.processes (may_go_alone s.sizes wish (view_at s by)) made
 turn_low s (Events by call) made = both_low by s.sizes.processes (may_go s.sizes (holds_for s.holders by call) call (view_at s by)) made
 
 -- a turn that is made keeps the invariant
@@ -335,7 +335,7 @@ turned_answer s now turn b words seats happened same can holds turned =
     rw (sym same) (rw made turned.answers)
 
 -- a process among the others that turns has a next step
-pub moving_next : (sizes : Sizes) (table : List ℕ) (v : ProcessView) (wish : Wish) → may_go_alone wish v ≡ true → IsAmong sizes table v
+pub moving_next : (sizes : Sizes) (table : List ℕ) (v : ProcessView) (wish : Wish) → may_go_alone sizes wish v ≡ true → IsAmong sizes table v
     → is_busy (moving_view wish v) ≡ true
 moving_next sizes table v wish may among =
     let here = with_view_here v among.others in
@@ -354,10 +354,10 @@ is_low : (a b : ℕ) → a < b → nat_lt a b ≡ true
 is_low a b lt = grind (arith, nat_tests)
 
 pub may_go_alone_here : (sizes : Sizes) (s now : CoreState) (by : ℕ) (wish : Wish) (v : ProcessView) (b : Bool) → s ≡ now
-    → SomeRun sizes s → by < s.sizes.processes → v ≡ get_or s.views by v → b ≡ may_go_alone wish v → b ≡ is_made (Moves by wish) now
+    → SomeRun sizes s → by < s.sizes.processes → v ≡ get_or s.views by v → b ≡ may_go_alone s.sizes wish v → b ≡ is_made (Moves by wish) now
 may_go_alone_here sizes s now by wish v b same run low here may =
     let among = is_low by s.sizes.processes low in
-    rw (sym same) (rw among (may ∙ ap (may_go_alone wish) (view_seen sizes s s by v refl run low here)))
+    rw (sym same) (rw among (may ∙ ap (may_go_alone s.sizes wish) (view_seen sizes s s by v refl run low here)))
 
 pub may_go_here : (sizes : Sizes) (s now : CoreState) (by : ℕ) (call : Call) (v : ProcessView) (b holds : Bool) → s ≡ now
     → SomeRun sizes s → by < s.sizes.processes → v ≡ get_or s.views by v → holds ≡ holds_for s.holders by call

@@ -1,6 +1,6 @@
 -- what holds of a process that may begin something
 use Rattle.std.proofs.Common.{◌≡◌, ◌≢◌, ℕ, ◌-◌, ◌<◌, ◌≤◌, ◌==◌, Bool, true, false, List, length, refl, sym, ap, arith}
-use Rattle.std.specs.Prelude.{slice_index, nat_lt, nat_le, ◌&&◌}
+use Rattle.std.specs.Prelude.{slice_index, nat_lt, nat_le, ◌&&◌, ◌||◌}
 use Rattle.std.proofs.lemmas.Bool.Decides.{nat_tests}
 use Rattle.word_layout.specs.Sizes.{Sizes, IsShape, blocks}
 use Rattle.word_layout.specs.Packing.{FitsWish, most_age}
@@ -8,7 +8,7 @@ use Rattle.word_layout.specs.declared.announced.Wish.{Wish}
 use Rattle.word_layout.specs.declared.announced.Wish.TheVariants.{Take, Give}
 use Rattle.pool_model.specs.declared.entry.Entry.{Entry}
 use Rattle.transfer_schedule.specs.Beginning.{few_spares}
-use Rattle.transfer_schedule.specs.declared.pending.Pending.TheVariants.{Idle}
+use Rattle.transfer_schedule.specs.declared.pending.Pending.TheVariants.{Idle, Taking, Giving}
 use Rattle.pool_machine.specs.Pools.{MayBegin}
 use Rattle.pool_machine.specs.declared.call.Call.{Call}
 use Rattle.pool_machine.specs.declared.call.Call.TheVariants.{Allocate, Free, Read, Write, Search}
@@ -22,6 +22,8 @@ use Rattle.transfer_invariant.specs.Memory.{Words, state_tag}
 use Rattle.stack_invariant.proofs.Follows.{each_process}
 use Rattle.batch_invariant.specs.Batches.{ProcessViews}
 use Rattle.chain_invariant.proofs.Gives.{heads_are_blocks}
+use Rattle.transfer_schedule.specs.Numbers.{due, is_idle}
+use Rattle.transfer_schedule.specs.declared.pending.Pending.{Pending}
 use Rattle.pool_machine.specs.Conditions.{IsYoungFor, is_young_for, may_call, may_use_calls, names_fit}
 use Rattle.pool_machine.specs.Ready.{CanBegin}
 use Rattle.call_invariant.proofs.Uses.{calls_can_begin, calls_used, transfers_used}
@@ -134,27 +136,33 @@ uses_no_transfers Calls e = λ is. grind arith
 
 pub call_way : (sizes : Sizes) (holds : Bool) (call : Call) (v : ProcessView) → may_call sizes holds call v ≡ true → v.calls.way ≢ Alone
 call_way sizes holds call v may =
-    uses_no_transfers v.calls.way (both_first (may_use_calls v.calls.way) (is_young_for call v && names_fit sizes holds call) may)
+    uses_no_transfers v.calls.way (both_first (may_use_calls v.calls.way) (is_young_for sizes call v && names_fit sizes holds call) may)
 
 call_rest : (sizes : Sizes) (holds : Bool) (call : Call) (v : ProcessView) → may_call sizes holds call v ≡ true
-    → (is_young_for call v && names_fit sizes holds call) ≡ true
-call_rest sizes holds call v may = both_second (may_use_calls v.calls.way) (is_young_for call v && names_fit sizes holds call) may
+    → (is_young_for sizes call v && names_fit sizes holds call) ≡ true
+call_rest sizes holds call v may = both_second (may_use_calls v.calls.way) (is_young_for sizes call v && names_fit sizes holds call) may
 
-young_by : (call : Call) (v : ProcessView) → is_young_for call v ≡ true → IsYoungFor call v
-young_by Allocate v e = less v.transfer.age most_age e
-young_by (Free block) v e = less v.transfer.age most_age e
-young_by (Read block index) v e = tt
-young_by (Write block index value) v e = tt
-young_by Search v e = less v.transfer.age most_age e
+age_by : (sizes : Sizes) (due : Pending) (age : ℕ) → (is_idle due || nat_lt age (most_age sizes)) ≡ true → due ≢ Idle
+    → age < most_age sizes
+age_by sizes Idle age e some = absurd (some refl)
+age_by sizes Taking age e some = less age (most_age sizes) e
+age_by sizes Giving age e some = less age (most_age sizes) e
 
-pub call_young : (sizes : Sizes) (holds : Bool) (call : Call) (v : ProcessView) → may_call sizes holds call v ≡ true → IsYoungFor call v
+young_by : (sizes : Sizes) (call : Call) (v : ProcessView) → is_young_for sizes call v ≡ true → IsYoungFor sizes call v
+young_by sizes Allocate v e = age_by sizes (due v.pool.plan) v.transfer.age e
+young_by sizes (Free block) v e = age_by sizes (due v.pool.plan) v.transfer.age e
+young_by sizes (Read block index) v e = tt
+young_by sizes (Write block index value) v e = tt
+young_by sizes Search v e = less v.transfer.age (most_age sizes) e
+
+pub call_young : (sizes : Sizes) (holds : Bool) (call : Call) (v : ProcessView) → may_call sizes holds call v ≡ true → IsYoungFor sizes call v
 call_young sizes holds call v may =
-    young_by call v (both_first (is_young_for call v) (names_fit sizes holds call) (call_rest sizes holds call v may))
+    young_by sizes call v (both_first (is_young_for sizes call v) (names_fit sizes holds call) (call_rest sizes holds call v may))
 
 pub call_names : (sizes : Sizes) (holds : Bool) (call : Call) (v : ProcessView) → may_call sizes holds call v ≡ true
     → names_fit sizes holds call ≡ true
 call_names sizes holds call v may =
-    both_second (is_young_for call v) (names_fit sizes holds call) (call_rest sizes holds call v may)
+    both_second (is_young_for sizes call v) (names_fit sizes holds call) (call_rest sizes holds call v may)
 
 -- a process between two calls can begin one
 pub call_can : (sizes : Sizes) (words : Words) (views : ProcessViews) (history : List Entry) (ghosts : Ghosts) (i : ℕ) → IsShape sizes

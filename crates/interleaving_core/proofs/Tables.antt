@@ -40,7 +40,7 @@ use Rattle.interleaving_core.specs.Invariant.{MeetsInvariant, IsAmong, IsAmongHo
 use Rattle.interleaving_core.specs.Moves.{may_wish, may_go_alone, moving_view, may_go, may_start_at, started_at, started, calling_view}
 use Rattle.interleaving_core.specs.Runs.{entries_of}
 use Rattle.interleaving_core.specs.Steps.{is_alone, is_busy, is_in_call, next_action, next_met, next_answer}
-use Rattle.interleaving_core.proofs.Begins.{alone_begins, choosing_young, call_starts}
+use Rattle.interleaving_core.proofs.Begins.{alone_begins, call_starts}
 use Rattle.interleaving_core.proofs.Holds.{StepAllowed, step_allowed, step_holds}
 use Rattle.interleaving_core.proofs.Standing.{rests_idle, wish_fits, call_can_begin}
 
@@ -214,17 +214,9 @@ among_can_begin sizes table v shape among =
 pub rests : (s : NextStep) → is_rest s ≡ true → s ≡ Rest
 rests s h = grind arith
 
--- a search that is to choose has the age for it
-pub among_choosing : (sizes : Sizes) (table : List ℕ) (v : ProcessView) → IsAmong sizes table v → v.calls.stage ≡ Choosing
-    → v.transfer.age < most_age
-among_choosing sizes table v among =
-    let here = with_view_here v among.others in
-    let young = choosing_young sizes (word_at sizes table) (with_view v among.others) among.past v.transfer.number among.low among.meets in
-    rw here at young
-
 -- the view that moves alone
 moving_among : (sizes : Sizes) (table : List ℕ) (v : ProcessView) (wish : Wish) (t : Bool) → IsShape sizes → is_rest v.transfer.next ≡ t
-    → may_go_alone wish v ≡ true → IsAmong sizes table v → IsAmong sizes table (if t then alone_begun wish v else v)
+    → may_go_alone sizes wish v ≡ true → IsAmong sizes table v → IsAmong sizes table (if t then alone_begun wish v else v)
 moving_among sizes table v wish true shape rest may among =
     let here = with_view_here v among.others in
     let x = alone_begun wish v in
@@ -239,7 +231,7 @@ moving_among sizes table v wish true shape rest may among =
     }
 moving_among sizes table v wish false shape rest may among = among
 
-pub among_moving : (sizes : Sizes) (table : List ℕ) (v : ProcessView) (wish : Wish) → IsShape sizes → may_go_alone wish v ≡ true
+pub among_moving : (sizes : Sizes) (table : List ℕ) (v : ProcessView) (wish : Wish) → IsShape sizes → may_go_alone sizes wish v ≡ true
     → IsAmong sizes table v → IsAmong sizes table (moving_view wish v)
 among_moving sizes table v wish shape may among = moving_among sizes table v wish (is_rest v.transfer.next) shape refl may among
 
@@ -292,18 +284,6 @@ calling_among sizes table v call holds false shape inside may h =
 pub among_calling : (sizes : Sizes) (table : List ℕ) (v : ProcessView) (call : Call) (holds : Bool) → IsShape sizes
     → may_go sizes holds call v ≡ true → IsAmongHolding sizes table v holds call → IsAmong sizes table (calling_view call v)
 among_calling sizes table v call holds shape may h = calling_among sizes table v call holds (is_in_call v.calls.stage) shape refl may h
-
--- a process between two calls that goes on begins one
-goes_at : (sizes : Sizes) (v : ProcessView) (call : Call) (holds : Bool) (stage : CallStage) → stage ≡ Between
-    → (is_in_call stage || may_start_at stage sizes holds call v) ≡ true → may_call sizes holds call v ≡ true
-goes_at sizes v call holds Between e may = may
-goes_at sizes v call holds Choosing e may = cc
-goes_at sizes v call holds Moving e may = cc
-goes_at sizes v call holds Own e may = cc
-
-pub between_goes : (sizes : Sizes) (v : ProcessView) (call : Call) (holds : Bool) → v.calls.stage ≡ Between
-    → may_go sizes holds call v ≡ true → may_call sizes holds call v ≡ true
-between_goes sizes v call holds between may = goes_at sizes v call holds v.calls.stage between may
 
 -- the step of a process on a table, by its way
 pub alone_met : (sizes : Sizes) (table : List ℕ) (v : ProcessView) → is_alone v.calls.way ≡ true

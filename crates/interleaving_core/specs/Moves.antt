@@ -84,9 +84,9 @@ may_wish Take pool = may_begin Taking pool.plan.spares
 may_wish (Give head) pool = nat_lt 0 (length pool.heads) && (may_begin Giving pool.plan.spares && (newest pool == head))
 
 -- whether a process moves alone: it has begun no call, and it goes on with its transfer or may begin one with this wish
-abbrev pub may_go_alone : Wish → ProcessView → Bool
-may_go_alone wish v =
-    may_use_transfers v.calls.way && (not (is_rest v.transfer.next) || (nat_lt v.transfer.age most_age && may_wish wish v.pool))
+abbrev pub may_go_alone : Sizes → Wish → ProcessView → Bool
+may_go_alone sizes wish v =
+    may_use_transfers v.calls.way && (not (is_rest v.transfer.next) || (nat_lt v.transfer.age (most_age sizes) && may_wish wish v.pool))
 
 -- its view before that step: a process at rest first begins a transfer with this wish
 abbrev pub moving_view : Wish → ProcessView → ProcessView

@@ -9,6 +9,7 @@ use Rattle.pool_machine.specs.declared.call.CallStage.TheVariants.{Between}
 use Rattle.transfer_machine.specs.declared.stage.NextStep.TheVariants.{Rest}
 use Rattle.pool_machine.specs.Beginning.{newest}
 use Rattle.pool_machine.specs.declared.call.Way.TheVariants.{Alone, Calls}
+use Rattle.pool_machine.specs.Conditions.{IsYoungFor}
 use Rattle.pool_machine.specs.Laws.{most_moves}
 use Rattle.pool_machine.specs.declared.event.Happened.{Happened}
 use Rattle.pool_machine.specs.declared.event.Happened.TheVariants.{Step, Ended, Loaded, Stored, Ignored}
@@ -22,14 +23,14 @@ pub record StandsBetween (sizes : Sizes) (i : ℕ) (s : CoreState) : Type 0 wher
   pub between : (view_at s i).calls.stage ≡ Between
   pub way : (view_at s i).calls.way ≢ Alone
 
--- there it begins an allocate while its age is below the limit
+-- there it begins an allocate while it has the age for it
 abbrev pub AllocatesBegin : Type 0
-AllocatesBegin = EveryRun (λ sizes history s. (i : ℕ) → StandsBetween sizes i s → (view_at s i).transfer.age < most_age
+AllocatesBegin = EveryRun (λ sizes history s. (i : ℕ) → StandsBetween sizes i s → IsYoungFor sizes Allocate (view_at s i)
     → is_made (Events i Allocate) s ≡ true)
 
 -- and so a free of each block that it holds
 abbrev pub FreesBegin : Type 0
-FreesBegin = EveryRun (λ sizes history s. (i block : ℕ) → StandsBetween sizes i s → (view_at s i).transfer.age < most_age
+FreesBegin = EveryRun (λ sizes history s. (i block : ℕ) → StandsBetween sizes i s → IsYoungFor sizes (Free block) (view_at s i)
     → is_holder i (holder_of s block) ≡ true
     → is_made (Events i (Free block)) s ≡ true)
 
@@ -47,7 +48,7 @@ pub record StandsAtRest (sizes : Sizes) (i : ℕ) (s : CoreState) : Type 0 where
   pub low : i < sizes.processes
   pub rest : (view_at s i).transfer.next ≡ Rest
   pub way : (view_at s i).calls.way ≢ Calls
-  pub young : (view_at s i).transfer.age < most_age
+  pub young : (view_at s i).transfer.age < most_age sizes
 
 -- there it begins a take with at most one spare, and a give of its newest spare where it has one
 abbrev pub TakesBegin : Type 0

@@ -24,7 +24,7 @@ by_of (Events by call) = by
 
 -- whether it is made: its process is in the shape, and moves or goes on
 abbrev pub is_made : Turn → CoreState → Bool
-is_made (Moves by wish) s = nat_lt by s.sizes.processes && may_go_alone wish (view_at s by)
+is_made (Moves by wish) s = nat_lt by s.sizes.processes && may_go_alone s.sizes wish (view_at s by)
 is_made (Events by call) s = nat_lt by s.sizes.processes && may_go s.sizes (holds_for s.holders by call) call (view_at s by)
 
 -- the view with which its process makes the step

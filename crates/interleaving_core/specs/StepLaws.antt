@@ -116,13 +116,13 @@ CallsKeepInvariant = (sizes : Sizes) (words : List ℕ) (views after : ProcessVi
 -- a process goes on with its transfer alone, or begins one with this wish: its next step is due
 abbrev pub MovesAreDue : Type 0
 MovesAreDue = (sizes : Sizes) (words : List ℕ) (views begun : ProcessViews) (history : List Entry) (i : ℕ) (wish : Wish)
-    → TableMeets sizes words views history i → may_go_alone wish (views i) ≡ true
+    → TableMeets sizes words views history i → may_go_alone sizes wish (views i) ≡ true
     → MovedProcess i (moving_view wish (views i)) views begun → StepIsDue sizes words begun history i
 
 -- and so, with that step, it keeps the invariant
 abbrev pub MovesKeepInvariant : Type 0
 MovesKeepInvariant = (sizes : Sizes) (words : List ℕ) (views after : ProcessViews) (history : List Entry) (i : ℕ) (wish : Wish)
-    → TableMeets sizes words views history i → may_go_alone wish (views i) ≡ true
+    → TableMeets sizes words views history i → may_go_alone sizes wish (views i) ≡ true
     → MovedProcess i (view_after sizes words (moving_view wish (views i))) views after
     → MeetsInvariant sizes (words_after sizes words (moving_view wish (views i))) after
     (history_after sizes words (moving_view wish (views i)) history)

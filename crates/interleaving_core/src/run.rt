@@ -5,6 +5,7 @@ ghost use Rattle.word_layout.specs.Names.{table_words};
 ghost use Rattle.pool_model.specs.declared.entry.Entry.{Entry};
 ghost use Rattle.transfer_machine.specs.Words.{stack};
 ghost use Rattle.pool_machine.specs.Conditions.{IsYoungFor};
+ghost use Rattle.pool_machine.specs.declared.call.CallStage.TheVariants.{Between};
 ghost use Rattle.interleaving_core.specs.Invariant.{MeetsInvariant};
 ghost use Rattle.interleaving_core.specs.Kept.{kept};
 ghost use Rattle.interleaving_core.specs.Moves.{view_at, holder_of};
@@ -85,10 +86,11 @@ impl CoreRun {
     /// else that isn't looked at. Ended is answered by the last step of an allocate or a free, Loaded and Stored by
     /// the one step of a read or a write. Ignored exactly where no such process is in the shape, where it has begun
     /// a transfer outside any call, or where it is between two calls and the call names a block that it doesn't
-    /// hold or an index that its blocks don't have; then nothing changes. It takes no memory. An event that names an
-    /// allocate or a free needs a process whose age isn't the last one; a read and a write are asked for no age.
+    /// hold or an index that its blocks don't have; then nothing changes. It takes no memory. An event that begins
+    /// an allocate or a free with which a transfer is due needs a process whose age isn't the last one; no other is
+    /// asked for its age.
     pub fn event(&mut self, event: &Event) -> Happened
-        requires { event.now.by < self.old.sizes.processes → IsYoungFor event.now.call (view_at self.old event.now.by) }
+        requires { event.now.by < self.old.sizes.processes → (view_at self.old event.now.by).calls.stage ≡ Between → IsYoungFor self.old.sizes event.now.call (view_at self.old event.now.by) }
         ensures answer { result ≡ turn_answer (Events event.now.by event.now.call) self.old }
         ensures state { self.new ≡ after_turn (Events event.now.by event.now.call) self.old }
         ensures run { (past : List Turn) (history : List Entry) → IsRun self.old.sizes past history self.old → IsRun self.new.sizes (past ++ Events event.now.by event.now.call ∷ []) (history ++ entries_of result) self.new }
@@ -107,7 +109,7 @@ impl CoreRun {
     fn can_move(&self, by: u32, wish: Wish) -> bool
         ensures { result ≡ is_made (Moves by wish) self.now }
     {
-        by < self.shape.processes() && may_go_alone(&self.views[by as usize], wish)
+        by < self.shape.processes() && may_go_alone(&self.views[by as usize], &self.shape, wish)
     }
 
     /// Whether the process of an event is in the shape, and goes on with its call or may begin this one.

@@ -7,7 +7,6 @@ mod steps;
 
 use crate::{Call, CoreRun, Event, Happened};
 use std::process::Abort;
-use word_layout::Announced;
 
 /// The word at a place.
 fn word(rt: &impl Abort, run: &CoreRun, place: u32) -> u64 {
@@ -23,7 +22,7 @@ fn holder(rt: &impl Abort, run: &CoreRun, block: u32) -> Option<u32> {
 
 /// One step of a call of a process.
 fn event(rt: &impl Abort, run: &mut CoreRun, by: u32, call: Call) -> Happened {
-    assert!(rt; by >= run.shape().processes() || run.view(by).transfer.age < Announced::MOST_AGE);
+    assert!(rt; by >= run.shape().processes() || run.view(by).transfer.age < run.shape().most_age());
     run.event(&Event { by, call })
 }
 

@@ -1,13 +1,11 @@
 // One turn of one process, on the fields of a run.
 ghost use Rattle.std.specs.Prelude.{◌≡◌, ◌<◌, true, None, length, replicate, IfOk, slice_index_or, slice_set};
 ghost use Rattle.word_layout.specs.Names.{table_words};
-ghost use Rattle.word_layout.specs.Packing.{FitsWish, most_age};
+ghost use Rattle.word_layout.specs.Packing.{FitsWish};
 ghost use Rattle.word_layout.specs.Sizes.{blocks};
 ghost use Rattle.transfer_schedule.specs.declared.pending.Pending.TheVariants.{Idle};
-ghost use Rattle.pool_machine.specs.declared.call.CallStage.TheVariants.{Between, Choosing};
 ghost use Rattle.transfer_machine.specs.declared.stage.NextStep.TheVariants.{Rest};
 ghost use Rattle.pool_machine.specs.Pools.{opening_view, MayBegin};
-ghost use Rattle.pool_machine.specs.Conditions.{IsYoungFor};
 ghost use Rattle.pool_machine.specs.Ready.{CanBegin};
 ghost use Rattle.interleaving_core.specs.Invariant.{IsAmong, IsAmongHolding};
 ghost use Rattle.interleaving_core.specs.Moves.{moving_view, calling_view, may_go_alone, may_go, may_wish, is_holder, holds_for, holders_after};
@@ -23,7 +21,7 @@ use pool_model::{Entry, NoMemory};
 use std::alloc::Global;
 use transfer_machine::NextStep;
 use transfer_schedule::Pending;
-use word_layout::{Announced, Shape, Wish};
+use word_layout::{Shape, Wish};
 
 /// The views of all processes at the opening.
 pub fn opening_views(alloc: Global, shape: &Shape) -> Result<Vec<ProcessView>, NoMemory>
@@ -74,12 +72,12 @@ pub fn may_go(view: &ProcessView, shape: &Shape, event: &Event, holds: bool) -> 
 }
 
 /// Whether a process moves alone: it goes on with its transfer, or may begin one with this wish.
-pub fn may_go_alone(view: &ProcessView, wish: Wish) -> bool
-    ensures { result ≡ may_go_alone wish view.now }
+pub fn may_go_alone(view: &ProcessView, shape: &Shape, wish: Wish) -> bool
+    ensures { result ≡ may_go_alone shape.now wish view.now }
 {
     may_move(view)
         && (view.transfer.next != NextStep::Rest
-            || view.transfer.age < Announced::MOST_AGE && may_wish(&view.pool, wish))
+            || view.transfer.age < shape.most_age() && may_wish(&view.pool, wish))
 }
 
 /// Whether a pool may begin a transfer with this wish.
@@ -103,7 +101,7 @@ pub fn move_process(
     wish: Wish,
 ) -> Happened
     requires low { by < length views.old.items }
-    requires moves { may_go_alone wish (slice_index_or views.old.items by (opening_view shape.now by)) ≡ true }
+    requires moves { may_go_alone shape.now wish (slice_index_or views.old.items by (opening_view shape.now by)) ≡ true }
     requires whole { length words.old.items ≡ table_words shape.now }
     requires invariant { IsAmong shape.now words.old.items (slice_index_or views.old.items by (opening_view shape.now by)) }
     ensures { Turned shape.now by (moving_view wish (slice_index_or views.old.items by (opening_view shape.now by))) words.old.items views.old.items words.new.items views.new.items result }
@@ -114,19 +112,19 @@ pub fn move_process(
 
 /// One step of a process that moves alone. Where it is at rest it first begins a transfer with this wish.
 fn move_view(words: &mut [u64], view: &mut ProcessView, shape: &Shape, wish: Wish) -> Happened
-    requires moves { may_go_alone wish view.old ≡ true }
+    requires moves { may_go_alone shape.now wish view.old ≡ true }
     requires whole { length words.old ≡ table_words shape.now }
     requires invariant { IsAmong shape.now words.old view.old }
     ensures { Stepped shape.now (moving_view wish view.old) words.old words.new view.new result }
 {
     prove!(shape.processes() >= 1);
-    begin_at_rest(view, wish);
+    begin_at_rest(view, shape, wish);
     make_step(words, view, shape)
 }
 
 /// Begins a transfer alone where the process is at rest.
-fn begin_at_rest(view: &mut ProcessView, wish: Wish)
-    requires moves { may_go_alone wish view.old ≡ true }
+fn begin_at_rest(view: &mut ProcessView, shape: &Shape, wish: Wish)
+    requires moves { may_go_alone shape.now wish view.old ≡ true }
     requires idle { view.old.transfer.next ≡ Rest → view.old.pool.plan.pending ≡ Idle }
     requires fits { view.old.transfer.next ≡ Rest → may_wish wish view.old.pool ≡ true → FitsWish wish × MayBegin wish view.old.pool }
     ensures { view.new ≡ moving_view wish view.old }
@@ -174,8 +172,6 @@ fn call_view(
 
 /// Begins a call where the process is in none; a search that is to choose begins the transfer that is due, if any.
 fn begin_between(view: &mut ProcessView, call: Call)
-    requires young { view.old.calls.stage ≡ Between → IsYoungFor call view.old }
-    requires choosing { view.old.calls.stage ≡ Choosing → view.old.transfer.age < most_age }
     requires can { CanBegin view.old }
     ensures { view.new ≡ calling_view call view.old }
 {

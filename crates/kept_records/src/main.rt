@@ -27,6 +27,7 @@ fn keep(pool: &Pool, pass: &mut Pass) -> Option<Point>
 {
     // A quantum is at most 16, so the counter of steps has room.
     let _quantum = pool.shape().quantum();
+    let _age = pool.shape().most_age();
     let store = Store::new(pool);
     let mut steps = Steps::new(Quiet::new());
     let Put::Stored(mut object) = store.put(pass, Point { x: 1, y: 2 }, &mut steps) else {

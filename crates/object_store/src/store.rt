@@ -1,9 +1,8 @@
 // A store over a pool, and its calls.
 ghost use Rattle.std.specs.Prelude.{◌≡◌, ◌≢◌, ◌↔◌, ◌+◌, ◌≤◌, ◌<◌, ◌^◌, ℕ, Contains};
-ghost use Rattle.word_layout.specs.Packing.{most_age};
 ghost use Rattle.pool_model.specs.declared.entry.Entry.TheVariants.{Back};
 ghost use Rattle.pool_table.specs.Turns.{forget};
-ghost use Rattle.block_pool.specs.Passing.{IsOf, Pooled};
+ghost use Rattle.block_pool.specs.Passing.{HasAge, IsOf, Pooled};
 ghost use Rattle.block_pool.specs.Calls.{SamePass, Entered, entry_of};
 ghost use Rattle.object_store.specs.Objects.{HoldsWords};
 ghost use Rattle.object_store.specs.Calls.{AllocatedFirst, CountedWithin, KeepsOthers, answer_of, written};
@@ -55,7 +54,7 @@ impl<'a, R: Record + Drop> Store<'a, R> {
     /// makes at most a quantum of steps and one, and besides one for each word of the value where it is stored.
     pub fn put<L: Ledger>(&self, pass: &mut Pass, value: R, steps: &mut Steps<L>) -> Put<R>
         requires pass { IsOf self.now pass.old }
-        requires young { pass.old.age < most_age }
+        requires young { HasAge pass.old }
         requires room { steps.old + pass.old.sizes.quantum + 1 + R.WORDS < 2 ^ 64 }
         ensures pass { SamePass pass.old pass.new }
         ensures steps { CountedWithin (least_of_put R.WORDS result) (pass.old.sizes.quantum + least_of_put R.WORDS result)
@@ -128,7 +127,7 @@ impl<'a, R: Record + Drop> Store<'a, R> {
     /// still holds, with its known words.
     pub fn take<L: Ledger>(&self, pass: &mut Pass, object: Object<R>, steps: &mut Steps<L>) -> R
         requires pass { IsOf self.now pass.old }
-        requires young { pass.old.age < most_age }
+        requires young { HasAge pass.old }
         requires object { HoldsWords R.WORDS (R.words_of object.value) object.block pass.old }
         requires room { steps.old + pass.old.sizes.quantum + 1 + R.WORDS < 2 ^ 64 }
         ensures value { result ≡ object.value }

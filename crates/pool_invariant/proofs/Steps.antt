@@ -33,8 +33,8 @@ going_announced s e = grind arith
 pub going_pool : (pool : PoolView) (word : ℕ) (s : NextStep) → goes_on s ≡ true → pool_met_at word pool s ≡ step_counted pool
 going_pool pool word s e = grind arith
 
-going_age : (v x : TransferView) → AgeFits v → StaysIn v x → AgeFits x
-going_age v x h stays = grind arith
+going_age : (sizes : Sizes) (v x : TransferView) → AgeFits sizes v → StaysIn v x → AgeFits sizes x
+going_age sizes v x h stays = grind arith
 
 going_runs : (sizes : Sizes) (v : ProcessView) (word : ℕ) (s : NextStep) → v.transfer.next ≡ s → goes_on s ≡ true → 1 ≤ sizes.processes → PoolRuns sizes v
     → (has_record s ≡ true → overlay_length v.transfer.loaded ≤ sizes.processes)
@@ -50,15 +50,15 @@ going_runs sizes v word s e going some h few =
       kept = step_kept sizes v x v.pool.giving h.kept (rw e moving) stays.moving stays.announced stays.wish none;
       counted = λ after. counts_on v.pool.plan.done _ _ counted (step_nearer sizes v.transfer word s index few stays.moving moving);
       index = step_indexed sizes v.transfer word s e some index;
-      age = going_age v.transfer x h.age stays;
+      age = going_age sizes v.transfer x h.age stays;
     })
 
 going_alone : (sizes : Sizes) (i : ℕ) (pool : PoolView) (word : ℕ) (s : NextStep) → goes_on s ≡ true → PoolAlone sizes i pool → PoolAlone sizes i (pool_met_at word pool s)
 going_alone sizes i pool word s going h = rw (going_pool pool word s going) (record { spares = step_spares pool pool.giving h.spares; full = step_alone sizes i pool pool.giving h.full })
 
 -- the announcement
-announced_age : (v : TransferView) → AgeFits v → v.next ≡ Announce → v.age + 1 ≤ most_age
-announced_age v h e = let below = h.below (rw e refl) in omega arith
+announced_age : (sizes : Sizes) (v : TransferView) → AgeFits sizes v → v.next ≡ Announce → v.age + 1 ≤ most_age sizes
+announced_age sizes v h e = let below = h.below (rw e refl) in omega arith
 
 announced_runs : (sizes : Sizes) (v : ProcessView) (word : ℕ) → v.transfer.next ≡ Announce → PoolRuns sizes v
     → PoolRuns sizes (record v { transfer = met_at sizes v.transfer word Announce; pool = pool_met_at word v.pool Announce })
@@ -68,7 +68,7 @@ announced_runs sizes v word e h =
       kept = step_kept sizes v (met_at sizes v.transfer word Announce) 0 h.kept (rw e refl) refl refl refl refl;
       counted = λ after. omega arith;
       index = tt;
-      age = record { most = announced_age v.transfer h.age e; below = λ after. grind arith };
+      age = record { most = announced_age sizes v.transfer h.age e; below = λ after. grind arith };
     }
 
 -- the reply

@@ -12,7 +12,7 @@ pub record PoolRuns (sizes : Sizes) (v : ProcessView) : Type 0 where
   pub kept : PoolKept sizes v
   pub counted : StepsCounted sizes v
   pub index : IndexFits sizes v.transfer
-  pub age : AgeFits v.transfer
+  pub age : AgeFits sizes v.transfer
 
 -- what holds of a process that makes transfers alone: its spares, and its current list, which stays as it was
 pub record PoolAlone (sizes : Sizes) (process : ℕ) (pool : PoolView) : Type 0 where

@@ -45,9 +45,9 @@ pub record KeptAlone (sizes : Sizes) (process : ℕ) (pool : PoolView) : Type 0 
   pub busy : is_idle pool.plan.pending ≡ false → pool.plan.spares ≤ 1
 
 -- the age is within its limit, and a transfer is begun only below it
-pub record AgeFits (v : TransferView) : Type 0 where
-  pub most : v.age ≤ most_age
-  pub below : has_only_begun v.next ≡ true → v.age < most_age
+pub record AgeFits (sizes : Sizes) (v : TransferView) : Type 0 where
+  pub most : v.age ≤ most_age sizes
+  pub below : has_only_begun v.next ≡ true → v.age < most_age sizes
 
 -- a reply that answers a wish: a take gets nothing or a batch, a give is always made
 abbrev pub Answers : Wish → Reply → Type 0

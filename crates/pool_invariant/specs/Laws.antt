@@ -25,7 +25,7 @@ abbrev pub BeginningsKeepPool : Type 0
 BeginningsKeepPool = (sizes : Sizes) (i : ℕ) (v : ProcessView) (wish : Wish) → PoolHolds sizes i v
     → v.transfer.next ≡ Rest
     → MayBegin wish v.pool
-    → v.transfer.age < most_age
+    → v.transfer.age < most_age sizes
     → PoolHolds sizes i (view_begun wish v)
 
 -- each step keeps it, whatever word it meets

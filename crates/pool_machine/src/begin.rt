@@ -1,11 +1,10 @@
 // The beginning of a call.
 ghost use Rattle.std.specs.Prelude.{◌≡◌, ◌<◌, ◌≤◌, false, length};
-ghost use Rattle.word_layout.specs.Packing.{most_age, FitsWish};
+ghost use Rattle.word_layout.specs.Packing.{FitsWish};
 ghost use Rattle.transfer_schedule.specs.declared.pending.Pending.TheVariants.{Idle};
 ghost use Rattle.transfer_machine.specs.declared.stage.NextStep.TheVariants.{Rest};
 ghost use Rattle.pool_machine.specs.Pools.{MayBegin};
 ghost use Rattle.pool_machine.specs.Beginning.{newest, due, before_call, first_stage, entered, search_chosen, search_begun_by, call_begun, alone_begun};
-ghost use Rattle.pool_machine.specs.Conditions.{IsYoungFor};
 ghost use Rattle.pool_machine.specs.Ready.{CanBegin};
 
 use crate::call::{Call, CallStage, CallView, Way};
@@ -36,7 +35,6 @@ fn due(pool: &PoolView) -> Option<Wish>
 
 /// Begins the transfer that is due as a call begins.
 pub fn before_call(view: &mut ProcessView)
-    requires young { view.old.transfer.age < most_age }
     requires can { CanBegin view.old }
     ensures { view.new ≡ before_call view.old }
 {
@@ -48,7 +46,6 @@ pub fn before_call(view: &mut ProcessView)
 /// Begins a call. An allocate or a free begins the transfer that is due; where one is pending then, also one
 /// that waited, the call first makes steps of it. A read or a write is at its own step at once.
 pub fn begin_call(view: &mut ProcessView, call: Call)
-    requires young { IsYoungFor call view.old }
     requires can { CanBegin view.old }
     ensures { view.new ≡ call_begun call view.old }
 {
@@ -71,7 +68,6 @@ pub fn begin_call(view: &mut ProcessView, call: Call)
 
 /// A search with nothing pending begins the transfer that is due, if any.
 pub fn choose(view: &mut ProcessView)
-    requires young { view.old.transfer.age < most_age }
     requires can { CanBegin view.old }
     ensures { view.new ≡ search_chosen view.old }
 {
@@ -110,7 +106,6 @@ fn first_stage(view: &ProcessView) -> CallStage
 pub fn begin_transfer(view: &mut ProcessView, wish: Wish)
     requires rest { view.old.transfer.next ≡ Rest }
     requires idle { view.old.pool.plan.pending ≡ Idle }
-    requires age { view.old.transfer.age < most_age }
     requires fits { FitsWish wish }
     requires may { MayBegin wish view.old.pool }
     ensures { view.new ≡ alone_begun wish view.old }

@@ -4,14 +4,15 @@ ghost use Rattle.pool_machine.specs.Conditions.{IsYoungFor, MayCall, MayMove, Na
 
 use crate::call::Call;
 use crate::view::ProcessView;
-use word_layout::{Announced, Shape};
+use transfer_schedule::Pending;
+use word_layout::Shape;
 
 /// Whether a process may begin this call. `holds` says whether it holds the block that the call names.
 pub fn may_call(view: &ProcessView, shape: &Shape, call: Call, holds: bool) -> bool
     ensures test { result ≡ may_call shape.now holds call view.now }
     ensures fact { IsTrue result ↔ MayCall shape.now holds call view.now }
 {
-    view.calls.way.may_use_calls() && is_young_for(view, call) && names_fit(shape, call, holds)
+    view.calls.way.may_use_calls() && is_young_for(view, shape, call) && names_fit(shape, call, holds)
 }
 
 /// Whether a process may begin a transfer alone, outside any call.
@@ -22,16 +23,17 @@ pub fn may_move(view: &ProcessView) -> bool
     view.calls.way.may_use_transfers()
 }
 
-/// Whether the age leaves room for what the call may begin: an allocate or a free may begin a transfer, a read or a
-/// write never does.
-fn is_young_for(view: &ProcessView, call: Call) -> bool
-    ensures test { result ≡ is_young_for call view.now }
-    ensures fact { IsTrue result ↔ IsYoungFor call view.now }
+/// Whether the age leaves room for what the call begins: an allocate or a free begins the transfer that is due, a search
+/// may begin one after the transfer that it meets, a read or a write begins none.
+fn is_young_for(view: &ProcessView, shape: &Shape, call: Call) -> bool
+    ensures test { result ≡ is_young_for shape.now call view.now }
+    ensures fact { IsTrue result ↔ IsYoungFor shape.now call view.now }
 {
     match call {
-        Call::Allocate | Call::Free { .. } | Call::Search => {
-            view.transfer.age < Announced::MOST_AGE
+        Call::Allocate | Call::Free { .. } => {
+            view.pool.plan.due() == Pending::Idle || view.transfer.age < shape.most_age()
         }
+        Call::Search => view.transfer.age < shape.most_age(),
         Call::Read { .. } | Call::Write { .. } => true,
     }
 }

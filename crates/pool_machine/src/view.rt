@@ -1,6 +1,6 @@
 // What one process knows.
 ghost use Rattle.std.specs.Prelude.{◌≡◌, ◌≢◌, ◌<◌, ◌≤◌};
-ghost use Rattle.word_layout.specs.Packing.{most_age, FitsWish};
+ghost use Rattle.word_layout.specs.Packing.{FitsWish};
 ghost use Rattle.transfer_schedule.specs.declared.pending.Pending.TheVariants.{Idle};
 ghost use Rattle.transfer_machine.specs.declared.stage.NextStep.TheVariants.{Rest};
 ghost use Rattle.transfer_machine.specs.Machine.{CanAct, CanMeet};
@@ -155,7 +155,6 @@ impl ProcessView {
     pub(crate) fn begin(&mut self, wish: Wish)
         requires rest { self.old.transfer.next ≡ Rest }
         requires idle { self.old.pool.plan.pending ≡ Idle }
-        requires age { self.old.transfer.age < most_age }
         requires fits { FitsWish wish }
         requires may { MayBegin wish self.old.pool }
         ensures { self.new ≡ view_begun wish self.old }

@@ -1,6 +1,5 @@
 -- What the calls of a member answer, and what they do to its pass.
 use Rattle.std.specs.Prelude.{◌≡◌, ℕ, ◌+◌, ◌<◌, ◌≤◌, Some, ◌∷◌, Contains}
-use Rattle.word_layout.specs.Packing.{most_age}
 use Rattle.word_layout.specs.Sizes.{limits_of}
 use Rattle.pool_model.specs.declared.entry.Entry.{Entry}
 use Rattle.pool_model.specs.declared.entry.Entry.TheVariants as entry
@@ -9,7 +8,7 @@ use Rattle.transfer_schedule.specs.Numbers.{after_gave_one}
 use Rattle.pool_table.specs.Minds.{known_in}
 use Rattle.pool_table.specs.Turns.{forget}
 use Rattle.block_pool.specs.Calls.{SamePass, Entered, WasFree, Allocated, PlanMoved}
-use Rattle.block_pool.specs.Passing.{Passed}
+use Rattle.block_pool.specs.Passing.{HasAge, Passed}
 use Rattle.block_pool.specs.declared.pool.Answer.{Answer}
 use Rattle.block_pool.specs.declared.pool.Answer.TheVariants.{Got, Dry}
 use Rattle.pool_member.specs.declared.member.Getting.{Getting}
@@ -19,9 +18,9 @@ use Rattle.pool_member.specs.declared.member.Freeing.TheVariants as freeing
 use Rattle.pool_member.specs.declared.member.WordFault.{WordFault}
 use Rattle.pool_member.specs.declared.member.WordFault.TheVariants as fault
 
--- the pass has no transfer left
+-- a transfer is due, and the pass has begun as many as it may
 abbrev pub IsSpent : Passed → Type 0
-IsSpent pass = most_age ≤ pass.age
+IsSpent pass = ¬ HasAge pass
 
 -- the pool made one call of the pass, with this entry, and at most a quantum of steps besides its own
 pub record Called (entry : Entry) (old new : Passed) : Type 0 where
@@ -54,8 +53,8 @@ AnswersYoung Dry old new = IsRefused old new
 
 -- an allocate: it is refused a call where the pass is spent alone
 abbrev pub AnswersAllocate : Getting → Passed → Passed → Type 0
-AnswersAllocate (getting.Got block) old new = (old.age < most_age) × Gets block old new
-AnswersAllocate getting.Dry old new = (old.age < most_age) × IsRefused old new
+AnswersAllocate (getting.Got block) old new = HasAge old × Gets block old new
+AnswersAllocate getting.Dry old new = HasAge old × IsRefused old new
 AnswersAllocate getting.Spent old new = IsSpent old × (new ≡ old)
 
 -- the pass held the block, and holds it no more; the pool has it back
@@ -67,7 +66,7 @@ pub record GivesBack (block : ℕ) (old new : Passed) : Type 0 where
 
 -- a free: of a held block it is refused where the pass is spent alone
 abbrev pub AnswersFree : ℕ → Freeing → Passed → Passed → Type 0
-AnswersFree block freeing.Freed old new = (old.age < most_age) × GivesBack block old new
+AnswersFree block freeing.Freed old new = HasAge old × GivesBack block old new
 AnswersFree block freeing.NotHeld old new = (¬ Contains old.held block) × (new ≡ old)
 AnswersFree block freeing.Spent old new = Contains old.held block × IsSpent old × (new ≡ old)
 

@@ -1,9 +1,8 @@
 // A member of a pool and its calls.
 ghost use Rattle.std.specs.Prelude.{◌≡◌, ◌<◌, ◌↔◌, Contains, IfErr, IfOk, IsTrue, length};
 ghost use Rattle.std.specs.Arc.{arc_value};
-ghost use Rattle.word_layout.specs.Packing.{most_age};
 ghost use Rattle.transfer_schedule.specs.Numbers.{after_choice, is_idle};
-ghost use Rattle.block_pool.specs.Passing.{IsOf};
+ghost use Rattle.block_pool.specs.Passing.{HasAge, IsOf};
 ghost use Rattle.pool_member.specs.Calling.{AnswersAllocate, AnswersFree, AnswersYoung};
 ghost use Rattle.pool_member.specs.Calling.{HasWord, IsFaulty, LacksWord, ReadsWord, WritesWord};
 
@@ -69,9 +68,6 @@ pub enum WordFault {
 }
 
 impl Member {
-    /// How many transfers a pass may begin.
-    const MOST_AGE: u64 = 1 << 32;
-
     /// The member of a pass that holds nothing. `Err` for want of memory only.
     pub(crate) fn of(alloc: Global, pool: Arc<Pool, Global>, pass: Pass) -> Result<Member, NoMemory>
         requires pool { IsOf (arc_value pool) pass }
@@ -127,14 +123,14 @@ impl Member {
 
     /// Gets a block that nobody holds. It takes no memory and waits for nobody.
     ///
-    /// `Spent` comes exactly where the pass has begun 2^32 transfers, and then nothing changes. Else the pool makes one call
+    /// `Spent` comes exactly where a transfer is due and the pass has begun as many as it may, and then nothing changes. Else the pool makes one call
     /// of the pass, with one entry more in the one legal history: `Got` a block of the pool that the pass didn't hold, and
     /// holds it besides the others, or `Dry` exactly where the pass's own pool had none.
     #[inline(always)]
     pub fn allocate(&mut self) -> Getting
         ensures { AnswersAllocate result self.old self.new }
     {
-        if self.pass.age() >= Member::MOST_AGE {
+        if !self.pass.has_age() {
             return Getting::Spent;
         }
         match self.allocate_young() {
@@ -145,8 +141,8 @@ impl Member {
 
     /// Lets a block go. Any number may be given. It takes no memory and waits for nobody.
     ///
-    /// `NotHeld` comes exactly where the pass doesn't hold the block, and `Spent` where it does and has begun 2^32 transfers;
-    /// then nothing changes. Else the pool has the block back, and the pass holds all others.
+    /// `NotHeld` comes exactly where the pass doesn't hold the block, and `Spent` where it does, a transfer is due, and it
+    /// has begun as many as it may; then nothing changes. Else the pool has the block back, and the pass holds all others.
     #[inline(always)]
     pub fn free(&mut self, block: u32) -> Freeing
         ensures { AnswersFree block result self.old self.new }
@@ -154,7 +150,7 @@ impl Member {
         if !self.holds(block) {
             return Freeing::NotHeld;
         }
-        if self.pass.age() >= Member::MOST_AGE {
+        if !self.pass.has_age() {
             return Freeing::Spent;
         }
         let _quantum = self.pool.shape().quantum();
@@ -168,7 +164,7 @@ impl Member {
     /// Gets a block, or is refused, of a pass that may begin a transfer.
     #[inline(always)]
     fn allocate_young(&mut self) -> Answer
-        requires { self.old.age < most_age }
+        requires { HasAge self.old }
         ensures { AnswersYoung result self.old self.new }
     {
         let _quantum = self.pool.shape().quantum();

@@ -23,6 +23,7 @@ fn allocate_told<G: Gate>(pool: &Pool, pass: &mut Pass, gate: &G, call: u64) -> 
     let _ = gate;
     let _ = call;
     let _quantum = pool.shape().quantum();
+    let _age = pool.shape().most_age();
     pool.allocate(pass, &mut Steps::new(Quiet::new()))
 }
 
@@ -37,6 +38,7 @@ fn free_told<G: Gate>(pool: &Pool, pass: &mut Pass, block: Block, gate: &G, call
     let _ = gate;
     let _ = call;
     let _quantum = pool.shape().quantum();
+    let _age = pool.shape().most_age();
     pool.free(pass, block, &mut Steps::new(Quiet::new()));
 }
 

@@ -1,6 +1,6 @@
 // The turns of one process.
 ghost use Rattle.std.specs.Prelude.{◌≡◌, ◌+◌, ◌<◌, ◌^◌, None, IfOk, length, replicate};
-ghost use Rattle.block_pool.specs.Passing.{IsOf};
+ghost use Rattle.block_pool.specs.Passing.{HasAge, IsOf};
 ghost use Rattle.block_pool.specs.Calls.{SamePass};
 ghost use Rattle.pool_stress.specs.Slots.{SlotsFit};
 
@@ -11,9 +11,6 @@ use block_pool::{Answer, Block, Pass, Pool};
 use pool_model::NoMemory;
 use std::alloc::Global;
 use step_counter::{Kept, Ledger, Steps};
-
-/// How many transfers a pass may begin.
-pub(crate) const MOST_AGE: u64 = 1 << 32;
 
 /// What each process is to do.
 #[derive(Clone, Copy)]
@@ -49,7 +46,7 @@ fn turn<L: Ledger>(
     steps: &mut Steps<L>,
 )
     requires pool { IsOf pool.now pass.old }
-    requires young { pass.old.age < 2 ^ 32 }
+    requires young { HasAge pass.old }
     requires room { steps.old + pass.old.sizes.quantum + 1 < 2 ^ 64 }
     requires place { place < length slots.old }
     requires slots { SlotsFit pass.old.held slots.old }
@@ -82,7 +79,7 @@ fn turn_slot(
     stop: Option<&Stop>,
 )
     requires pool { IsOf pool.now pass.old }
-    requires young { pass.old.age < 2 ^ 32 }
+    requires young { HasAge pass.old }
     requires place { place < length slots.old }
     requires slots { SlotsFit pass.old.held slots.old }
     ensures pass { SamePass pass.old pass.new }
@@ -126,7 +123,7 @@ fn turn_slots(
 {
     let mut places = Places::new(work.seed.wrapping_add(u64::from(pass.number())));
     for call in 0..work.calls {
-        if pass.age() >= MOST_AGE {
+        if !pass.has_age() {
             return;
         }
         if stop.is_none() && call == work.calls / 2 {
@@ -155,7 +152,7 @@ pub(crate) fn play(pool: &Pool, pass: &mut Pass, work: Work<'_>, stop: Option<&S
 /// Allocates a block that is kept. Whether there was one.
 fn keep(pool: &Pool, pass: &mut Pass, owners: &Owners) -> bool
     requires pool { IsOf pool.now pass.old }
-    requires young { pass.old.age < 2 ^ 32 }
+    requires young { HasAge pass.old }
     ensures pass { SamePass pass.old pass.new }
 {
     let quantum = pool.shape().quantum();
@@ -180,7 +177,7 @@ pub(crate) fn drain(pool: &Pool, pass: &mut Pass, owners: &Owners)
     let enough = 2 * pool.shape().length();
     let mut refused = 0u32;
     for _call in 0..u32::MAX {
-        if refused >= enough || pass.age() >= MOST_AGE {
+        if refused >= enough || !pass.has_age() {
             return;
         }
         let got = keep(pool, pass, owners);

@@ -186,8 +186,8 @@ stays_alone sizes w word e = rw e e
 may_use_alone : (way : Way) → is_alone way ≡ true → may_use_transfers way ≡ true
 may_use_alone way e = grind arith
 
-goes_alone : (wish : Wish) (x : ProcessView) → is_alone x.calls.way ≡ true → is_rest x.transfer.next ≡ false → may_go_alone wish x ≡ true
-goes_alone wish x e rest = let may = may_use_alone x.calls.way e in rw (may, rest) refl
+goes_alone : (sizes : Sizes) (wish : Wish) (x : ProcessView) → is_alone x.calls.way ≡ true → is_rest x.transfer.next ≡ false → may_go_alone sizes wish x ≡ true
+goes_alone sizes wish x e rest = let may = may_use_alone x.calls.way e in rw (may, rest) refl
 
 pub turns_same : (wish : Wish) (x : ProcessView) → is_rest x.transfer.next ≡ false → moving_view wish x ≡ x
 turns_same wish x rest = rw rest refl
@@ -210,7 +210,7 @@ goes_on_alone sizes wish next v x t u word c agrees s met goes =
     let can : CanStep sizes (about.Alone next) x = record {
       of_process = ap (λ (z : SeatView). z.of_process) seat ∙ c.of_process;
       shape = ap (λ (z : SeatView). z.sizes) seat ∙ c.shape;
-      may = goes_alone next x.mind.view alone rest;
+      may = goes_alone sizes next x.mind.view alone rest;
       among = s.among;
     } in
     let goes_so : Agrees (about.Alone next) x u = record {

@@ -24,7 +24,7 @@ turning (InCall call) v = calling_view call v
 
 -- when a process may make a step about this: it goes on or may begin it, and holds the block that a call names
 abbrev pub MayTurn : Sizes → About → Mind → Type 0
-MayTurn sizes (Alone wish) mind = may_go_alone wish mind.view ≡ true
+MayTurn sizes (Alone wish) mind = may_go_alone sizes wish mind.view ≡ true
 MayTurn sizes (InCall call) mind = (may_go sizes true call mind.view ≡ true) × BlockIsHeld (held_in mind) call
 
 -- what its process has seen after a step that made these entries: all that seats have seen, and the entries

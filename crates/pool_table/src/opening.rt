@@ -22,6 +22,6 @@ pub fn open_table(alloc: Global, shape: &Shape) -> Result<(PoolTable, PoolSeat),
 {
     prove!(shape.processes() >= 1);
     let words = opening_words(alloc, shape)?;
-    let (table, seat) = WordTable::open(alloc, words)?;
+    let (table, seat) = WordTable::open(alloc, words, shape)?;
     Ok((table, seat))
 }

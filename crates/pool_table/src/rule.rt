@@ -1,20 +1,23 @@
 use crate::about::About;
 use crate::facts::SeatFacts;
+use word_layout::Shape;
 use word_table::{LearnAbout, SeatRule, WordRule, WordSeat, WordTable};
 
 /// The rule of a pool's table: its words and what each seat knows meet the machine's invariant.
 pub struct PoolRule;
 
 impl WordRule for PoolRule {
-    ghost use Rattle.pool_table.specs.Opening.{first_view};
+    ghost use Rattle.pool_table.specs.Views.{first_seat};
     ghost use Rattle.pool_table.specs.Rule.{Holds};
     ghost use Rattle.pool_table.specs.Views.{looked};
 
     type View = SeatFacts;
 
+    type Key = Shape;
+
     ghost holds = { Holds };
 
-    ghost first = { first_view };
+    ghost first = { first_seat };
 
     ghost learn = { λ _ _ v. looked v };
 }

@@ -20,7 +20,7 @@ pub can_be_made : StackStepsCanBeMade
 can_be_made sizes words views states i shape li h s ages =
     let premises = draft_premises sizes words views states i li h s in
     let covers = covers_within words (views i) (h.slots.known i li) in
-    let few = few_tags sizes words views shape.few_processes h.transfers.tags ages in
+    let few = few_tags sizes words views shape.a_process h.transfers.tags ages in
     gives.steps_can_be_made sizes words views states i shape li h.transfers h.drafts premises covers few
 
 -- a state that is installed, and a reply that is loaded

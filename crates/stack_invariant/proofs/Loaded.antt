@@ -36,11 +36,11 @@ same_loads sizes v x h age announcements slots = record {
 
 -- the words that a step loads are in range
 record MeetsInRange (sizes : Sizes) (v : TransferView) (word : ℕ) : Type 0 where
-  young : v.next ≡ Announce → v.age < most_age
+  young : v.next ≡ Announce → v.age < most_age sizes
   room_announcements : length v.loaded.announcements ≡ 32
   room_slots : length v.loaded.slots ≡ 32
   among : (second : Bool) (process : ℕ) → v.next ≡ Try second (LoadAnnouncement process) → process < 32
-  number : (second : Bool) (process : ℕ) → v.next ≡ Try second (LoadAnnouncement process) → tag_of word ≤ most_age
+  number : (second : Bool) (process : ℕ) → v.next ≡ Try second (LoadAnnouncement process) → tag_of word ≤ most_age sizes
   covered : (second : Bool) (offset : ℕ) → v.next ≡ Try second (LoadCoveredSlot offset) → offset < 32
   slot : (second : Bool) (offset : ℕ) → v.next ≡ Try second (LoadCoveredSlot offset) → value_of word < blocks sizes
 
@@ -62,7 +62,7 @@ met_in_range sizes v word second (LoadCoveredSlot offset) e r h = record {
 }
 met_in_range sizes v word second (ExchangeSlot offset) e r h = same_loads sizes v _ h refl refl refl
 met_in_range sizes v word second (LoadAnnouncement process) e r h =
-    let heard = set_each (λ x. tag_of x ≤ most_age) v.loaded.announcements process word
+    let heard = set_each (λ x. tag_of x ≤ most_age sizes) v.loaded.announcements process word
     (rw r.room_announcements (r.among second process e)) (r.number second process e) h.numbers in
     either TransferView (LoadsFit sizes) (pops_slot sizes.processes v.loaded process word v.draft) _ _
     (record { age = h.age; numbers = heard; slots = h.slots }) (record { age = h.age; numbers = heard; slots = h.slots })

@@ -38,7 +38,7 @@ StackStepsCanBeMade =
     (sizes : Sizes) (words : Words) (views : Views) (states : States) (i : ℕ) → IsShape sizes → i < sizes.processes
     → StackHolds sizes words views states
     → Supplied sizes words states (views i)
-    → ((o : ℕ) → o < sizes.processes → (views o).age ≤ most_age)
+    → ((o : ℕ) → o < sizes.processes → (views o).age ≤ most_age sizes)
     → CanAct sizes (views i) × CanMeet sizes (views i) (words (name_of (action_of sizes (views i))))
 
 -- next words and data words may change

@@ -8,8 +8,8 @@ use Rattle.transfer_invariant.specs.Progress.{has_announced}
 
 -- of one view: its age, the numbers of the announcements and the values of the slots that it loaded are in range
 pub record LoadsFit (sizes : Sizes) (v : TransferView) : Type 0 where
-  pub age : v.age ≤ most_age
-  pub numbers : (k : ℕ) → tag_of (slice_index v.loaded.announcements k) ≤ most_age
+  pub age : v.age ≤ most_age sizes
+  pub numbers : (k : ℕ) → tag_of (slice_index v.loaded.announcements k) ≤ most_age sizes
   pub slots : (k : ℕ) → value_of (slice_index v.loaded.slots k) < blocks sizes
 
 -- of one process, while it has announced no transfer: its last answer is its reply in the present state

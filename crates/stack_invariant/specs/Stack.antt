@@ -28,7 +28,7 @@ pub record StackHolds (sizes : Sizes) (words : Words) (views : Views) (states : 
 -- what the process's own pool and the count of batches give for the next step of a view
 pub record Supplied (sizes : Sizes) (words : Words) (states : States) (v : TransferView) : Type 0 where
   -- a transfer that is announced has an age and a wish in range
-  pub age : v.next ≡ Announce → v.age < most_age
+  pub age : v.next ≡ Announce → v.age < most_age sizes
   pub wish : v.next ≡ Announce → WishIsBlock sizes v.wish
   -- all places of a draft that is installed are slots
   pub room : (second : Bool) → v.next ≡ Try second ExchangeState → words State ≡ v.loaded.state

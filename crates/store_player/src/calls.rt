@@ -28,6 +28,7 @@ fn put_told<G: Gate>(pool: &Pool, pass: &mut Pass, value: Quad, gate: &G, call: 
     let _ = gate;
     let _ = call;
     let _quantum = pool.shape().quantum();
+    let _age = pool.shape().most_age();
     Store::new(pool).put(pass, value, &mut Steps::new(Quiet::new()))
 }
 
@@ -51,6 +52,7 @@ fn take_told<G: Gate>(
     let _ = gate;
     let _ = call;
     let _quantum = pool.shape().quantum();
+    let _age = pool.shape().most_age();
     Store::new(pool).take(pass, object, &mut Steps::new(Quiet::new()))
 }
 

@@ -5,7 +5,8 @@ use Rattle.std.proofs.lemmas.Bool.{cases_eq}
 use Rattle.std.proofs.lemmas.Bool.Decides.{nat_tests}
 use Rattle.process_sums.proofs.Sums.{total_moved, total_at_most}
 use Rattle.word_layout.specs.Sizes.{Sizes}
-use Rattle.word_layout.specs.Packing.{most_age}
+use Rattle.word_layout.specs.Packing.{tag_limit, most_age}
+use Rattle.word_layout.proofs.Ages.{ages_fit}
 use Rattle.transfer_machine.specs.Loads.{loaded_tag}
 use Rattle.transfer_machine.specs.Machine.{try_ended, installed}
 use Rattle.transfer_machine.specs.declared.transfer.TransferView.{TransferView}
@@ -132,10 +133,10 @@ installs_few : (v : TransferView) (most : ℕ) → v.age ≤ most → installs v
 unfolding installs
 installs_few v most le = omega arith
 
-pub few_tags : (sizes : Sizes) (words : Words) (views : Views) → sizes.processes ≤ 32 → TagsHold sizes words views
-    → ((i : ℕ) → i < sizes.processes → (views i).age ≤ most_age) → state_tag words ≤ 32 * most_age + 1
-few_tags sizes words views few h ages =
-    let each = λ (o : ℕ) (lo : o < sizes.processes). installs_few (views o) most_age (ages o lo) in
-    let most = total_at_most most_age sizes.processes (λ i. installs (views i)) each in
+pub few_tags : (sizes : Sizes) (words : Words) (views : Views) → 1 ≤ sizes.processes → TagsHold sizes words views
+    → ((i : ℕ) → i < sizes.processes → (views i).age ≤ most_age sizes) → state_tag words + 1 < tag_limit
+few_tags sizes words views some h ages =
+    let each = λ (o : ℕ) (lo : o < sizes.processes). installs_few (views o) (most_age sizes) (ages o lo) in
+    let most = total_at_most (most_age sizes) sizes.processes (λ i. installs (views i)) each in
     let count = h.count in
-    omega arith
+    omega (arith, ages_fit sizes some)

@@ -2,7 +2,7 @@
 use Rattle.std.specs.Prelude.{◌≡◌, ℕ, Bool, ◌+◌, ◌<◌, ◌≤◌, ◌*◌, slice_index, List, length}
 use Rattle.word_layout.specs.Sizes.{Sizes, blocks}
 use Rattle.word_layout.specs.Names.{InRange, table_words, word_at, record_words}
-use Rattle.word_layout.specs.Packing.{value_limit, most_age}
+use Rattle.word_layout.specs.Packing.{value_limit, tag_limit, most_age}
 use Rattle.word_layout.specs.declared.announced.Wish.{Wish}
 use Rattle.word_layout.specs.declared.announced.Wish.TheVariants.{Take, Give}
 use Rattle.word_layout.specs.declared.name.WordName.TheVariants.{State}
@@ -54,11 +54,11 @@ TableActsByNames =
     (sizes : Sizes) (table : List ℕ) (action : Action) → length table ≡ table_words sizes → InRange sizes (name_of action)
     → Acted sizes action (word_at sizes table) (word_at sizes (acted sizes table action))
 
--- the number of the state is within its limit as long as all ages are within theirs
+-- as long as all ages are within their limit, the number above the state's is a tag
 abbrev pub TagsAreFew : Type 0
 TagsAreFew =
-    (sizes : Sizes) (words : Words) (views : Views) (states : States) → sizes.processes ≤ 32 → Invariant sizes words views states
-    → ((i : ℕ) → i < sizes.processes → (views i).age ≤ most_age) → state_tag words ≤ 32 * most_age + 1
+    (sizes : Sizes) (words : Words) (views : Views) (states : States) → 1 ≤ sizes.processes → Invariant sizes words views states
+    → ((i : ℕ) → i < sizes.processes → (views i).age ≤ most_age sizes) → state_tag words + 1 < tag_limit
 
 -- a view that has loaded a whole record has loaded the state of its number
 abbrev pub WholeRecordsAreStates : Type 0

@@ -2,7 +2,7 @@
 use Rattle.std.specs.Prelude.{ℕ, ◌+◌, ◌-◌, ◌%◌, ◌<◌, ◌≤◌, ◌==◌, nat_lt, Bool, true, false, if◌then◌else◌, slice_index, slice_set}
 use Rattle.word_layout.specs.Sizes.{Sizes}
 use Rattle.word_layout.specs.Names.{records, record_words}
-use Rattle.word_layout.specs.Packing.{value_limit, tag_limit, most_age, tag_of, value_of, tagged, announced_word, reply_of, FitsWish}
+use Rattle.word_layout.specs.Packing.{value_limit, tag_limit, tag_of, value_of, tagged, announced_word, reply_of, FitsWish}
 use Rattle.word_layout.specs.declared.name.WordName.TheVariants.{State, Announcement, RecordWord, Slot}
 use Rattle.word_layout.specs.declared.announced.Wish.{Wish}
 use Rattle.transfer_machine.specs.Loads.{loaded_tag, loaded_record, loaded_base, overlay_length, overlay_head}
@@ -184,7 +184,7 @@ CanActInTry sizes v ExchangeState = (v.next_record < records sizes) × (loaded_t
 -- the numbers that a step names are in their ranges, and what it writes fits a word
 abbrev pub CanActAt : Sizes → TransferView → NextStep → Type 0
 CanActAt sizes v Rest = Unit {0}
-CanActAt sizes v Announce = (v.number < sizes.processes) × (v.age < most_age) × FitsWish v.wish
+CanActAt sizes v Announce = (v.number < sizes.processes) × (v.age + 1 < tag_limit) × FitsWish v.wish
 CanActAt sizes v (Try second step) = CanActInTry sizes v step
 CanActAt sizes v LoadFinalState = Unit {0}
 CanActAt sizes v LoadReply = (loaded_record v.loaded < records sizes) × (v.number < sizes.processes)

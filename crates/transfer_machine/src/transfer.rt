@@ -1,7 +1,7 @@
 // What a process keeps for its transfers.
-ghost use Rattle.std.specs.Prelude.{◌≡◌, ◌<◌, ◌^◌, ◌↔◌, IsTrue};
+ghost use Rattle.std.specs.Prelude.{◌≡◌, ◌+◌, ◌<◌, ◌^◌, ◌↔◌, IsTrue};
 ghost use Rattle.word_layout.specs.Names.{InRange};
-ghost use Rattle.word_layout.specs.Packing.{most_age, FitsWish};
+ghost use Rattle.word_layout.specs.Packing.{tag_limit, FitsWish};
 ghost use Rattle.transfer_machine.specs.Machine.{action_of, met_of, CanAct, CanMeet, begun, own_announcement};
 ghost use Rattle.transfer_machine.specs.Stages.{stage_of};
 ghost use Rattle.transfer_machine.specs.Words.{name_of};
@@ -85,7 +85,7 @@ impl TransferView {
             NextStep::Rest | NextStep::LoadFinalState => true,
             NextStep::Announce => {
                 self.number < shape.processes()
-                    && self.age < Announced::MOST_AGE
+                    && self.age < Tagged::TAG_LIMIT - 1
                     && self.wish.fits()
             }
             NextStep::Try { step, .. } => self.can_act_in_try(step, shape),
@@ -146,7 +146,7 @@ impl TransferView {
 
     /// The word that announces the wish.
     fn announcement(&self) -> u64
-        requires age { self.now.age < most_age }
+        requires age { self.now.age + 1 < tag_limit }
         requires wish { FitsWish self.now.wish }
         ensures { result ≡ own_announcement self.now }
     {

@@ -1,3 +1,4 @@
+pub mod Ages
 pub mod Lengths
 pub mod Limits
 pub mod Packed

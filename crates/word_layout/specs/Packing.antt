@@ -1,5 +1,5 @@
 use Rattle.std.specs.Prelude.{ℕ, ◌+◌, ◌-◌, ◌*◌, ◌/◌, ◌%◌, ◌^◌, ◌<◌, ◌≤◌, zero, suc, Bool, ◌==◌, if◌then◌else◌}
-use Rattle.word_layout.specs.Sizes.{most_blocks}
+use Rattle.word_layout.specs.Sizes.{Sizes, most_blocks}
 use Rattle.word_layout.specs.declared.announced.Announced.{Announced}
 use Rattle.word_layout.specs.declared.announced.Wish.{Wish}
 use Rattle.word_layout.specs.declared.announced.Wish.TheVariants.{Take, Give}
@@ -14,9 +14,9 @@ value_limit = 2 ^ 24
 abbrev pub tag_limit : ℕ
 tag_limit = 2 ^ 40
 
--- the number of a process's last transfer
-abbrev pub most_age : ℕ
-most_age = 2 ^ 32
+-- the number of a process's last transfer: the greatest with which all transfers of all processes have tags
+unfoldable pub most_age : Sizes → ℕ
+most_age sizes = (tag_limit - 3) / sizes.processes
 
 -- what an odd number adds to the value of a reply
 abbrev pub parity : ℕ
@@ -49,9 +49,9 @@ abbrev pub FitsWish : Wish → Type 0
 FitsWish Take = Unit {0}
 FitsWish (Give head) = head < most_blocks
 
--- the number of a transfer and its head are within their limits
+-- the number of a transfer is a tag, and its head is within its limit
 abbrev pub FitsAnnounced : Announced → Type 0
-FitsAnnounced announced = (announced.number ≤ most_age) × FitsWish announced.wish
+FitsAnnounced announced = (announced.number < tag_limit) × FitsWish announced.wish
 
 -- the word of an announcement: the transfer's number is the tag
 abbrev pub announced_word : Announced → ℕ

@@ -31,16 +31,13 @@ impl Wish {
 /// wish by one word.
 #[derive(Clone, Copy, Debug, PartialEq, Eq, Hash)]
 pub struct Announced {
-    /// The number of the transfer, from 1 to 2^32, and 0 before the first.
+    /// The number of the transfer, from 1, below 2^40, and 0 before the first.
     pub number: u64,
     pub wish: Wish,
 }
 
 impl Announced {
     ghost use Rattle.word_layout.specs.Packing.{announced_word, announced_of, FitsAnnounced};
-
-    /// The number of a process's last transfer.
-    pub const MOST_AGE: u64 = 1 << 32;
 
     /// The word of an announcement.
     pub fn pack(&self) -> u64

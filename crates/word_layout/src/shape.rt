@@ -6,10 +6,11 @@ ghost use Rattle.word_layout.specs.Faults.{IsFirstFault};
 mod places;
 
 use crate::fault::ShapeFault;
+use crate::tagged::Tagged;
 use std::marker::Model;
 
-/// The numbers of a pool, all within their limits, and where in its table the slots, the next words and the
-/// data words begin, which follows from them. Contracts see the numbers alone, as `Sizes`.
+/// The numbers of a pool, all within their limits, and what follows from them: where in its table the slots, the
+/// next words and the data words begin, and how many transfers a process has. Contracts see the numbers alone, as `Sizes`.
 #[derive(Clone, Copy, Debug, PartialEq, Eq, Hash)]
 pub struct Shape {
     processes: u32,
@@ -20,6 +21,7 @@ pub struct Shape {
     first_slot: u32,
     first_next: u32,
     first_data: u32,
+    last_age: u64,
 }
 
 impl Model for Shape {
@@ -28,6 +30,7 @@ impl Model for Shape {
     ghost Value = { Sizes };
 
     ghost use Rattle.word_layout.specs.Names.{slots_start, nexts_start, data_start};
+    ghost use Rattle.word_layout.specs.Packing.{most_age};
     ghost use Rattle.word_layout.specs.Kept.{sizes_of, KeepsItsPlaces};
 
     ghost view = { sizes_of };
@@ -43,6 +46,7 @@ impl Model for Shape {
       first_slot = slots_start sizes;
       first_next = nexts_start sizes;
       first_data = data_start sizes;
+      last_age = most_age sizes;
     } };
 
     ghost inverse_ok = { λ shape keeps i. record {
@@ -54,12 +58,15 @@ impl Model for Shape {
       first_slot = keeps.first_slot i;
       first_next = keeps.first_next i;
       first_data = keeps.first_data i;
+      last_age = keeps.last_age i;
     } };
 }
 
 impl Shape {
     ghost use Rattle.std.specs.Prelude.{ℕ, List};
     ghost use Rattle.word_layout.specs.Sizes.{Sizes, IsShape, sizes, blocks, limits_of, transfer_bound};
+    ghost use Rattle.std.specs.Prelude.{◌<◌, ◌^◌};
+    ghost use Rattle.word_layout.specs.Packing.{most_age, tag_limit};
     ghost use Rattle.pool_model.specs.declared.entry.Entry.{Entry};
     ghost use Rattle.pool_model.specs.Limits.{greatest_slack};
     ghost use Rattle.pool_model.specs.History.{slack};
@@ -127,7 +134,7 @@ impl Shape {
     }
 
     /// The shape of these numbers, with the places where its words begin.
-    #[tactic(auto, unfolding(crate::specs::Sizes::blocks))]
+    #[tactic(auto, unfolding(crate::specs::Sizes::blocks, crate::specs::Packing::most_age))]
     fn laid_out(processes: u32, batches: u32, words: u32, quantum: u32, length: u32) -> Shape
         requires { IsShape (sizes processes batches words quantum length) }
         ensures { result ≡ sizes processes batches words quantum length }
@@ -143,6 +150,7 @@ impl Shape {
             first_slot,
             first_next,
             first_data: first_next + batches * length,
+            last_age: (Tagged::TAG_LIMIT - 3) / u64::from(processes),
         }
     }
 
@@ -208,6 +216,17 @@ impl Shape {
         ensures greatest { (history : List Entry) (place : ℕ) → slack (limits_of self.now) history place ≤ result }
     {
         5 * self.processes * self.length
+    }
+
+    /// How many transfers a process may begin.
+    #[tactic(auto, using(crate::proofs::Ages::many_ages, crate::proofs::Ages::age_is_tag))]
+    #[inline]
+    pub fn most_age(&self) -> u64
+        ensures value { result ≡ most_age self.now }
+        ensures many { 2 ^ 32 ≤ result }
+        ensures few { result < tag_limit }
+    {
+        self.last_age
     }
 
     /// How many steps a transfer takes at most.

@@ -103,6 +103,22 @@ fn numbers_and_places_of_a_shape(rt: HostRuntime) -> Result<(), Fail> {
 }
 
 #[test]
+fn ages_of_shapes(rt: HostRuntime) -> Result<(), Fail> {
+    let cases = [
+        (1, 1099511627773),
+        (2, 549755813886),
+        (4, 274877906943),
+        (32, 34359738367),
+    ];
+    for (processes, age) in cases {
+        let shape = Shape::new(processes, 2 * processes, 0)?;
+        assert_eq!(rt; shape.most_age(), age, "{processes}");
+        assert!(rt; u64::from(processes) * age + 3 <= Tagged::TAG_LIMIT);
+    }
+    Ok(())
+}
+
+#[test]
 fn packed_words(rt: HostRuntime) {
     assert_eq!(rt; Tagged::pack(1, 2), 16777218);
     assert_eq!(rt; (Tagged::tag(16777218), Tagged::value(16777218)), (1, 2));

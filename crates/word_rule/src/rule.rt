@@ -7,11 +7,14 @@ pub trait WordRule {
     /// What a seat knows. It exists in proofs alone: no value of it is ever made.
     type View;
 
+    /// What the table is told once, as it is opened.
+    type Key;
+
     // The fact: of all words, and of the views of all seats.
     ghost holds: { List ℕ → List Self.View → Type 0 };
 
-    // The view of the first seat, by the opening words.
-    ghost first: { List ℕ → Self.View };
+    // The view of the first seat, by what the table is told.
+    ghost first: { Self.Key → Self.View };
 
     // What becomes of a seat's view by a step of that seat: of all words and views before the step, and of
     // its own view.

@@ -4,7 +4,6 @@ ghost use Rattle.word_rule.specs.Moves.{Learned, unchanged, replaced_by, exchang
 
 use atomic_table::{Join, Play, Split, TableRule};
 use std::marker::{Brand, PhantomData};
-use std::snapshot::Snapshot;
 use word_rule::{SeatRule, WordRule};
 
 /// The move that goes with a step: which seat makes it, and how its view learns. Each call picks it.
@@ -20,15 +19,15 @@ impl<V> Learning<V> for Brand {
     ghost learn = { λ _ _ view. view };
 }
 
-/// The rule `R` over words alone. The opening words are kept as its key, since the first view is theirs.
+/// The rule `R` over words alone, with what its table is told.
 pub(crate) struct Ruled<R> {
     rule: PhantomData<R>,
 }
 
-impl<R: WordRule> TableRule<u8, R::View, Snapshot<Vec<u64>>> for Ruled<R> {
+impl<R: WordRule> TableRule<u8, R::View, R::Key> for Ruled<R> {
     ghost holds = { λ _ state. R.holds state.words state.views };
 
-    ghost first = { λ opening. R.first opening.value.items };
+    ghost first = { R.first };
 }
 
 /// What a load tells: the step, with the word that it answers.

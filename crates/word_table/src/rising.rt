@@ -19,9 +19,11 @@ impl WordRule for Rising {
 
     type View = u64;
 
+    type Key = u64;
+
     ghost holds = { IsAboveAll };
 
-    ghost first = { λ words. slice_index words 0 };
+    ghost first = { λ word. word };
 
     ghost learn = { λ words _ _. slice_index words 0 };
 }
@@ -50,7 +52,7 @@ pub fn open(alloc: Global, word: u64) -> Result<(WordTable<Rising>, WordSeat<Ris
 {
     let mut words = Vec::new(alloc);
     words.push(word)?;
-    WordTable::open(alloc, words)
+    WordTable::open(alloc, words, &word)
 }
 
 /// Loads the word, which is at least what the seat met before.

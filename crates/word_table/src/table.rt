@@ -9,7 +9,6 @@ use atomic_table::Table;
 use pool_model::NoMemory;
 use std::alloc::Global;
 use std::marker::{Brand, Model};
-use std::snapshot::Snapshot;
 use step_counter::{Ledger, Steps};
 use word_rule::{LearnAbout, WordRule};
 
@@ -18,7 +17,7 @@ use word_rule::{LearnAbout, WordRule};
 /// Clauses see which table it is, with the number of its words.
 #[derive(Drop)]
 pub struct WordTable<R: WordRule> {
-    pub(crate) table: Table<u8, R::View, Snapshot<Vec<u64>>, Ruled<R>, Global>,
+    pub(crate) table: Table<u8, R::View, R::Key, Ruled<R>, Global>,
 }
 
 impl<R: WordRule> Model for WordTable<R> {
@@ -32,17 +31,20 @@ impl<R: WordRule> Model for WordTable<R> {
 // Each step is one atomic step of one word, one tick, and one move of its seat. What it tells is the step as
 // it happened: the word that it met, and words and views that met the rule before it and meet it after it.
 impl<R: WordRule> WordTable<R> {
-    /// A table of these words, and its first seat, which has the number 0.
+    /// A table of these words that is told this, and its first seat, which has the number 0.
     ///
     /// `Err` for want of memory only.
-    pub fn open(alloc: Global, words: Vec<u64>) -> Result<(WordTable<R>, WordSeat<R>), NoMemory>
-        requires { R.holds words.items (R.first words.items ∷ []) }
+    pub fn open(
+        alloc: Global,
+        words: Vec<u64>,
+        about: &R::Key,
+    ) -> Result<(WordTable<R>, WordSeat<R>), NoMemory>
+        requires { R.holds words.items (R.first about.now ∷ []) }
         ensures words { IfOk result (λ opened. opened.0.words ≡ length words.items) }
         ensures seat { IfOk result (λ opened. (opened.1.table ≡ opened.0) × (opened.1.number ≡ 0)) }
-        ensures view { IfOk result (λ opened. opened.1.view ≡ R.first words.items) }
+        ensures view { IfOk result (λ opened. opened.1.view ≡ R.first about.now) }
     {
-        let opening = Snapshot::of(&words);
-        let (table, seat) = Table::of_words(alloc, words.as_slice(), &opening)?;
+        let (table, seat) = Table::of_words(alloc, words.as_slice(), about)?;
         Ok((WordTable { table }, WordSeat { seat }))
     }
 

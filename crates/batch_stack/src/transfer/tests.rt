@@ -95,9 +95,9 @@ fn first_spare(shape: &Shape) -> u32
 
 /// Whether a process may announce one more transfer.
 fn is_young(transfer: &Transfer) -> bool
-    ensures { IsTrue result ↔ transfer.now.part.age < most_age }
+    ensures { IsTrue result ↔ transfer.now.part.age < most_age transfer.now.sizes }
 {
-    transfer.view.age < 1 << 32
+    transfer.view.age < transfer.shape.most_age()
 }
 
 /// Whether there is a block with this number.

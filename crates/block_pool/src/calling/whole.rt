@@ -1,9 +1,9 @@
 // The whole calls of a process.
 ghost use Rattle.std.specs.Prelude.{◌≡◌, ℕ, ◌+◌, ◌<◌, ◌^◌, ◌↔◌, None, Some, [], ◌∷◌, Contains};
-ghost use Rattle.word_layout.specs.Packing.{most_age};
 ghost use Rattle.word_table.specs.Seats.{SameSeat};
 ghost use Rattle.pool_model.specs.declared.entry.Entry.TheVariants.{Back};
 ghost use Rattle.transfer_schedule.specs.Numbers.{after_took_one, after_gave_one};
+ghost use Rattle.pool_machine.specs.Conditions.{HasAgeFor};
 ghost use Rattle.pool_machine.specs.declared.call.Call.TheVariants.{Allocate, Free, Read, Write};
 ghost use Rattle.pool_table.specs.Minds.{number_of, known_in, held_in};
 ghost use Rattle.block_pool.specs.Passing.{BetweenCalls};
@@ -27,7 +27,7 @@ impl Process {
     ) -> Option<u32>
         requires ready { IsReady shape.now table.now self.old }
         requires steps { steps.old + shape.now.quantum + 1 < 2 ^ 64 }
-        requires young { self.old.transfer.age < most_age }
+        requires young { HasAgeFor shape.now self.old.pool.plan self.old.transfer.age }
         ensures seat { SameSeat self.old.seat self.new.seat }
         ensures called { (called : PoolCalled shape.now Allocate (entry_for (number_of self.old.seat.view.mind) result ∷ []) after_took_one
             steps.old steps.new self.old self.new) × ((result ≡ None) ↔ HasNoBlock called.ran) }
@@ -49,7 +49,7 @@ impl Process {
     )
         requires ready { IsReady shape.now table.now self.old }
         requires steps { steps.old + shape.now.quantum + 1 < 2 ^ 64 }
-        requires young { self.old.transfer.age < most_age }
+        requires young { HasAgeFor shape.now self.old.pool.plan self.old.transfer.age }
         requires held { Contains (held_in self.old.seat.view.mind) block }
         ensures seat { SameSeat self.old.seat self.new.seat }
         ensures called { PoolCalled shape.now (Free block) (Back (number_of self.old.seat.view.mind) block ∷ []) after_gave_one

@@ -11,6 +11,8 @@ struct Always;
 impl WordRule for Always {
     type View = ();
 
+    type Key = ();
+
     ghost holds = { λ _ _. Unit {0} };
 
     ghost first = { λ _. tt };
@@ -40,7 +42,7 @@ fn loaded_and_exchanged<L: Ledger>(
     requires { steps.old + 3 < 2 ^ 64 }
 {
     let words = vec![in rt.alloc(); 5u64, 7]?;
-    let (table, mut seat) = WordTable::<Always>::open(rt.alloc(), words)?;
+    let (table, mut seat) = WordTable::<Always>::open(rt.alloc(), words, &())?;
     let loaded = table.load(&mut seat, 1, steps);
     let hit = table.compare_exchange(&mut seat, 0, 5, 9, steps);
     let missed = table.compare_exchange(&mut seat, 0, 5, 9, steps);
@@ -65,7 +67,7 @@ fn two_words_are_loaded_and_exchanged(rt: HostRuntime) -> Result<(), Fail> {
 #[test]
 fn a_step_about_a_value_is_one_step(rt: HostRuntime) -> Result<(), Fail> {
     let words = vec![in rt.alloc(); 5u64]?;
-    let (table, mut seat) = WordTable::<Always>::open(rt.alloc(), words)?;
+    let (table, mut seat) = WordTable::<Always>::open(rt.alloc(), words, &())?;
     let mut steps = Steps::new(Kept::new());
     table.store_with(&mut seat, 0, 6, &1u8, &mut steps);
     let hit = table.compare_exchange_with(&mut seat, 0, 6, 7, &2u8, &mut steps);
@@ -77,7 +79,7 @@ fn a_step_about_a_value_is_one_step(rt: HostRuntime) -> Result<(), Fail> {
 #[test]
 fn seats_are_split_sent_and_joined(rt: HostRuntime) -> Result<(), Fail> {
     let words = vec![in rt.alloc(); 5u64, 7]?;
-    let (table, mut seat) = WordTable::<Always>::open(rt.alloc(), words)?;
+    let (table, mut seat) = WordTable::<Always>::open(rt.alloc(), words, &())?;
     let mut steps = Steps::new(Kept::new());
     let mut other = table.split(&mut seat, &mut steps);
     let shared = &table;

@@ -12,14 +12,14 @@ use std::process::Abort;
 use std::test::Fail;
 use step_counter::{Kept, Steps};
 use transfer_machine::TryStep;
-use word_layout::{Announced, Shape, Wish};
+use word_layout::{Announced, Shape, Tagged, Wish};
 
 /// Whether a process announces a take.
 fn is_take(announced: Announced) -> bool
     ensures { IsTrue result → FitsAnnounced announced }
 {
     match announced.wish {
-        Wish::Take => announced.number <= 1 << 32,
+        Wish::Take => announced.number < Tagged::TAG_LIMIT,
         Wish::Give(_) => false,
     }
 }
