@@ -24,7 +24,7 @@ use Rattle.transfer_machine.specs.declared.stage.NextStep.TheVariants.{Rest, Ann
 use Rattle.pool_machine.specs.declared.view.PoolView.{PoolView}
 use Rattle.pool_machine.specs.declared.view.ProcessView.{ProcessView}
 use Rattle.transfer_invariant.specs.Progress.{has_announced, is_moving}
-use Rattle.pool_machine.specs.Beginning.{newest, due, begun_if_due, before_call, first_stage, entered, entered_so, search_chosen}
+use Rattle.pool_machine.specs.Beginning.{newest, due, begun_if_due, before_call, first_stage, entered, entered_with, search_chosen}
 use Rattle.pool_machine.specs.Beginning.{search_begun_by, call_begun}
 use Rattle.pool_machine.specs.Steps.{is_paced}
 use Rattle.pool_machine.specs.Conditions.{HasAgeFor, IsYoungFor}
@@ -161,9 +161,9 @@ still_between g between = rw between refl
 
 begun_goes : (g : Ledger) (idle rests : Bool) → is_idle g.account.plan.pending ≡ idle → is_idle (after_choice g.account.plan).pending ≡ rests → g.account.phase ≡ schedule.Between
     → GoesOn g (record g { account = account_begun_by idle rests g.account })
-begun_goes g true true idle rest between = steps.begins _ (still_between g between) refl (schedule.rests between rest)
+begun_goes g true true idle rest between = steps.begins _ (still_between g between) refl (schedule.idles between rest)
 begun_goes g true false idle busy between = steps.begins _ (still_between g between) refl (schedule.begins between idle busy)
-begun_goes g false true busy rest between = steps.begins _ (still_between g between) refl (schedule.rests between rest)
+begun_goes g false true busy rest between = steps.begins _ (still_between g between) refl (schedule.idles between rest)
 begun_goes g false false busy still between = steps.begins _ (still_between g between) refl (schedule.continues between busy)
 
 -- an allocate or a free begins
@@ -206,7 +206,7 @@ chooses_still schedule.Between e = refl
 chooses_still schedule.Choosing e = refl
 chooses_still (schedule.Moving made) e = cc
 chooses_still schedule.Own e = refl
-chooses_still (schedule.Seeking own) e = cc
+chooses_still (schedule.Seeking chosen) e = cc
 chooses_still schedule.Sought e = refl
 chooses_still schedule.Leaving e = cc
 chooses_still schedule.Clearing e = refl
@@ -272,7 +272,7 @@ search_begins_by sizes i v g false busy s between young h =
           searches = λ e. cc;
           rests = λ e. cc;
         };
-        choice = λ e. record { young = young; sent = not_announcing sizes v h.runs sent };
+        choice = λ e. record { young = young; announced = not_announcing sizes v h.runs sent };
         fresh = λ e. cc;
       };
     }

@@ -87,7 +87,7 @@ going_chooses : (sizes : Sizes) (v : ProcessView) (word : ℕ) (s : NextStep) �
     → MayChoose sizes (record v { transfer = met_at sizes v.transfer word s; pool = pool_met_at word v.pool s })
 going_chooses sizes v word s going k =
     let stays = step_stays sizes v.transfer word s going in
-    record { young = omega (arith, k.young, stays.age); sent = never_announces _ stays.announced }
+    record { young = omega (arith, k.young, stays.age); announced = never_announces _ stays.announced }
 
 going_carries : (sizes : Sizes) (i : ℕ) (v : ProcessView) (word : ℕ) (g : Ledger) (s : NextStep) → v.transfer.next ≡ s → goes_on s ≡ true → 1 ≤ sizes.processes → Moves sizes v g
     → (has_record s ≡ true → overlay_length v.transfer.loaded ≤ sizes.processes)
@@ -120,7 +120,7 @@ announce_carries sizes i v word g e some m =
           (ap (after_steps 1) m.plan)
           (stepped_phase sizes v g (Try false LoadState) m refl)
           (step_runs sizes v word Announce e some m.runs (λ has. absurd (none has)))
-          m.heads (λ sent. one_step_more v.pool.plan) (λ k. absurd (k.sent e));
+          m.heads (λ sent. one_step_more v.pool.plan) (λ k. absurd (k.announced e));
     }
   where
     none : has_record Announce ≡ true → ⊥
@@ -176,7 +176,7 @@ reply_carries sizes i v word g e some m table answers nothing =
           (step_runs sizes v word LoadReply e some m.runs (λ has. absurd (none has)))
           (ended_heads v.pool v.transfer.wish reply pending answers table m.heads)
           (λ after. absurd (over after))
-          (λ k. record { young = k.young; sent = λ rest. cc });
+          (λ k. record { young = k.young; announced = λ rest. cc });
     }
   where
     none : has_record LoadReply ≡ true → ⊥

@@ -192,6 +192,6 @@ counted_calls sizes i v x g new m same plan phase runs heads sent choice =
           (calls_counted sizes.quantum x.transfer.next x.calls) refl refl e in
           let was : may_choose_at v.calls Moving ≡ true = rw same at now in
           let k = choice (m.choice was) in
-          record { young = k.young; sent = k.sent };
+          record { young = k.young; announced = k.announced };
       fresh = λ e. absurd (m.fresh (ap (λ c. c.way) (sym same) ∙ e));
     }

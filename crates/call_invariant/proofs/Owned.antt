@@ -157,13 +157,13 @@ own_phase_at calls own = rw own refl
 pub phase_own : (sizes : Sizes) (i : ℕ) (v : ProcessView) (g : Ledger) → InCalls sizes i v g → v.calls.stage ≡ Own → g.account.phase ≡ own_phase v.calls.call
 phase_own sizes i v g h own = h.phase ∙ own_phase_at v.calls own
 
-pub getting_owns : (call : Option Call) → is_getting call ≡ true → schedule.owns_in (own_phase call) ≡ true
-getting_owns None e = cc
-getting_owns (Some Allocate) e = refl
-getting_owns (Some (Free block)) e = cc
-getting_owns (Some (Read block index)) e = cc
-getting_owns (Some (Write block index value)) e = cc
-getting_owns (Some Search) e = refl
+pub getting_asks : (call : Option Call) → is_getting call ≡ true → schedule.asks_in (own_phase call) ≡ true
+getting_asks None e = cc
+getting_asks (Some Allocate) e = refl
+getting_asks (Some (Free block)) e = cc
+getting_asks (Some (Read block index)) e = cc
+getting_asks (Some (Write block index value)) e = cc
+getting_asks (Some Search) e = refl
 
 -- there are at most three spares, also after a free: with three the current list has room for its block
 few_in_table : (x : Numbers) → InTable x → x.spares ≤ 3
