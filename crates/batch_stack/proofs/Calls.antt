@@ -12,21 +12,23 @@ use Rattle.transfer_schedule.specs.declared.pending.Pending.{Pending}
 use Rattle.transfer_schedule.specs.declared.pending.Pending.TheVariants.{Idle, Taking, Giving}
 use Rattle.transfer_machine.specs.Machine.{met_of}
 use Rattle.transfer_machine.specs.Stages.{is_rest}
+use Rattle.transfer_machine.specs.declared.stage.NextStep.{NextStep}
 use Rattle.transfer_machine.specs.declared.stage.NextStep.TheVariants.{Rest}
 use Rattle.transfer_machine.specs.declared.transfer.TransferView.{TransferView}
 use Rattle.pool_machine.specs.Beginning.{call_begun}
-use Rattle.pool_machine.specs.Steps.{after_move}
+use Rattle.pool_machine.specs.Steps.{is_paced, stage_after, steps_after}
 use Rattle.pool_machine.specs.declared.call.Call.{Call}
-use Rattle.pool_machine.specs.declared.call.Call.TheVariants.{Allocate, Free, Read, Write}
+use Rattle.pool_machine.specs.declared.call.Call.TheVariants.{Allocate, Free, Read, Write, Search}
 use Rattle.pool_machine.specs.declared.call.CallStage.{CallStage}
-use Rattle.pool_machine.specs.declared.call.CallStage.TheVariants.{Between, Moving, Own}
+use Rattle.pool_machine.specs.declared.call.CallStage.TheVariants.{Between, Choosing, Moving, Own}
 use Rattle.pool_machine.specs.declared.view.ProcessView.{ProcessView}
 use Rattle.call_invariant.specs.Phases.{changes_pool}
 use Rattle.interleaving_core.specs.Invariant.{BlockIsHeld}
 use Rattle.interleaving_core.specs.Runs.{entries_of}
 use Rattle.interleaving_core.specs.Steps.{is_alone, is_in_call, next_met, next_answer}
 use Rattle.interleaving_core.specs.TransferLaws.{moves_transfer}
-use Rattle.interleaving_core.proofs.Busy.{begun_calls}
+use Rattle.interleaving_core.specs.Moves.{started, started_at}
+use Rattle.interleaving_core.proofs.CallLawsShort.{started_calls}
 use Rattle.interleaving_core.proofs.Holds.{is_alone_way}
 use Rattle.interleaving_core.proofs.Standing.{alone_between, call_can_begin}
 use Rattle.pool_table.specs.declared.about.About.{About}
@@ -61,8 +63,8 @@ stands_so sizes a v c =
 
 -- so a step about a call isn't one of transfers alone
 calling_by : (call : Call) (v : ProcessView) (t : Bool) → is_in_call v.calls.stage ≡ t → StandsSo v
-    → is_alone (if t then v else call_begun call v).calls.way ≡ false
-calling_by call v false e s = begun_calls call v
+    → is_alone (if t then v else started call v).calls.way ≡ false
+calling_by call v false e s = started_calls call v v.calls.stage
 calling_by call v true e s = by (is_alone v.calls.way) refl
   where
     by : (t : Bool) → is_alone v.calls.way ≡ t → is_alone v.calls.way ≡ false
@@ -77,16 +79,18 @@ in_a_call sizes call v c = calling_by call v.mind.view (is_in_call v.mind.view.c
 at_moving : (stage : CallStage) (w : ProcessView) → w.calls.stage ≡ stage → is_alone w.calls.way ≡ false → moves_transfer w ≡ true
     → stage ≡ Moving
 at_moving Between w here e moves = absurd (false≢true (rw (e, here) at moves))
+at_moving Choosing w here e moves = absurd (false≢true (rw (e, here) at moves))
 at_moving Moving w here e moves = refl
 at_moving Own w here e moves = absurd (false≢true (rw (e, here) at moves))
 
 -- the view after it
-stage_after : (sizes : Sizes) (w : ProcessView) (word : ℕ) → is_alone w.calls.way ≡ false → w.calls.stage ≡ Moving
-    → ((next_met sizes w word).calls.stage ≡ after_move sizes.quantum (w.calls.steps + 1) (met_of sizes w.transfer word).next)
-    × ((next_met sizes w word).calls.steps ≡ w.calls.steps + 1)
+stage_moved : (sizes : Sizes) (w : ProcessView) (word : ℕ) → is_alone w.calls.way ≡ false → w.calls.stage ≡ Moving
+    → ((next_met sizes w word).calls.stage
+    ≡ stage_after (is_paced w.calls.call) w.calls.chosen sizes.quantum w.calls.steps (met_of sizes w.transfer word).next)
+    × ((next_met sizes w word).calls.steps ≡ steps_after (is_paced w.calls.call) w.calls.steps)
     × (is_alone (next_met sizes w word).calls.way ≡ false)
     × (entries_of (next_answer w word) ≡ [])
-stage_after sizes w word e here = (rw (e, here) refl, rw (e, here) refl, rw (e, here) e, rw (e, here) refl)
+stage_moved sizes w word e here = (rw (e, here) refl, rw (e, here) refl, rw (e, here) e, rw (e, here) refl)
 
 after_quantum : (quantum steps : ℕ) (rest : Bool) → rest ≡ false → (if rest || (steps == quantum) then Own else Moving) ≢ Moving
     → ((if rest || (steps == quantum) then Own else Moving) ≡ Own) × (steps ≡ quantum)
@@ -97,6 +101,13 @@ after_quantum quantum steps false e not = by (steps == quantum) refl
         → ((if false || (steps == quantum) then Own else Moving) ≡ Own) × (steps ≡ quantum)
     by true is = (rw is refl, grind (arith, nat_tests))
     by false is = absurd (not (rw is refl))
+
+-- with a transfer that goes on only a call in its pace leaves that stage, after a quantum; a search makes the next step
+leaves_moving : (paced chosen : Bool) (quantum steps : ℕ) (next : NextStep) → is_rest next ≡ false
+    → stage_after paced chosen quantum steps next ≢ Moving
+    → (stage_after paced chosen quantum steps next ≡ Own) × (steps_after paced steps ≡ quantum)
+leaves_moving true chosen quantum steps next rest not = after_quantum quantum (steps + 1) (is_rest next) rest not
+leaves_moving false chosen quantum steps next rest not = absurd (not (rw rest refl))
 
 -- a call that makes steps of transfers makes those of the pending one
 not_idle : (pending : Pending) → pending ≢ Idle → is_idle pending ≡ false
@@ -110,6 +121,7 @@ pending_moves Allocate v e pends = (rw pends refl, rw pends (rw pends refl))
 pending_moves (Free block) v e pends = (rw pends refl, rw pends (rw pends refl))
 pending_moves (Read block index) v e pends = absurd (false≢true e)
 pending_moves (Write block index value) v e pends = absurd (false≢true e)
+pending_moves Search v e pends = (rw pends refl, rw pends refl)
 
 goes_on_later : (sizes : Sizes) (u : TransferView) (y : SeatView) (next : Call) → is_rest u.next ≡ false
     → y.mind.view.calls.stage ≡ Between → y.mind.view.transfer ≡ u → changes_pool (Some next) ≡ true → CanStep sizes (InCall next) y
@@ -120,7 +132,7 @@ goes_on_later sizes u y next goes between same changes c =
     let rests : v.pool.plan.pending ≢ Idle = λ idle.
     false≢true (sym (ap (λ (z : TransferView). is_rest z.next) same ∙ goes) ∙ ap is_rest (stands.rests idle)) in
     let (stays, moves) = pending_moves next v changes (not_idle v.pool.plan.pending rests) in
-    let begins : turning (InCall next) v ≡ call_begun next v = rw between refl in
+    let begins : turning (InCall next) v ≡ call_begun next v = ap (λ k. if is_in_call k then v else started_at k next v) between in
     record {
       same = ap (λ (z : ProcessView). z.transfer) begins ∙ (stays ∙ same);
       moves = subst (λ z. moves_transfer z ≡ true) (sym begins) moves;
@@ -133,17 +145,19 @@ goes_on_in_calls sizes call v x t u word c agrees s mirrors part goes =
     let w = turning (InCall call) v.mind.view in
     let calls = in_a_call sizes call v c in
     let moving = at_moving w.calls.stage w refl calls agrees.moves in
-    let (stage, steps, way, none) = stage_after v.sizes w word calls moving in
+    let (stage, steps, way, none) = stage_moved v.sizes w word calls moving in
     let entries : entries_in x.mind ≡ entries_in v.mind = s.entries
     ∙ (ap (λ list. entries_in v.mind ++ list) none ∙ append-nil (entries_in v.mind)) in
     let held = subst (λ list. BlockIsHeld (grip list) call) (sym entries) c.may.1 in
     let way_so : is_alone x.mind.view.calls.way ≡ false = ap (λ (z : ProcessView). is_alone z.calls.way) s.view ∙ way in
-    let steps_so : x.mind.view.calls.steps ≡ w.calls.steps + 1 = ap (λ (z : ProcessView). z.calls.steps) s.view ∙ steps in
+    let paced = is_paced w.calls.call in
+    let steps_so : x.mind.view.calls.steps ≡ steps_after paced w.calls.steps = ap (λ (z : ProcessView). z.calls.steps) s.view ∙ steps in
     let same_sizes : v.sizes ≡ sizes = c.shape in
     let met : met_of v.sizes w.transfer word ≡ u = ap (λ z. met_of z w.transfer word) same_sizes
     ∙ (ap (λ z. met_of sizes z word) agrees.same ∙ sym part) in
     let rest : is_rest (met_of v.sizes w.transfer word).next ≡ false = ap (λ (z : TransferView). is_rest z.next) met ∙ goes in
-    let stage_so : x.mind.view.calls.stage ≡ after_move v.sizes.quantum (w.calls.steps + 1) (met_of v.sizes w.transfer word).next =
+    let stage_so : x.mind.view.calls.stage
+    ≡ stage_after paced w.calls.chosen v.sizes.quantum w.calls.steps (met_of v.sizes w.transfer word).next =
     ap (λ (z : ProcessView). z.calls.stage) s.view ∙ stage in
     record {
       now = λ is.
@@ -161,7 +175,7 @@ goes_on_in_calls sizes call v x t u word c agrees s mirrors part goes =
           } in
           (can, agree);
       quantum = λ not.
-          let ended = after_quantum v.sizes.quantum (w.calls.steps + 1) (is_rest (met_of v.sizes w.transfer word).next) rest
+          let ended = leaves_moving paced w.calls.chosen v.sizes.quantum w.calls.steps (met_of v.sizes w.transfer word).next rest
           (λ e. not (stage_so ∙ e)) in
           (stage_so ∙ ended.0, steps_so ∙ (ended.1 ∙ ap (λ (z : Sizes). z.quantum) same_sizes));
       later = λ y next between same changes can. goes_on_later sizes u y next goes between same changes can;

@@ -22,7 +22,7 @@ use Rattle.transfer_schedule.specs.declared.pending.Pending.TheVariants.{Idle, T
 use Rattle.pool_machine.specs.Pools.{pool_ended, pool_met_at, step_counted, CanEnd, CanCount}
 use Rattle.pool_machine.specs.Ready.{CanActCallAt, CanMeetCallAt}
 use Rattle.pool_machine.specs.declared.call.CallStage.{CallStage}
-use Rattle.pool_machine.specs.declared.call.CallStage.TheVariants.{Between, Moving, Own}
+use Rattle.pool_machine.specs.declared.call.CallStage.TheVariants.{Between, Choosing, Moving, Own}
 use Rattle.pool_machine.specs.declared.view.PoolView.{PoolView}
 use Rattle.pool_machine.specs.declared.view.ProcessView.{ProcessView}
 use Rattle.batch_invariant.specs.Batches.{ProcessViews}
@@ -72,6 +72,7 @@ pub pool_becomes : (sizes : Sizes) (w : ProcessView) (word : ℕ) (t : Bool) (st
     → w.calls.stage ≡ stage → moves_transfer w ≡ true → (next_met sizes w word).pool ≡ pool_met_at word w.pool w.transfer.next
 pool_becomes sizes w word true stage alone here moves = rw alone refl
 pool_becomes sizes w word false Between alone here moves = absurd (false≢true (rw (alone, here) at moves))
+pool_becomes sizes w word false Choosing alone here moves = absurd (false≢true (rw (alone, here) at moves))
 pool_becomes sizes w word false Moving alone here moves = rw (alone, here) refl
 pool_becomes sizes w word false Own alone here moves = absurd (false≢true (rw (alone, here) at moves))
 
@@ -92,6 +93,7 @@ can_end : (sizes : Sizes) (w : ProcessView) (word : ℕ) (t : Bool) (stage : Cal
     → moves_transfer w ≡ true → CanMeetNext sizes w word → w.transfer.next ≡ LoadReply → CanEnd (reply_of (value_of word)) w.pool
 can_end sizes w word true stage alone here moves h next = h.end alone next
 can_end sizes w word false Between alone here moves h next = absurd (false≢true (rw (alone, here) at moves))
+can_end sizes w word false Choosing alone here moves h next = absurd (false≢true (rw (alone, here) at moves))
 can_end sizes w word false Moving alone here moves h next = (subst (CanMeetCallAt sizes w word) here (h.call alone)).end next
 can_end sizes w word false Own alone here moves h next = absurd (false≢true (rw (alone, here) at moves))
 
@@ -99,7 +101,8 @@ can_count : (sizes : Sizes) (words : Words) (w : ProcessView) (t : Bool) (stage 
     → w.calls.stage ≡ stage → moves_transfer w ≡ true → StepAllowed sizes words w → CanCount w.pool
 can_count sizes words w true stage alone here moves h = h.count alone
 can_count sizes words w false Between alone here moves h = absurd (false≢true (rw (alone, here) at moves))
-can_count sizes words w false Moving alone here moves h = (subst (CanActCallAt sizes w) here (h.call_act alone)).count
+can_count sizes words w false Choosing alone here moves h = absurd (false≢true (rw (alone, here) at moves))
+can_count sizes words w false Moving alone here moves h = (subst (CanActCallAt sizes w) here (h.call_act alone)).go.count
 can_count sizes words w false Own alone here moves h = absurd (false≢true (rw (alone, here) at moves))
 
 takes : (pending : Pending) → pending ≢ Idle → pending ≢ Giving → is_taking pending ≡ true

@@ -16,7 +16,7 @@ use Rattle.pool_machine.specs.Beginning.{alone_begun}
 use Rattle.pool_machine.specs.Conditions.{may_use_transfers}
 use Rattle.pool_machine.specs.Pools.{pool_ended, pool_met_at, step_counted}
 use Rattle.pool_machine.specs.declared.call.CallStage.{CallStage}
-use Rattle.pool_machine.specs.declared.call.CallStage.TheVariants.{Between, Moving, Own}
+use Rattle.pool_machine.specs.declared.call.CallStage.TheVariants.{Between, Choosing, Moving, Own}
 use Rattle.pool_machine.specs.declared.view.PoolView.{PoolView}
 use Rattle.pool_machine.specs.declared.view.ProcessView.{ProcessView}
 use Rattle.interleaving_core.specs.Steps.{is_alone, next_met}
@@ -65,6 +65,7 @@ way_becomes : (sizes : Sizes) (w : ProcessView) (word : ℕ) (t : Bool) (stage :
     → w.calls.stage ≡ stage → moves_transfer w ≡ true → (next_met sizes w word).calls.way ≡ w.calls.way
 way_becomes sizes w word true stage alone here moves = rw alone refl
 way_becomes sizes w word false Between alone here moves = absurd (false≢true (rw (alone, here) at moves))
+way_becomes sizes w word false Choosing alone here moves = absurd (false≢true (rw (alone, here) at moves))
 way_becomes sizes w word false Moving alone here moves = rw (alone, here) refl
 way_becomes sizes w word false Own alone here moves = absurd (false≢true (rw (alone, here) at moves))
 
