@@ -1,5 +1,6 @@
 -- whole calls: how they begin and how they end
-use Rattle.std.proofs.Common.{◌≡◌, ◌≢◌, ℕ, ◌<◌, Bool, true, List, [], ◌∷◌, ◌++◌, refl, sym, ap, ◌∙◌, subst, arith}
+use Rattle.std.proofs.lemmas.Bool.{false≢true}
+use Rattle.std.proofs.Common.{◌≡◌, ◌≢◌, ℕ, ◌<◌, Bool, true, false, List, [], ◌∷◌, ◌++◌, refl, sym, ap, ◌∙◌, subst, arith}
 use Rattle.std.specs.Prelude.{◌&&◌, ◌||◌, nat_lt, if◌then◌else◌, Option, None, Some, Contains}
 use Rattle.std.proofs.lemmas.Bool.Decides.{nat_tests}
 use Rattle.word_layout.specs.Sizes.{Sizes}
@@ -14,14 +15,14 @@ use Rattle.transfer_schedule.specs.declared.pending.Pending.TheVariants.{Idle, T
 use Rattle.transfer_schedule.proofs.Operations.{choice_sizes}
 use Rattle.transfer_machine.specs.declared.transfer.TransferView.{TransferView}
 use Rattle.transfer_machine.specs.declared.kind.Kind.{Kind}
-use Rattle.pool_machine.specs.Steps.{is_paced}
 use Rattle.pool_machine.specs.Beginning.{due, begun_if_due, before_call, first_stage, entered, call_begun}
 use Rattle.pool_machine.specs.Conditions.{HasAgeFor, has_age_for, may_call, may_use_calls, is_young_for, names_fit}
-use Rattle.pool_machine.specs.OwnSteps.{own_answer_for, own_kind_for, next_block, allocate_answer}
+use Rattle.pool_machine.specs.OwnSteps.{own_answer_for, own_kind_for, next_block, allocate_answer, allocate_kind}
+use Rattle.call_invariant.specs.Phases.{is_getting}
 use Rattle.pool_machine.specs.Ready.{CanBegin}
 use Rattle.pool_machine.specs.Steps.{happened}
 use Rattle.pool_machine.specs.declared.call.Call.{Call}
-use Rattle.pool_machine.specs.declared.call.Call.TheVariants.{Allocate, Free, Read, Write}
+use Rattle.pool_machine.specs.declared.call.Call.TheVariants.{Allocate, Free, Read, Write, Search}
 use Rattle.pool_machine.specs.declared.call.CallStage.TheVariants.{Between, Moving, Own}
 use Rattle.pool_machine.specs.declared.call.CallView.{CallView}
 use Rattle.pool_machine.specs.declared.view.PoolView.{PoolView}
@@ -65,20 +66,19 @@ may_begin : (sizes : Sizes) (call : Call) (v : ProcessView) → v.calls.stage �
 may_begin sizes call v e may =
     ap (λ stage. is_in_call stage || may_start_at stage sizes true call v) e ∙ may
 
-call_starts : (sizes : Sizes) (call : Call) (x : Process) → BetweenCalls sizes x → is_young_for sizes call x.seat.view.mind.view ≡ true
-    → names_fit sizes true call ≡ true → BlockIsHeld (held_in x.seat.view.mind) call → is_paced (Some call) ≡ true
+pub call_starts : (sizes : Sizes) (call : Call) (x : Process) → BetweenCalls sizes x → is_young_for sizes call x.seat.view.mind.view ≡ true
+    → names_fit sizes true call ≡ true → BlockIsHeld (held_in x.seat.view.mind) call
     → CanGo sizes call (call_begun call x.seat.view.mind.view) x.seat.view
-call_starts sizes call x f young names held paced =
+call_starts sizes call x f young names held =
     let v = x.seat.view in
     let may = both_hold (may_use_calls v.mind.view.calls.way) (is_young_for sizes call v.mind.view) (names_fit sizes true call)
     f.way young names in
     record {
       can = call_can_step sizes call v f.of_process f.shape f.among (may_begin sizes call v.mind.view f.between may) held;
       view = begun_first call v.mind.view f.between;
-      paced = paced;
     }
 
-low_test : (a b : ℕ) → a < b → nat_lt a b ≡ true
+pub low_test : (a b : ℕ) → a < b → nat_lt a b ≡ true
 low_test a b lt = grind (arith, nat_tests)
 
 age_test : (sizes : Sizes) (due : Pending) (age : ℕ) → (due ≢ Idle → age < most_age sizes)
@@ -95,7 +95,7 @@ young_test sizes x f young =
     ∙ age_test sizes (numbers.due x.pool.plan) x.transfer.age young)
 
 -- an allocate or a free begins with what is due
-begun_parts : (call : Call) (d : Option Wish) (t : TransferView) (p : PoolView) (calls : CallView)
+pub begun_parts : (call : Call) (d : Option Wish) (t : TransferView) (p : PoolView) (calls : CallView)
     → (let v : ProcessView = begun_if_due d (record { transfer = t; pool = p; calls = calls }) in entered call (first_stage v) v)
     ≡ record {
       transfer = transfer_begun d t;
@@ -105,11 +105,12 @@ begun_parts : (call : Call) (d : Option Wish) (t : TransferView) (p : PoolView) 
 begun_parts call None t p calls = refl
 begun_parts call (Some wish) t p calls = refl
 
-starts_there : (sizes : Sizes) (call : Call) (x y : Process) → BetweenCalls sizes x
+pub starts_there : (sizes : Sizes) (call : Call) (x y : Process)
+    → x.seat.view.mind.view.transfer ≡ x.transfer → x.seat.view.mind.view.pool ≡ x.pool
     → y.seat ≡ x.seat → y.transfer ≡ transfer_begun (due x.pool) x.transfer → y.pool ≡ pool_begun_by (due x.pool) x.pool
     → (let v : ProcessView = before_call x.seat.view.mind.view in CanGo sizes call (entered call (first_stage v) v) x.seat.view)
     → CanGo sizes call (beginning call y) y.seat.view
-starts_there sizes call x y f seat transfer pool go =
+starts_there sizes call x y own_transfer own_pool seat transfer pool go =
     let v = x.seat.view.mind.view in
     let parts : TransferView → PoolView → ProcessView = λ t p. record {
       transfer = t;
@@ -118,8 +119,8 @@ starts_there sizes call x y f seat transfer pool go =
     } in
     let same : (let w : ProcessView = before_call v in entered call (first_stage w) w) ≡ beginning call y =
     begun_parts call (due v.pool) v.transfer v.pool v.calls
-    ∙ (ap (λ (t : TransferView). parts (transfer_begun (due v.pool) t) (pool_begun_by (due v.pool) v.pool)) f.transfer
-    ∙ (ap (λ (p : PoolView). parts (transfer_begun (due p) x.transfer) (pool_begun_by (due p) p)) f.pool
+    ∙ (ap (λ (t : TransferView). parts (transfer_begun (due v.pool) t) (pool_begun_by (due v.pool) v.pool)) own_transfer
+    ∙ (ap (λ (p : PoolView). parts (transfer_begun (due p) x.transfer) (pool_begun_by (due p) p)) own_pool
     ∙ (ap (λ (t : TransferView). parts t (pool_begun_by (due x.pool) x.pool)) (sym transfer)
     ∙ ap (λ (p : PoolView). parts y.transfer p) (sym pool)))) in
     let there = subst (λ w. CanGo sizes call w x.seat.view) same go in
@@ -129,14 +130,14 @@ pub allocate_starts : (sizes : Sizes) (x y : Process) → BetweenCalls sizes x �
     → y.seat ≡ x.seat → y.transfer ≡ transfer_begun (due x.pool) x.transfer → y.pool ≡ pool_begun_by (due x.pool) x.pool
     → CanGo sizes Allocate (beginning Allocate y) y.seat.view
 allocate_starts sizes x y f young seat transfer pool =
-    starts_there sizes Allocate x y f seat transfer pool (call_starts sizes Allocate x f (young_test sizes x f young) refl tt refl)
+    starts_there sizes Allocate x y f.transfer f.pool seat transfer pool (call_starts sizes Allocate x f (young_test sizes x f young) refl tt)
 
 pub free_starts : (sizes : Sizes) (block : ℕ) (x y : Process) → BetweenCalls sizes x → HasAgeFor sizes x.pool.plan x.transfer.age
     → Contains (held_in x.seat.view.mind) block
     → y.seat ≡ x.seat → y.transfer ≡ transfer_begun (due x.pool) x.transfer → y.pool ≡ pool_begun_by (due x.pool) x.pool
     → CanGo sizes (Free block) (beginning (Free block) y) y.seat.view
 free_starts sizes block x y f young held seat transfer pool =
-    starts_there sizes (Free block) x y f seat transfer pool (call_starts sizes (Free block) x f (young_test sizes x f young) refl held refl)
+    starts_there sizes (Free block) x y f.transfer f.pool seat transfer pool (call_starts sizes (Free block) x f (young_test sizes x f young) refl held)
 
 -- a read or a write is at its own step at once
 owning_so : (sizes : Sizes) (call : Call) (x : Process) → BetweenCalls sizes x
@@ -151,13 +152,13 @@ owning_so sizes call x f go =
 pub read_starts : (sizes : Sizes) (block index : ℕ) (x : Process) → BetweenCalls sizes x → Contains (held_in x.seat.view.mind) block
     → index < sizes.words → IsOwning sizes (Read block index) 0 x
 read_starts sizes block index x f held low =
-    owning_so sizes (Read block index) x f (call_starts sizes (Read block index) x f refl (low_test index sizes.words low) held refl)
+    owning_so sizes (Read block index) x f (call_starts sizes (Read block index) x f refl (low_test index sizes.words low) held)
 
 pub write_starts : (sizes : Sizes) (block index value : ℕ) (x : Process) → BetweenCalls sizes x
     → Contains (held_in x.seat.view.mind) block → index < sizes.words → IsOwning sizes (Write block index value) 0 x
 write_starts sizes block index value x f held low =
     owning_so sizes (Write block index value) x f
-    (call_starts sizes (Write block index value) x f refl (low_test index sizes.words low) held refl)
+    (call_starts sizes (Write block index value) x f refl (low_test index sizes.words low) held)
 
 -- what is due begins by the plan, and leaves the age and the quantum
 begun_plan_by : (d : Option Wish) (t : TransferView) (p : PoolView) (calls : CallView)
@@ -191,15 +192,15 @@ own_entries call word x =
     entries_of (happened (own_kind_for x.pool (Some call)) (own_answer_for x.transfer.number x.pool word (Some call)))
 
 -- its process's number
-pub number_is : (sizes : Sizes) (call : Call) (n word : ℕ) (before : SeatView) (x : Process) (v : SeatView) → IsOwning sizes call n x
+pub number_is : (sizes : Sizes) (call : Call) (k n word : ℕ) (before : SeatView) (x : Process) (v : SeatView) → IsOwning sizes call k x
     → Stepped (InCall call) x.seat.view word v → MovedOn before n x.seat.view → x.transfer.number ≡ number_of before.mind
-number_is sizes call n word before x v go s h = sym (ap (λ (w : ProcessView). w.transfer.number) go.view) ∙ (s.owner ∙ h.number)
+number_is sizes call k n word before x v go s h = sym (ap (λ (w : ProcessView). w.transfer.number) go.view) ∙ (s.owner ∙ h.number)
 
 -- a call ends with its own step
-pub call_made : (sizes : Sizes) (call : Call) (n : ℕ) (entries : List Entry) (before : SeatView) (x y : Process) → IsOwning sizes call n x
+pub call_made : (sizes : Sizes) (call : Call) (k n : ℕ) (entries : List Entry) (before : SeatView) (x y : Process) → IsOwning sizes call k x
     → MovedOn before n x.seat.view → (own : OwnMade call x y) → own_entries call own.word x ≡ entries
     → CallMade call entries n before y.seat.view
-call_made sizes call n entries before x y go h own is =
+call_made sizes call k n entries before x y go h own is =
     let s = own.stepped in
     let v = x.seat.view in
     let after = y.seat.view in
@@ -230,16 +231,24 @@ call_left sizes call n x y go own =
       among = s.among;
     }
 
--- the entry of an allocate and of a free
+-- the entry of an allocate, of a search and of a free
 entries_for : (by : ℕ) (kind : Kind) (block : Option ℕ) → entries_of (happened kind (allocate_answer by block)) ≡ entry_for by block ∷ []
 entries_for by kind None = refl
 entries_for by kind (Some block) = refl
 
-pub allocate_entries : (by word : ℕ) (block : Option ℕ) (x : Process) → x.transfer.number ≡ by → block ≡ next_block x.pool
-    → own_entries Allocate word x ≡ entry_for by block ∷ []
-allocate_entries by word block x e is =
-    entries_for x.transfer.number (own_kind_for x.pool (Some Allocate)) (next_block x.pool)
+got_entries : (by : ℕ) (block : Option ℕ) (x : Process) → x.transfer.number ≡ by → block ≡ next_block x.pool
+    → entries_of (happened (allocate_kind (next_block x.pool)) (allocate_answer x.transfer.number (next_block x.pool))) ≡ entry_for by block ∷ []
+got_entries by block x e is =
+    entries_for x.transfer.number (allocate_kind (next_block x.pool)) (next_block x.pool)
     ∙ (ap (λ k. entry_for k (next_block x.pool) ∷ []) e ∙ ap (λ b. entry_for by b ∷ []) (sym is))
+
+pub allocate_entries : (call : Call) (by word : ℕ) (block : Option ℕ) (x : Process) → is_getting (Some call) ≡ true
+    → x.transfer.number ≡ by → block ≡ next_block x.pool → own_entries call word x ≡ entry_for by block ∷ []
+allocate_entries Allocate by word block x gets e is = got_entries by block x e is
+allocate_entries Search by word block x gets e is = got_entries by block x e is
+allocate_entries (Free freed) by word block x gets e is = absurd (false≢true gets)
+allocate_entries (Read read index) by word block x gets e is = absurd (false≢true gets)
+allocate_entries (Write written index value) by word block x gets e is = absurd (false≢true gets)
 
 pub free_entries : (by word block : ℕ) (x : Process) → x.transfer.number ≡ by
     → own_entries (Free block) word x ≡ Back by block ∷ []

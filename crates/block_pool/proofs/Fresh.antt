@@ -15,7 +15,7 @@ use Rattle.pool_model.proofs.Places.{slice_get-push}
 use Rattle.history_invariant.proofs.Grips.{grip_all}
 use Rattle.history_invariant.proofs.Shared.{grips_of, legal_shared}
 use Rattle.history_invariant.proofs.Times.{times_contained, times_none}
-use Rattle.pool_machine.specs.declared.call.Call.TheVariants.{Allocate}
+use Rattle.pool_machine.specs.declared.call.Call.{Call}
 use Rattle.pool_table.specs.Minds.{number_of}
 use Rattle.block_pool.specs.declared.pool.Answer.TheVariants as answer
 use Rattle.block_pool.specs.declared.process.Process.{Process}
@@ -86,13 +86,13 @@ was_free old new block same well entered =
       nobodys = λ other ends. (got_may limits other i block (whole other ends)).2;
     }
 
--- an allocate that got it
-pub free_so : (sizes : Sizes) (number n : ℕ) (x y : Process) → SameSeat x.seat y.seat → BetweenCalls sizes y
-    → CallMade Allocate (entry.Got (number_of x.seat.view.mind) number ∷ []) n x.seat.view y.seat.view
+-- an allocate or a search that got it
+pub free_so : (sizes : Sizes) (call : Call) (number n : ℕ) (x y : Process) → SameSeat x.seat y.seat → BetweenCalls sizes y
+    → CallMade call (entry.Got (number_of x.seat.view.mind) number ∷ []) n x.seat.view y.seat.view
     → (block : ℕ) → answer.Got number ≡ answer.Got block → WasFree block (pass_of x.seat) (pass_of y.seat)
-free_so sizes number n x y same g made block is =
+free_so sizes call number n x y same g made block is =
     let here : number ≡ block = cc in
     subst (λ b. WasFree b (pass_of x.seat) (pass_of y.seat)) here
     (was_free (pass_of x.seat) (pass_of y.seat) number
-    (same_pass Allocate (entry.Got (number_of x.seat.view.mind) number ∷ []) n x.seat y.seat same made) (stands sizes y g)
-    (entered_so Allocate (entry.Got (number_of x.seat.view.mind) number) n x.seat y.seat made))
+    (same_pass call (entry.Got (number_of x.seat.view.mind) number ∷ []) n x.seat y.seat same made) (stands sizes y g)
+    (entered_so call (entry.Got (number_of x.seat.view.mind) number) n x.seat y.seat made))

@@ -2,6 +2,7 @@ pub mod Going
 pub mod Moving
 pub mod Standing
 pub mod Calls
+pub mod Searching
 pub mod Counting
 pub mod Passing
 pub mod Fresh

@@ -1,5 +1,5 @@
 -- the steps that a call makes of the pending transfer
-use Rattle.std.proofs.Common.{◌≡◌, ◌≢◌, ℕ, ◌+◌, ◌<◌, ◌≤◌, ◌==◌, Bool, true, false, ◌++◌, refl, sym, ap, ◌∙◌, subst, arith}
+use Rattle.std.proofs.Common.{◌≡◌, ◌≢◌, ℕ, ◌+◌, ◌<◌, ◌≤◌, ◌==◌, Bool, true, false, List, [], ◌++◌, refl, sym, ap, ◌∙◌, subst, arith}
 use Rattle.std.specs.Prelude.{if◌then◌else◌, ◌||◌, Some}
 use Rattle.std.proofs.lemmas.List.{append-nil}
 use Rattle.std.proofs.lemmas.Bool.Decides.{nat_tests}
@@ -15,6 +15,7 @@ use Rattle.transfer_machine.specs.declared.stage.NextStep.TheVariants.{Rest, Ann
 use Rattle.transfer_machine.specs.declared.transfer.TransferView.{TransferView}
 use Rattle.pool_machine.specs.declared.call.Way.TheVariants.{Calls}
 use Rattle.pool_machine.specs.Steps as call_steps
+use Rattle.pool_machine.specs.Steps.{is_paced}
 use Rattle.pool_machine.specs.Pools.{pool_met_at}
 use Rattle.pool_machine.specs.declared.call.Call.{Call}
 use Rattle.pool_machine.specs.declared.call.CallStage.{CallStage}
@@ -28,7 +29,7 @@ use Rattle.interleaving_core.specs.Moves.{may_go, calling_view}
 use Rattle.interleaving_core.specs.Runs.{entries_of}
 use Rattle.interleaving_core.specs.Steps.{is_in_call, next_answer, next_met}
 use Rattle.pool_table.specs.declared.about.About.TheVariants.{InCall}
-use Rattle.pool_table.specs.Minds.{entries_in, held_in}
+use Rattle.pool_table.specs.Minds.{KnownWord, entries_in, held_in}
 use Rattle.pool_table.specs.Turns.{words_known_after}
 use Rattle.pool_table.specs.Views.{SeatView}
 use Rattle.pool_table.specs.Steps.{SeenAfter, Stepped}
@@ -36,7 +37,7 @@ use Rattle.pool_table.proofs.Ready.{call_can_step}
 use Rattle.block_pool.specs.declared.process.Process.{Process}
 use Rattle.block_pool.specs.Running.{calling, counted, moving, running, owning, beginning, stage_after}
 use Rattle.block_pool.specs.Running.{CanGo, IsMoving, IsRunning, IsOwning}
-use Rattle.block_pool.specs.Moves.{counted_unless, PlanStepped, MovedOne, MovedOn, AgesByOne, PlanRuns, rests, runs_on, ends}
+use Rattle.block_pool.specs.Moves.{counted_unless, PlanStepped, MovedOne, MovedOn, AgesWithin, PlanRuns, rests, runs_on, ends}
 use Rattle.block_pool.proofs.Going.{can_move, becomes}
 
 -- at the beginning and in the middle
@@ -46,7 +47,7 @@ moving_at most n lt = grind (arith, nat_tests)
 own_at : (n : ℕ) → stage_after n n ≡ Own
 own_at n = grind (arith, nat_tests)
 
-none_counted : (pool : PoolView) → counted 0 pool ≡ pool
+pub none_counted : (pool : PoolView) → counted 0 pool ≡ pool
 none_counted pool = ap (λ (plan : Numbers). record pool { plan = plan }) (no_steps pool.plan)
 
 pub begins_moving : (sizes : Sizes) (call : Call) (x : Process) → x.pool.plan.pending ≢ Idle
@@ -96,31 +97,30 @@ inside_may sizes call v e = rw e refl
 inside_view : (call : Call) (v : ProcessView) → is_in_call v.calls.stage ≡ true → calling_view call v ≡ v
 inside_view call v e = rw e refl
 
--- a step of the transfer makes no entry
-no_entries : (sizes : Sizes) (call : Call) (n word : ℕ) (x : Process) (v : SeatView) → IsMoving sizes call n x
-    → Stepped (InCall call) x.seat.view word v → entries_in v.mind ≡ entries_in x.seat.view.mind
-no_entries sizes call n word x v go s =
-    let before = entries_in x.seat.view.mind in
-    s.entries ∙ (ap (λ z. before ++ entries_of (next_answer z word)) go.view ∙ append-nil before)
+-- a step that makes no entry leaves the entries
+no_entries : (sizes : Sizes) (call : Call) (u : ProcessView) (word : ℕ) (v x : SeatView) → CanGo sizes call u v
+    → Stepped (InCall call) v word x → entries_of (next_answer u word) ≡ [] → entries_in x.mind ≡ entries_in v.mind
+no_entries sizes call u word v x go s none =
+    let before = entries_in v.mind in
+    s.entries ∙ (ap (λ z. before ++ entries_of (next_answer z word)) go.view ∙ (ap (λ l. before ++ l) none ∙ append-nil before))
 
--- and leaves it in its call
-pub goes_on : (sizes : Sizes) (call : Call) (n word : ℕ) (x : Process) (v : SeatView) (w : ProcessView) → IsMoving sizes call n x
-    → Stepped (InCall call) x.seat.view word v → next_met sizes (moving call n x) word ≡ w → is_in_call w.calls.stage ≡ true
-    → CanGo sizes call w v
-goes_on sizes call n word x v w go s is inside =
-    let view : v.mind.view ≡ w = becomes sizes call (moving call n x) x.seat.view v word go s ∙ is in
-    let stage : is_in_call v.mind.view.calls.stage ≡ true = ap (λ z. is_in_call z.calls.stage) view ∙ inside in
-    let held : BlockIsHeld (held_in v.mind) call =
-    subst (λ l. BlockIsHeld (grip l) call) (sym (no_entries sizes call n word x v go s)) go.can.may.1 in
+-- and so does one that leaves its process in its call, which goes on
+pub goes_on : (sizes : Sizes) (call : Call) (u w : ProcessView) (word : ℕ) (v x : SeatView) → CanGo sizes call u v
+    → Stepped (InCall call) v word x → entries_of (next_answer u word) ≡ [] → next_met sizes u word ≡ w → is_in_call w.calls.stage ≡ true
+    → CanGo sizes call w x
+goes_on sizes call u w word v x go s none is inside =
+    let view : x.mind.view ≡ w = becomes sizes call u v x word go s ∙ is in
+    let stage : is_in_call x.mind.view.calls.stage ≡ true = ap (λ z. is_in_call z.calls.stage) view ∙ inside in
+    let held : BlockIsHeld (held_in x.mind) call =
+    subst (λ l. BlockIsHeld (grip l) call) (sym (no_entries sizes call u word v x go s none)) go.can.may.1 in
     record {
-      can = call_can_step sizes call v (ap (λ (z : SeatView). z.of_process) s.stays ∙ go.can.of_process)
-          (ap (λ (z : SeatView). z.sizes) s.stays ∙ go.can.shape) s.among (inside_may sizes call v.mind.view stage) held;
-      view = inside_view call v.mind.view stage ∙ view;
-      paced = go.paced;
+      can = call_can_step sizes call x (ap (λ (z : SeatView). z.of_process) s.stays ∙ go.can.of_process)
+          (ap (λ (z : SeatView). z.sizes) s.stays ∙ go.can.shape) s.among (inside_may sizes call x.mind.view stage) held;
+      view = inside_view call x.mind.view stage ∙ view;
     }
 
 -- a transfer is at rest after its last step alone
-rests_after : (sizes : Sizes) (t : TransferView) (word : ℕ) (s : NextStep) → s ≢ Rest → is_rest (met_at sizes t word s).next ≡ is_reply s
+pub rests_after : (sizes : Sizes) (t : TransferView) (word : ℕ) (s : NextStep) → s ≢ Rest → is_rest (met_at sizes t word s).next ≡ is_reply s
 rests_after sizes t word Rest busy = absurd (busy refl)
 rests_after sizes t word Announce busy = refl
 rests_after sizes t word (Try second step) busy = moving_not_rest _ (step_stays sizes t word (Try second step) refl).moving
@@ -137,10 +137,10 @@ stage_moved ended most n = if ended || (n == most) then Own else Moving
 abbrev pub view_moved : ℕ → Call → ℕ → Bool → TransferView → PoolView → ProcessView
 view_moved most call n ended t pool = record { transfer = t; pool = pool; calls = calling (stage_moved ended most n) call n }
 
-moved_view : (sizes : Sizes) (call : Call) (n : ℕ) (x y : Process) (ended : Bool) → IsMoving sizes call n x
+moved_view : (sizes : Sizes) (call : Call) (n : ℕ) (x y : Process) (ended : Bool) → is_paced (Some call) ≡ true → IsMoving sizes call n x
     → (m : MovedOne sizes call n x ended y) → next_met sizes (moving call n x) m.word
     ≡ view_moved sizes.quantum call (n + 1) ended y.transfer (counted_unless ended (n + 1) y.pool)
-moved_view sizes call n x y ended go m =
+moved_view sizes call n x y ended paced go m =
     let t = met_of sizes x.transfer m.word in
     let pool = pool_met_at m.word (counted n x.pool) x.transfer.next in
     let busy = (can_move sizes call n x go).go.busy in
@@ -155,7 +155,7 @@ moved_view sizes call n x y ended go m =
         chosen = true;
         way = Calls;
       };
-    }) go.paced
+    }) paced
     ∙ (ap (λ z. view_moved sizes.quantum call (n + 1) z t pool) rests
     ∙ (ap (λ z. view_moved sizes.quantum call (n + 1) ended z pool) (sym m.transfer)
     ∙ ap (view_moved sizes.quantum call (n + 1) ended y.transfer) (sym m.pool.pool)))
@@ -164,67 +164,64 @@ in_call_moved : (t : Bool) → is_in_call (if t then Own else Moving) ≡ true
 in_call_moved true = refl
 in_call_moved false = refl
 
-pub moves_on : (sizes : Sizes) (most : ℕ) (call : Call) (n : ℕ) (x y : Process) (ended : Bool) → most ≡ sizes.quantum → ended ≡ false
-    → IsMoving sizes call n x → MovedOne sizes call n x ended y → IsRunning sizes most call (n + 1) y
-moves_on sizes most call n x y ended same e go moved =
+pub moves_on : (sizes : Sizes) (most : ℕ) (call : Call) (n : ℕ) (x y : Process) (ended : Bool) → is_paced (Some call) ≡ true
+    → most ≡ sizes.quantum → ended ≡ false → IsMoving sizes call n x → MovedOne sizes call n x ended y
+    → IsRunning sizes most call (n + 1) y
+moves_on sizes most call n x y ended paced same e go moved =
     let m = subst (λ z. MovedOne sizes call n x z y) e moved in
     subst (λ k. IsRunning sizes k call (n + 1) y) (sym same)
-    (goes_on sizes call n m.word x y.seat.view (running sizes.quantum call (n + 1) y) go m.stepped (moved_view sizes call n x y false go m)
-    (in_call_moved (n + 1 == sizes.quantum)))
+    (goes_on sizes call (moving call n x) (running sizes.quantum call (n + 1) y) m.word x.seat.view y.seat.view go m.stepped refl
+    (moved_view sizes call n x y false paced go m) (in_call_moved (n + 1 == sizes.quantum)))
 
-pub moves_end : (sizes : Sizes) (call : Call) (n : ℕ) (x y : Process) (ended : Bool) → ended ≡ true → IsMoving sizes call n x
-    → MovedOne sizes call n x ended y → IsOwning sizes call (n + 1) y
-moves_end sizes call n x y ended e go moved =
+pub moves_end : (sizes : Sizes) (call : Call) (n : ℕ) (x y : Process) (ended : Bool) → is_paced (Some call) ≡ true → ended ≡ true
+    → IsMoving sizes call n x → MovedOne sizes call n x ended y → IsOwning sizes call (n + 1) y
+moves_end sizes call n x y ended paced e go moved =
     let m = subst (λ z. MovedOne sizes call n x z y) e moved in
-    goes_on sizes call n m.word x y.seat.view (owning call (n + 1) y) go m.stepped (moved_view sizes call n x y true go m) refl
+    goes_on sizes call (moving call n x) (owning call (n + 1) y) m.word x.seat.view y.seat.view go m.stepped refl
+    (moved_view sizes call n x y true paced go m) refl
 
 -- what stays of the seat
 pub nothing_moved : (v : SeatView) → MovedOn v 0 v
 nothing_moved v =
     record { stays = refl; number = refl; seen = refl; known = refl; entries = refl; moves = omega arith }
 
-pub moved_more : (sizes : Sizes) (call : Call) (n : ℕ) (before : SeatView) (x y : Process) (ended : Bool) → IsMoving sizes call n x
-    → MovedOne sizes call n x ended y → MovedOn before n x.seat.view → MovedOn before (n + 1) y.seat.view
-moved_more sizes call n before x y ended go m h =
-    let s = m.stepped in
-    let v = x.seat.view in
-    let after = y.seat.view in
-    let seen : after.mind.seen ≡ v.mind.seen =
-    subst (λ z. SeenAfter (entries_of (next_answer z m.word)) v.mind.seen after.mind.seen) go.view s.seen in
+pub moved_more : (sizes : Sizes) (call : Call) (u : ProcessView) (n : ℕ) (before v x : SeatView) (word : ℕ) → CanGo sizes call u v
+    → Stepped (InCall call) v word x → entries_of (next_answer u word) ≡ [] → ((known : List KnownWord) → words_known_after u known ≡ known)
+    → MovedOn before n v → MovedOn before (n + 1) x
+moved_more sizes call u n before v x word go s none knows h =
+    let seen : x.mind.seen ≡ v.mind.seen =
+    subst (λ l. SeenAfter l v.mind.seen x.mind.seen) (ap (λ z. entries_of (next_answer z word)) go.view ∙ none) s.seen in
     record {
-      stays = s.stays ∙ ap (λ (z : SeatView). record z { mind = after.mind }) h.stays;
+      stays = s.stays ∙ ap (λ (z : SeatView). record z { mind = x.mind }) h.stays;
       number = s.number ∙ h.number;
       seen = seen ∙ h.seen;
-      known = s.known ∙ (ap (λ z. words_known_after z v.mind.known) go.view ∙ h.known);
-      entries = no_entries sizes call n m.word x after go s ∙ h.entries;
+      known = s.known ∙ (ap (λ z. words_known_after z v.mind.known) go.view ∙ (knows v.mind.known ∙ h.known));
+      entries = no_entries sizes call u word v x go s none ∙ h.entries;
       moves = let a = s.moves in let b = h.moves in omega (arith, a, b);
     }
 
 -- its age
-aged_at : (sizes : Sizes) (before t : TransferView) (word : ℕ) (s : NextStep) → t.next ≡ s → s ≢ Rest → AgesByOne before t
-    → AgesByOne before (met_at sizes t word s)
-aged_at sizes before t word Rest e busy h = absurd (busy refl)
-aged_at sizes before t word Announce e busy h =
-    let young = h.announced e in record { one = omega (arith, young); announced = λ is. absurd (grind arith) }
-aged_at sizes before t word (Try second step) e busy h =
+pub aged_at : (sizes : Sizes) (most : ℕ) (t : TransferView) (word : ℕ) (s : NextStep) → t.next ≡ s → s ≢ Rest → AgesWithin most t
+    → AgesWithin most (met_at sizes t word s)
+aged_at sizes most t word Rest e busy h = absurd (busy refl)
+aged_at sizes most t word Announce e busy h =
+    let young = h.announced e in record { within = omega (arith, young); announced = λ is. absurd (grind arith) }
+aged_at sizes most t word (Try second step) e busy h =
     let s = step_stays sizes t word (Try second step) refl in
-    let one = h.one in
+    let within = h.within in
     let age = s.age in
-    record { one = omega (arith, one, age); announced = λ is. absurd (begun_not _ s.announced is) }
+    record { within = omega (arith, within, age); announced = λ is. absurd (begun_not _ s.announced is) }
   where
     begun_not : (s : NextStep) → has_only_begun s ≡ false → s ≡ Announce → ⊥
     begun_not s e is = grind arith
-aged_at sizes before t word LoadFinalState e busy h = record { one = h.one; announced = λ is. absurd (grind arith) }
-aged_at sizes before t word LoadReply e busy h = record { one = h.one; announced = λ is. absurd (grind arith) }
+aged_at sizes most t word LoadFinalState e busy h = record { within = h.within; announced = λ is. absurd (grind arith) }
+aged_at sizes most t word LoadReply e busy h = record { within = h.within; announced = λ is. absurd (grind arith) }
 
-pub first_aged : (t : TransferView) → AgesByOne t t
-first_aged t = record { one = omega arith; announced = λ _. omega arith }
-
-pub aged_more : (sizes : Sizes) (call : Call) (n : ℕ) (before : TransferView) (x y : Process) (ended : Bool) → IsMoving sizes call n x
-    → MovedOne sizes call n x ended y → AgesByOne before x.transfer → AgesByOne before y.transfer
-aged_more sizes call n before x y ended go m h =
-    subst (AgesByOne before) (sym m.transfer)
-    (aged_at sizes before x.transfer m.word x.transfer.next refl (can_move sizes call n x go).go.busy h)
+pub aged_more : (sizes : Sizes) (call : Call) (n most : ℕ) (x y : Process) (ended : Bool) → IsMoving sizes call n x
+    → MovedOne sizes call n x ended y → AgesWithin most x.transfer → AgesWithin most y.transfer
+aged_more sizes call n most x y ended go m h =
+    subst (AgesWithin most) (sym m.transfer)
+    (aged_at sizes most x.transfer m.word x.transfer.next refl (can_move sizes call n x go).go.busy h)
 
 -- the plan
 pub plan_stays : (n : ℕ) (ended : Bool) (first old new : Numbers) → ended ≡ false → old ≡ first → PlanStepped ended n old new → new ≡ first

@@ -6,6 +6,7 @@ pub mod Running
 pub mod Moves
 pub mod Owning
 pub mod Calls
+pub mod Searching
 pub mod Opening
 pub mod Closing
 pub mod Promises

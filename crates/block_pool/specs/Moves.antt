@@ -50,10 +50,10 @@ pub record MovedOn (before : SeatView) (n : ℕ) (v : SeatView) : Type 0 where
   pub entries : entries_in v.mind ≡ entries_in before.mind
   pub moves : v.mind.moves ≡ before.mind.moves + n
 
--- a call announces one transfer at most
-pub record AgesByOne (before now : TransferView) : Type 0 where
-  pub one : now.age ≤ before.age + 1
-  pub announced : now.next ≡ Announce → now.age ≤ before.age
+-- a transfer's age is at most so much, also once it has made its announcement
+pub record AgesWithin (most : ℕ) (t : TransferView) : Type 0 where
+  pub within : t.age ≤ most
+  pub announced : t.next ≡ Announce → t.age + 1 ≤ most
 
 -- the plan after the transfer steps of a call, of which there are so many: none where nothing is pending, else exactly the most unless
 -- the transfer ends earlier

@@ -14,7 +14,6 @@ use Rattle.pool_machine.specs.declared.call.CallView.{CallView}
 use Rattle.pool_machine.specs.declared.call.Way.TheVariants.{Calls}
 use Rattle.pool_machine.specs.declared.view.PoolView.{PoolView}
 use Rattle.pool_machine.specs.declared.view.ProcessView.{ProcessView}
-use Rattle.pool_machine.specs.Steps.{is_paced}
 use Rattle.pool_table.specs.declared.about.About.TheVariants.{InCall}
 use Rattle.pool_table.specs.Turns.{turning}
 use Rattle.pool_table.specs.Views.{SeatView}
@@ -72,7 +71,6 @@ pool_begun_by (Some wish) pool = pool_begun wish pool
 pub record CanGo (sizes : Sizes) (call : Call) (w : ProcessView) (v : SeatView) : Type 0 where
   pub can : CanStep sizes (InCall call) v
   pub view : turning (InCall call) v.mind.view ≡ w
-  pub paced : is_paced (Some call) ≡ true
 
 -- the next step of the call is one of the transfer, after so many
 abbrev pub IsMoving : Sizes → Call → ℕ → Process → Type 0

@@ -12,6 +12,7 @@ mod opening;
 mod pass;
 mod pool;
 mod process;
+mod search;
 #[cfg(test)]
 mod tests;
 

@@ -1,13 +1,14 @@
 // The steps that a call makes of the pending transfer.
-ghost use Rattle.std.specs.Prelude.{◌≡◌, ◌≢◌, ◌+◌, ◌<◌, ◌≤◌, ◌^◌};
+ghost use Rattle.std.specs.Prelude.{◌≡◌, ◌≢◌, ◌+◌, ◌<◌, ◌≤◌, ◌^◌, true, Some};
 ghost use Rattle.word_layout.specs.Names.{table_words};
 ghost use Rattle.word_table.specs.Seats.{SameSeat};
 ghost use Rattle.transfer_machine.specs.declared.stage.NextStep.TheVariants.{Rest, Try};
 ghost use Rattle.pool_machine.specs.Pools.{CanCount, CanMeetPool};
+ghost use Rattle.pool_machine.specs.Steps.{is_paced};
 ghost use Rattle.pool_table.specs.Steps.{MayStep, OneStep};
 ghost use Rattle.pool_table.specs.declared.about.About.TheVariants.{InCall};
 ghost use Rattle.block_pool.specs.Running.{counted, beginning, CanGo, IsMoving, IsOwning};
-ghost use Rattle.block_pool.specs.Moves.{PoolMoved, MovedOne, MovedOn, AgesByOne, PlanRuns};
+ghost use Rattle.block_pool.specs.Moves.{PoolMoved, MovedOne, MovedOn, PlanRuns};
 
 use crate::process::Process;
 use pool_machine::{Call, PoolView};
@@ -20,7 +21,7 @@ use word_layout::{Reply, Shape, Tagged};
 /// A step of the pending transfer met this word; so many steps came before it in this call. The plan counts them all
 /// with the last step of the transfer. Answers whether this was the last.
 #[inline(always)]
-fn move_pool(pool: &mut PoolView, next: NextStep, made: u32, word: u64) -> bool
+pub(super) fn move_pool(pool: &mut PoolView, next: NextStep, made: u32, word: u64) -> bool
     requires busy { next ≢ Rest }
     requires few { made < pool.old.plan.quantum }
     requires small { made < 16 }
@@ -65,6 +66,7 @@ impl Process {
         requires next { next ≡ self.old.transfer.next }
         requires may { MayStep shape.now (InCall call) table.now self.old.seat steps.old }
         requires quantum { self.old.pool.plan.quantum ≡ shape.now.quantum }
+        requires paced { is_paced (Some call) ≡ true }
         requires moving { IsMoving shape.now call made self.old }
         ensures one { OneStep self.old.seat self.new.seat steps.old steps.new }
         ensures moved { MovedOne shape.now call made self.old result self.new }
@@ -95,6 +97,7 @@ impl Process {
     ) -> bool
         requires may { MayStep shape.now (InCall call) table.now self.old.seat steps.old }
         requires quantum { self.old.pool.plan.quantum ≡ shape.now.quantum }
+        requires paced { is_paced (Some call) ≡ true }
         requires moving { IsMoving shape.now call made self.old }
         ensures one { OneStep self.old.seat self.new.seat steps.old steps.new }
         ensures moved { MovedOne shape.now call made self.old result self.new }
@@ -134,6 +137,7 @@ impl Process {
         requires next { self.old.transfer.next ≡ Try second step }
         requires may { MayStep shape.now (InCall call) table.now self.old.seat steps.old }
         requires quantum { self.old.pool.plan.quantum ≡ shape.now.quantum }
+        requires paced { is_paced (Some call) ≡ true }
         requires moving { IsMoving shape.now call made self.old }
         ensures one { OneStep self.old.seat self.new.seat steps.old steps.new }
         ensures moved { MovedOne shape.now call made self.old result self.new }
@@ -189,6 +193,7 @@ impl Process {
         requires steps { steps.old + most < 2 ^ 64 }
         requires quantum { self.old.pool.plan.quantum ≡ shape.now.quantum }
         requires pending { self.old.pool.plan.pending ≢ Pending.Idle }
+        requires paced { is_paced (Some call) ≡ true }
         requires moving { IsMoving shape.now call 0 self.old }
         ensures seat { SameSeat self.old.seat self.new.seat }
         ensures steps { steps.new ≡ steps.old + result }
@@ -221,6 +226,7 @@ impl Process {
         requires words { table.now.words ≡ table_words shape.now }
         requires steps { steps.old + shape.now.quantum < 2 ^ 64 }
         requires quantum { self.old.pool.plan.quantum ≡ shape.now.quantum }
+        requires paced { is_paced (Some call) ≡ true }
         requires begun { CanGo shape.now call (beginning call self.old) self.old.seat.view }
         ensures seat { SameSeat self.old.seat self.new.seat }
         ensures steps { steps.new ≡ steps.old + result }

@@ -1,8 +1,9 @@
 // The own step of each call.
-ghost use Rattle.std.specs.Prelude.{◌≡◌};
+ghost use Rattle.std.specs.Prelude.{◌≡◌, true, Some};
 ghost use Rattle.transfer_schedule.specs.Numbers.{after_gave_one, source_of};
 ghost use Rattle.pool_machine.specs.OwnSteps.{allocate_action};
-ghost use Rattle.pool_machine.specs.declared.call.Call.TheVariants.{Allocate, Free, Read, Write};
+ghost use Rattle.call_invariant.specs.Phases.{is_getting};
+ghost use Rattle.pool_machine.specs.declared.call.Call.TheVariants.{Free, Read, Write};
 ghost use Rattle.pool_table.specs.Steps.{MayStep, OneStep, Stepped};
 ghost use Rattle.pool_table.specs.declared.about.About.TheVariants.{InCall};
 ghost use Rattle.block_pool.specs.Running.{IsOwning};
@@ -41,25 +42,33 @@ fn source_of(plan: &Plan) -> Source
 }
 
 impl Process {
-    /// The own step of an allocate: loads the next word of its block, which names the new head of the current list.
+    /// The own step of an allocate or of a search: loads the next word of its block, which names the new head of the current list.
     /// With no block it loads the state.
     #[inline(always)]
     pub fn own_allocate<L: Ledger>(
         &mut self,
         made: u32,
+        call: Call,
         shape: &Shape,
         table: &PoolTable,
         steps: &mut Steps<L>,
     ) -> Option<u32>
-        requires may { MayStep shape.now (InCall Allocate) table.now self.old.seat steps.old }
-        requires owning { IsOwning shape.now Allocate made self.old }
+        requires getting { is_getting (Some call) ≡ true }
+        requires may { MayStep shape.now (InCall call) table.now self.old.seat steps.old }
+        requires owning { IsOwning shape.now call made self.old }
         ensures one { OneStep self.old.seat self.new.seat steps.old steps.new }
-        ensures made { AllocateMade result self.old self.new }
+        ensures made { AllocateMade call result self.old self.new }
     {
         match source_of(&self.pool.plan) {
-            Source::Current => self.own_allocate_from(Source::Current, made, shape, table, steps),
-            Source::Spare => self.own_allocate_from(Source::Spare, made, shape, table, steps),
-            Source::Nothing => self.own_allocate_from(Source::Nothing, made, shape, table, steps),
+            Source::Current => {
+                self.own_allocate_from(Source::Current, made, call, shape, table, steps)
+            }
+            Source::Spare => {
+                self.own_allocate_from(Source::Spare, made, call, shape, table, steps)
+            }
+            Source::Nothing => {
+                self.own_allocate_from(Source::Nothing, made, call, shape, table, steps)
+            }
         }
     }
 
@@ -69,22 +78,22 @@ impl Process {
         &mut self,
         source: Source,
         made: u32,
+        call: Call,
         shape: &Shape,
         table: &PoolTable,
         steps: &mut Steps<L>,
     ) -> Option<u32>
         requires source { source ≡ source_of self.old.pool.plan }
-        requires may { MayStep shape.now (InCall Allocate) table.now self.old.seat steps.old }
-        requires owning { IsOwning shape.now Allocate made self.old }
+        requires getting { is_getting (Some call) ≡ true }
+        requires may { MayStep shape.now (InCall call) table.now self.old.seat steps.old }
+        requires owning { IsOwning shape.now call made self.old }
         ensures one { OneStep self.old.seat self.new.seat steps.old steps.new }
-        ensures made { AllocateMade result self.old self.new }
+        ensures made { AllocateMade call result self.old self.new }
     {
         let _ = made;
         self.pool.plan.took_one();
         let block = first_block(&self.pool, shape, source);
-        let about = About::InCall {
-            call: Call::Allocate,
-        };
+        let about = About::InCall { call };
         let action = allocate_action(block);
         let word = act(&about, action, shape, table, &mut self.seat, steps);
         take_head(&mut self.pool, shape, source, word);

@@ -35,7 +35,7 @@ impl Process {
     {
         self.begin();
         let made = self.run_pending(Call::Allocate, shape, table, steps);
-        self.own_allocate(made, shape, table, steps)
+        self.own_allocate(made, Call::Allocate, shape, table, steps)
     }
 
     /// A free, likewise.

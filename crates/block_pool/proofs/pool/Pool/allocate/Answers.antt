@@ -19,7 +19,7 @@ returns-in-Some-clause-legal g c =
 pub returns-in-Some-clause-free : goal.returns-in-Some-clause-free
 returns-in-Some-clause-free g c =
     let (called, none) = c.in-Some.ensures.called in
-    rw (← c.pass.view_is) (free_so _ _ _ c.pass.inside.process c.allocate.new.self c.allocate.ensures.seat c.allocate.ensures.between
+    rw (← c.pass.view_is) (free_so _ _ _ _ c.pass.inside.process c.allocate.new.self c.allocate.ensures.seat c.allocate.ensures.between
     called.made)
 
 pub returns-in-Some-clause-plan : goal.returns-in-Some-clause-plan

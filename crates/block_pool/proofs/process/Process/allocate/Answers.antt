@@ -1,4 +1,5 @@
-use Rattle.std.proofs.Common.{ap, subst, arith}
+use Rattle.std.proofs.Common.{refl, ap, subst, arith}
+use Rattle.pool_machine.specs.declared.call.Call.TheVariants.{Allocate}
 use Rattle.block_pool.specs.Moves.{MovedOn, PlanRuns}
 use Rattle.block_pool.proofs.Calls.{due_begins, begun_plan, begun_age, begun_quantum, number_is, call_made, allocate_entries}
 use Rattle.block_pool.proofs.process.Process.allocate.Goals as goal
@@ -18,8 +19,8 @@ returns-clause-called g c =
     let allocated = c.own_allocate.ensures.made in
     let own = allocated.made in
     let moved = subst (λ s. MovedOn s.view ran.result r.seat.view) c.begin.ensures.seat ran.ensures.moved in
-    let number = number_is _ _ _ own.word x.seat.view r _ ran.ensures.owning own.stepped moved in
-    let entries = allocate_entries _ own.word _ r number allocated.block in
+    let number = number_is _ _ _ _ own.word x.seat.view r _ ran.ensures.owning own.stepped moved in
+    let entries = allocate_entries Allocate _ own.word _ r refl number allocated.block in
     let plan = begun_plan x c.begin.new.self c.begin.ensures.pool in
     let age = ran.ensures.age in
     let same = ap (λ t. t.age) own.transfer in
@@ -28,7 +29,7 @@ returns-clause-called g c =
         moved = ran.result;
         few = ran.ensures.few;
         steps = omega (arith, ran.ensures.steps, c.own_allocate.ensures.one.tick);
-        made = call_made _ _ _ _ x.seat.view r _ ran.ensures.owning moved own entries;
+        made = call_made _ _ _ _ _ x.seat.view r _ ran.ensures.owning moved own entries;
         ran = r.pool.plan;
         runs = subst (λ p. PlanRuns c.args.shape.now.quantum p ran.result r.pool.plan) plan ran.ensures.plan;
         own = allocated.plan;

@@ -1,7 +1,7 @@
 use Rattle.std.proofs.Common.{◌≡◌, ◌+◌, ◌≤◌}
 use Rattle.word_table.specs.Seats.{SameSeat}
 use Rattle.block_pool.specs.Running.{IsRunning}
-use Rattle.block_pool.specs.Moves.{MovedOn, AgesByOne}
+use Rattle.block_pool.specs.Moves.{MovedOn, AgesWithin}
 use Rattle.block_pool.proofs.process.Process.move_on.Given as goal
 
 abbrev pub invariant-loop-made : goal.invariant-loop-made
@@ -12,5 +12,5 @@ invariant-loop-made g l = record {
   moved : MovedOn l.fn.self.seat.view l.made l.self.seat.view;
   plan : l.self.pool.plan ≡ l.fn.self.pool.plan;
   within : 1 ≤ l.made → l.fn.self.pool.plan.done + l.made ≤ l.fn.self.pool.plan.bound;
-  age : AgesByOne l.fn.self.transfer l.self.transfer;
+  age : AgesWithin (l.fn.self.transfer.age + 1) l.self.transfer;
 }

@@ -13,11 +13,11 @@ move_pool-requires-clause-busy g c = λ e. (can_move _ _ _ c.args.self.now c.req
 
 pub move_pool-requires-clause-few : goal.move_pool-requires-clause-few
 move_pool-requires-clause-few g c =
-    let few = (can_move _ _ _ c.args.self.now c.requires.moving).left.few c.requires.moving.paced in omega (arith, few, c.requires.quantum)
+    let few = (can_move _ _ _ c.args.self.now c.requires.moving).left.few c.requires.paced in omega (arith, few, c.requires.quantum)
 
 pub move_pool-requires-clause-small : goal.move_pool-requires-clause-small
 move_pool-requires-clause-small g c =
-    let few = (can_move _ _ _ c.args.self.now c.requires.moving).left.few c.requires.moving.paced in omega arith
+    let few = (can_move _ _ _ c.args.self.now c.requires.moving).left.few c.requires.paced in omega arith
 
 pub move_pool-requires-clause-count : goal.move_pool-requires-clause-count
 move_pool-requires-clause-count g c = (can_move _ _ _ c.args.self.now c.requires.moving).go.count
