@@ -9,4 +9,6 @@ meet-requires-clause-meet c =
     subst (CanMeet c.args.shape.now c.args.view.now.transfer) (sym (c.act-word.ensures.met ∙ ap (met_word c.args.shape.now c.args.words.now) c.action-action.ensures.action)) c.requires.can.meet
 
 pub returns-clause-view : goal.returns-clause-view
-returns-clause-view c = c.meet.ensures ∙ ap (view_met c.args.shape.now c.args.view.now) (c.act-word.ensures.met ∙ ap (met_word c.args.shape.now c.args.words.now) c.action-action.ensures.action)
+returns-clause-view c =
+    c.meet.ensures ∙ ap (view_met c.args.shape.now c.args.view.now)
+    (c.act-word.ensures.met ∙ ap (met_word c.args.shape.now c.args.words.now) c.action-action.ensures.action)
