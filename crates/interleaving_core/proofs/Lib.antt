@@ -42,6 +42,8 @@ pub mod CallLawsData
 pub mod MovingBegins
 pub mod MovingAnswers
 pub mod Labels
+pub mod TurnLaws
+pub mod MovesEnd
 pub mod DataSteps
 pub mod Due
 pub mod Conditions
