@@ -43,6 +43,7 @@ pub mod MovingBegins
 pub mod MovingAnswers
 pub mod Labels
 pub mod TurnLaws
+pub mod KeptFollows
 pub mod MovesEnd
 pub mod DataSteps
 pub mod Due

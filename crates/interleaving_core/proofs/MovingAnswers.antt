@@ -26,7 +26,8 @@ use Rattle.pool_machine.specs.declared.answer.OwnAnswer.{OwnAnswer}
 use Rattle.pool_machine.specs.declared.answer.OwnAnswer.TheVariants as answer
 use Rattle.interleaving_core.specs.CallLaws.{left_at, steps_left, is_within}
 use Rattle.interleaving_core.specs.Moves.{CoreState, view_at}
-use Rattle.interleaving_core.specs.MovingLaws.{is_event_of, events_of, answers_call, is_answered, CallsAreAnswered}
+use Rattle.interleaving_core.specs.MovingLaws.{is_event_of, events_of, is_answered, CallsAreAnswered}
+use Rattle.interleaving_core.specs.CallLaws.{answers_call}
 use Rattle.interleaving_core.specs.Runs.{Turn, Moves, Events, IsRun, turns, is_made, turning_view, after_turn, turn_answer}
 use Rattle.interleaving_core.specs.Steps.{is_in_call, next_action}
 use Rattle.pool_machine.specs.Steps.{is_paced, stage_after}

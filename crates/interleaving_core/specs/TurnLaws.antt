@@ -17,7 +17,7 @@ use Rattle.pool_machine.specs.declared.event.Happened.{Happened}
 use Rattle.pool_machine.specs.declared.event.Happened.TheVariants.{Ended, Loaded, Stored, Ignored}
 use Rattle.pool_machine.specs.declared.view.ProcessView.{ProcessView}
 use Rattle.interleaving_core.specs.CallLaws.{EveryRun, is_within}
-use Rattle.interleaving_core.specs.MovingLaws.{answers_call}
+use Rattle.interleaving_core.specs.CallLaws.{answers_call}
 use Rattle.interleaving_core.specs.Moves.{CoreState, view_at, holders_after}
 use Rattle.interleaving_core.specs.Runs.{Turn, Moves, Events, by_of, is_made, after_turn, turn_answer}
 use Rattle.interleaving_core.specs.Steps.{is_in_call, next_action, next_met, next_answer}
