@@ -6,7 +6,7 @@ use Rattle.std.proofs.lemmas.Bool.Decides.{nat_tests}
 use Rattle.process_sums.proofs.Sums.{total_moved, total_at_most}
 use Rattle.word_layout.specs.Sizes.{Sizes}
 use Rattle.word_layout.specs.Packing.{tag_limit, most_age}
-use Rattle.word_layout.proofs.Ages.{ages_fit}
+use Rattle.word_layout.proofs.Ages.{most_age_has_tags}
 use Rattle.transfer_machine.specs.Loads.{loaded_tag}
 use Rattle.transfer_machine.specs.Machine.{try_ended, installed}
 use Rattle.transfer_machine.specs.declared.transfer.TransferView.{TransferView}
@@ -154,4 +154,4 @@ few_tags sizes words views some h ages =
     let each = λ (o : ℕ) (lo : o < sizes.processes). installs_few (views o) (most_age sizes) (ages o lo) in
     let most = total_at_most (most_age sizes) sizes.processes (λ i. installs (views i)) each in
     let count = h.count in
-    omega (arith, ages_fit sizes some)
+    omega (arith, most_age_has_tags sizes some)
