@@ -3,6 +3,7 @@ mod calls;
 mod ignored;
 mod moves;
 mod random_events;
+mod searches;
 mod steps;
 
 use crate::{Call, CoreRun, Event, Happened};
