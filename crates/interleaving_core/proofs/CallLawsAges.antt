@@ -16,7 +16,6 @@ use Rattle.pool_machine.specs.declared.call.Way.TheVariants.{Calls}
 use Rattle.pool_machine.specs.declared.view.ProcessView.{ProcessView}
 use Rattle.transfer_machine.specs.declared.stage.NextStep.{NextStep}
 use Rattle.transfer_machine.specs.declared.stage.NextStep.TheVariants.{Rest}
-use Rattle.pool_machine.specs.Beginning.{call_begun}
 use Rattle.pool_machine.specs.Conditions.{may_use_transfers}
 use Rattle.pool_machine.specs.Steps.{call_met_at}
 use Rattle.pool_machine.specs.declared.event.Happened.{Happened}

@@ -1,14 +1,12 @@
 -- the answer of a call changes what its own process keeps, as much as what is held, and what no other does
-use Rattle.std.proofs.Common.{◌≡◌, ◌≢◌, ℕ, ◌+◌, ◌*◌, ◌<◌, Bool, true, false, List, [], ◌∷◌, ◌++◌, length, refl, sym, ap, ◌∙◌, subst, arith}
+use Rattle.std.proofs.Common.{◌≡◌, ◌≢◌, ℕ, ◌+◌, ◌*◌, ◌<◌, Bool, true, false, List, length, refl, sym, ap, ◌∙◌, subst, arith}
 use Rattle.std.specs.Prelude.{if◌then◌else◌}
 use Rattle.std.proofs.lemmas.Bool.{false≢true}
-use Rattle.word_layout.specs.Sizes.{Sizes, blocks}
+use Rattle.word_layout.specs.Sizes.{Sizes}
 use Rattle.word_layout.specs.Names.{word_at}
 use Rattle.word_layout.specs.declared.name.WordName.TheVariants.{Announcement}
-use Rattle.process_sums.specs.Sums.{total}
 use Rattle.process_sums.proofs.Sums.{total_moved}
 use Rattle.pool_model.specs.declared.entry.Entry.{Entry}
-use Rattle.pool_model.specs.History.{held}
 use Rattle.transfer_machine.specs.Tries.{is_pending}
 use Rattle.transfer_machine.specs.Words.{acted, met_word, stack}
 use Rattle.transfer_machine.specs.declared.action.Action.{Action}
@@ -16,14 +14,14 @@ use Rattle.pool_machine.specs.declared.call.CallStage.{CallStage}
 use Rattle.pool_machine.specs.declared.call.CallStage.TheVariants.{Between, Choosing, Moving, Own}
 use Rattle.pool_machine.specs.declared.view.ProcessView.{ProcessView}
 use Rattle.transfer_invariant.specs.Memory.{Acted}
-use Rattle.interleaving_core.specs.CallLaws.{answers_call, MovesBlocks, KeptFollowsCalls}
+use Rattle.interleaving_core.specs.CallLaws.{answers_call, KeptFollowsCalls}
 use Rattle.interleaving_core.specs.Kept.{kept, reply_value_at, announced_batches, given_batches}
 use Rattle.word_layout.specs.Packing.{reply_of}
 use Rattle.transfer_invariant.specs.Progress.{has_announced, has_only_begun}
 use Rattle.interleaving_core.specs.Moves.{CoreState, view_at, with_step}
-use Rattle.interleaving_core.specs.Runs.{IsRun, turns, Turn, by_of, is_made, turning_view, after_turn, turn_answer, entries_of}
+use Rattle.interleaving_core.specs.Runs.{turns, Turn, by_of, is_made, turning_view, after_turn, turn_answer}
 use Rattle.interleaving_core.specs.Steps.{is_alone, next_action, next_answer}
-use Rattle.interleaving_core.specs.TransferLaws.{content_of, moves_transfer, LeavesContent}
+use Rattle.interleaving_core.specs.TransferLaws.{content_of, moves_transfer}
 use Rattle.interleaving_core.proofs.OwnParts.{own_leaves_stack}
 use Rattle.interleaving_core.proofs.Runs.{RunFits, run_fits, turn_low, turn_busy}
 use Rattle.interleaving_core.proofs.RunTurns.{run_sizes, turn_sizes}

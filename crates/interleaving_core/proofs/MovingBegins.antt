@@ -22,7 +22,6 @@ use Rattle.pool_machine.specs.Beginning.{newest}
 use Rattle.pool_machine.specs.Conditions.{may_use_calls, may_use_transfers, IsYoungFor, is_young_for, names_fit}
 use Rattle.interleaving_core.specs.Moves.{CoreState, view_at, holder_of, is_holder, holds_for, may_wish}
 use Rattle.interleaving_core.specs.Runs.{Moves, Events, is_made}
-use Rattle.interleaving_core.specs.Steps.{is_in_call}
 use Rattle.interleaving_core.specs.MovingLaws as laws
 use Rattle.interleaving_core.specs.MovingLaws.{StandsBetween, StandsAtRest}
 use Rattle.interleaving_core.proofs.Joins.{keeps}

@@ -32,7 +32,7 @@ steps_at calls Own = calls.steps
 
 -- a process that holds these blocks makes steps of a transfer in this call
 pub record MovesInCall (sizes : Sizes) (held : List ℕ) (call : Call) (v : ProcessView) : Type 0 where
-  -- the call is an allocate or a free
+  -- the call is an allocate, a free or a search
   pub changes : changes_pool (Some call) ≡ true
   -- the process has begun no transfer alone, and may make the step: so it holds the block that the call names
   pub way : may_use_calls v.calls.way ≡ true

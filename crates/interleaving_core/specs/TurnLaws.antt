@@ -16,6 +16,8 @@ use Rattle.pool_machine.specs.declared.call.Way.TheVariants.{Alone}
 use Rattle.pool_machine.specs.declared.event.Happened.{Happened}
 use Rattle.pool_machine.specs.declared.event.Happened.TheVariants.{Ended, Loaded, Stored, Ignored}
 use Rattle.pool_machine.specs.declared.view.ProcessView.{ProcessView}
+use Rattle.pool_machine.specs.Laws.{most_moves}
+use Rattle.interleaving_core.specs.MovingLaws.{events_of}
 use Rattle.interleaving_core.specs.CallLaws.{EveryRun, is_within}
 use Rattle.interleaving_core.specs.CallLaws.{answers_call}
 use Rattle.interleaving_core.specs.Moves.{CoreState, view_at, holders_after}
@@ -62,6 +64,20 @@ CallsStay = EveryRun (λ sizes history s. (turn : Turn) (call : Call) → by_of 
     → is_within (view_at s (by_of turn)).calls.stage ≡ true
     → (view_at s (by_of turn)).calls.call ≡ Some call
     → MakesCall call (by_of turn) (turn_answer turn s) (view_at (after_turn turn s) (by_of turn)))
+
+-- in these turns, made from that state on, process i goes on with this call until one of its turns answers it
+unfoldable pub IsAnsweredAs : Call → ℕ → List Turn → CoreState → Type 0
+IsAnsweredAs call i [] s = ⊥
+IsAnsweredAs call i (turn ∷ more) s =
+    (by_of turn ≡ i) × HasEnded call i (turn_answer turn s) (view_at (after_turn turn s) i)
+    ⊎ (by_of turn ≡ i → GoesOn call (turn_answer turn s) (view_at (after_turn turn s) i)) × IsAnsweredAs call i more (after_turn turn s)
+
+-- so a call is answered as it was asked for, in any turns that have enough of its process's: one more than its most steps of a transfer
+abbrev pub CallsAreAnsweredAsAsked : Type 0
+CallsAreAnsweredAsAsked = EveryRun (λ sizes history s. (i : ℕ) (call : Call) (more : List Turn) → (view_at s i).calls.stage ≡ Between
+    → is_made (Events i call) s ≡ true
+    → most_moves sizes call + 1 ≤ events_of i (Events i call ∷ more)
+    → IsAnsweredAs call i (Events i call ∷ more) s)
 
 -- process i is in a transfer alone with this wish, which its announcement tells
 pub record HasBegunAlone (wish : Wish) (i : ℕ) (s : CoreState) : Type 0 where
