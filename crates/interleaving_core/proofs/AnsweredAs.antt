@@ -7,7 +7,7 @@ use Rattle.word_layout.specs.Sizes.{Sizes}
 use Rattle.pool_model.specs.declared.entry.Entry.{Entry}
 use Rattle.pool_machine.specs.declared.call.Call.{Call}
 use Rattle.pool_machine.specs.declared.view.ProcessView.{ProcessView}
-use Rattle.interleaving_core.specs.CallLaws.{answers_call, is_within}
+use Rattle.interleaving_core.specs.CallLaws.{answers_call, is_in_call}
 use Rattle.interleaving_core.specs.MovingLaws.{is_event_of, is_answered}
 use Rattle.interleaving_core.specs.Moves.{CoreState, view_at}
 use Rattle.interleaving_core.specs.Runs.{IsRun, turns, Turn, Moves, Events, by_of, after_turn, turn_answer}
@@ -57,7 +57,7 @@ answered_later call i turn more s goes later = inr (goes, later)
 -- in these turns a process in the middle of this call, which answer one, has this one answered
 abbrev AnswersAs : Sizes → Call → ℕ → List Turn → Type 0
 AnswersAs sizes call i more =
-    (past : List Turn) (history : List Entry) (s : CoreState) → IsRun sizes past history s → is_within (view_at s i).calls.stage ≡ true
+    (past : List Turn) (history : List Entry) (s : CoreState) → IsRun sizes past history s → is_in_call (view_at s i).calls.stage ≡ true
     → (view_at s i).calls.call ≡ Some call → is_answered i more s ≡ true → IsAnsweredAs call i more s
 
 one_makes : (sizes : Sizes) (call : Call) (i : ℕ) (turn : Turn) (more : List Turn) → AnswersAs sizes call i more → (past : List Turn)
@@ -72,11 +72,12 @@ one_makes sizes call i turn more later past history s run own makes answers = el
   | inr ended ↦ answered_now call i turn more s own ended
 ]
 
-stays_as : (sizes : Sizes) (past : List Turn) (history : List Entry) (s : CoreState) → IsRun sizes past history s → (turn : Turn) (call : Call)
-    (i : ℕ) → by_of turn ≡ i → i < sizes.processes → is_within (view_at s i).calls.stage ≡ true → (view_at s i).calls.call ≡ Some call
+stays_as : (sizes : Sizes) (past : List Turn) (history : List Entry) (s : CoreState) → IsRun sizes past history s
+    → (turn : Turn) (call : Call)
+    (i : ℕ) → by_of turn ≡ i → i < sizes.processes → is_in_call (view_at s i).calls.stage ≡ true → (view_at s i).calls.call ≡ Some call
     → MakesCall call i (turn_answer turn s) (view_at (after_turn turn s) i)
 stays_as sizes past history s run turn call i own =
-    subst (λ (o : ℕ). o < sizes.processes → is_within (view_at s o).calls.stage ≡ true → (view_at s o).calls.call ≡ Some call
+    subst (λ (o : ℕ). o < sizes.processes → is_in_call (view_at s o).calls.stage ≡ true → (view_at s o).calls.call ≡ Some call
     → MakesCall call o (turn_answer turn s) (view_at (after_turn turn s) o)) own (calls_stay sizes past history s run turn call)
 
 inside_as : (sizes : Sizes) (call : Call) (i : ℕ) (more : List Turn) → i < sizes.processes → AnswersAs sizes call i more
@@ -89,7 +90,7 @@ inside_as sizes call i (turn ∷ more) li past history s run within same answers
       let view : view_at (after_turn turn s) i ≡ view_at s i = others_leave s turn i (λ e. ne (sym e)) in
       answered_later call i turn more s (λ e. absurd (ne e))
       (inside_as sizes call i more li _ _ (after_turn turn s) (turns past history s turn run)
-      (ap (λ (v : ProcessView). is_within v.calls.stage) view ∙ within) (ap (λ (v : ProcessView). v.calls.call) view ∙ same)
+      (ap (λ (v : ProcessView). is_in_call v.calls.stage) view ∙ within) (ap (λ (v : ProcessView). v.calls.call) view ∙ same)
       (later_answers i turn more s
       (first_off (is_event_of i turn) (answers_call (turn_answer turn s)) (isnt_its i turn ne)) answers))
 ]

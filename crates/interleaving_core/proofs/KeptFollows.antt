@@ -56,7 +56,8 @@ answer_owns s turn made answers =
     let v = turning_view turn s in
     let word = met_word s.sizes s.words (next_action s.sizes v) in
     let told : answers_call (next_answer v word) ≡ true = rw made at answers in
-    isnt_true (moves_transfer v) (λ moves. false≢true (sym (moves_silent v word (is_alone v.calls.way) v.calls.stage refl refl moves) ∙ told))
+    isnt_true (moves_transfer v) (λ moves. false≢true (sym (moves_silent v word (is_alone v.calls.way) v.calls.stage refl refl moves)
+    ∙ told))
 
 -- what the others keep
 announcement_stays : (s : CoreState) (history : List Entry) (turn : Turn) (o : ℕ) → RunFits s history → is_made turn s ≡ true
@@ -85,14 +86,16 @@ others_keep : (s : CoreState) (history : List Entry) (turn : Turn) (o : ℕ) →
     → kept (with_step (by_of turn) (turning_view turn s) s) o ≡ kept s o
 others_keep s history turn o fits made own lo ne =
     let after = with_step (by_of turn) (turning_view turn s) s in
-    same_kept s.sizes (view_at after o) (view_at s o) (word_at s.sizes s.words (Announcement o)) (word_at s.sizes after.words (Announcement o))
+    same_kept s.sizes (view_at after o) (view_at s o) (word_at s.sizes s.words (Announcement o))
+    (word_at s.sizes after.words (Announcement o))
     (reply_value_at s.sizes s.words o) (reply_value_at s.sizes after.words o)
     (other_view s turn o true (λ e. ne (sym e)))
     (announcement_stays s history turn o fits made own lo)
     ((own_step_leaves s history turn fits made own).replies o lo)
 
 -- so what its own process keeps changes as what is held
-moved : (all now old mine_kept mine_kept_now mine mine_now stack stack_now : ℕ) → now + mine_now + stack_now ≡ all → old + mine + stack ≡ all
+moved : (all now old mine_kept mine_kept_now mine mine_now stack stack_now : ℕ) → now + mine_now + stack_now ≡ all
+    → old + mine + stack ≡ all
     → stack_now ≡ stack → now + mine_kept ≡ old + mine_kept_now → mine_kept_now + mine_now ≡ mine_kept + mine
 moved all now old mine_kept mine_kept_now mine mine_now stack stack_now first second same sums = omega (arith, first, second, same, sums)
 
@@ -126,7 +129,8 @@ kept_follows_calls sizes past history s run turn answers =
     let second = all_are_counted sizes past history s run in
     let li = low_of sizes s i same (turn_low s turn made) in
     record {
-      own = moved _ _ _ _ _ _ _ _ _ first second (ap (λ (heads : List ℕ). sizes.length * length heads) (stack_same sizes s turn same content))
+      own =
+          moved _ _ _ _ _ _ _ _ _ first second (ap (λ (heads : List ℕ). sizes.length * length heads) (stack_same sizes s turn same content))
           (total_moved sizes.processes i (kept s) (kept (after_turn turn s)) li (λ o lo ne. others o (low_as sizes s o same lo) ne));
       others = others;
     }

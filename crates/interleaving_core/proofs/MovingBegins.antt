@@ -111,7 +111,9 @@ transfer_begins : (s : CoreState) (i : ℕ) (wish : Wish) → StandsAtRest s.siz
     → is_made (Moves i wish) s ≡ true
 transfer_begins s i wish stands may =
     let v = view_at s i in
-    let young = both_are (nat_lt v.transfer.age (most_age s.sizes)) (may_wish wish v.pool) (is_less v.transfer.age (most_age s.sizes) stands.young) may in
+    let young =
+    both_are (nat_lt v.transfer.age (most_age s.sizes)) (may_wish wish v.pool)
+    (is_less v.transfer.age (most_age s.sizes) stands.young) may in
     let first = second_is (not (is_rest v.transfer.next)) _ young in
     both_are (nat_lt i s.sizes.processes) _ (is_less i s.sizes.processes stands.low)
     (both_are (may_use_transfers v.calls.way) _ (uses_transfers v.calls.way stands.way) first)
