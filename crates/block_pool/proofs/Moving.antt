@@ -27,7 +27,7 @@ use Rattle.pool_invariant.proofs.Moved.{step_stays}
 use Rattle.interleaving_core.specs.Invariant.{BlockIsHeld}
 use Rattle.interleaving_core.specs.Moves.{may_go, calling_view}
 use Rattle.interleaving_core.specs.Runs.{entries_of}
-use Rattle.interleaving_core.specs.Steps.{is_in_call, next_answer, next_met}
+use Rattle.interleaving_core.specs.Steps.{is_at_step, next_answer, next_met}
 use Rattle.pool_table.specs.declared.about.About.TheVariants.{InCall}
 use Rattle.pool_table.specs.Minds.{KnownWord, entries_in, held_in}
 use Rattle.pool_table.specs.Turns.{words_known_after}
@@ -91,10 +91,10 @@ runs_owning sizes most n call x plan e is go =
     subst (λ w. CanGo sizes call w x.seat.view) same go
 
 -- a process that is in its call may go on with it
-inside_may : (sizes : Sizes) (call : Call) (v : ProcessView) → is_in_call v.calls.stage ≡ true → may_go sizes true call v ≡ true
+inside_may : (sizes : Sizes) (call : Call) (v : ProcessView) → is_at_step v.calls.stage ≡ true → may_go sizes true call v ≡ true
 inside_may sizes call v e = rw e refl
 
-inside_view : (call : Call) (v : ProcessView) → is_in_call v.calls.stage ≡ true → calling_view call v ≡ v
+inside_view : (call : Call) (v : ProcessView) → is_at_step v.calls.stage ≡ true → calling_view call v ≡ v
 inside_view call v e = rw e refl
 
 -- a step that makes no entry leaves the entries
@@ -106,11 +106,11 @@ no_entries sizes call u word v x go s none =
 
 -- and so does one that leaves its process in its call, which goes on
 pub goes_on : (sizes : Sizes) (call : Call) (u w : ProcessView) (word : ℕ) (v x : SeatView) → CanGo sizes call u v
-    → Stepped (InCall call) v word x → entries_of (next_answer u word) ≡ [] → next_met sizes u word ≡ w → is_in_call w.calls.stage ≡ true
+    → Stepped (InCall call) v word x → entries_of (next_answer u word) ≡ [] → next_met sizes u word ≡ w → is_at_step w.calls.stage ≡ true
     → CanGo sizes call w x
 goes_on sizes call u w word v x go s none is inside =
     let view : x.mind.view ≡ w = becomes sizes call u v x word go s ∙ is in
-    let stage : is_in_call x.mind.view.calls.stage ≡ true = ap (λ z. is_in_call z.calls.stage) view ∙ inside in
+    let stage : is_at_step x.mind.view.calls.stage ≡ true = ap (λ z. is_at_step z.calls.stage) view ∙ inside in
     let held : BlockIsHeld (held_in x.mind) call =
     subst (λ l. BlockIsHeld (grip l) call) (sym (no_entries sizes call u word v x go s none)) go.can.may.1 in
     record {
@@ -160,7 +160,7 @@ moved_view sizes call n x y ended paced go m =
     ∙ (ap (λ z. view_moved sizes.quantum call (n + 1) ended z pool) (sym m.transfer)
     ∙ ap (view_moved sizes.quantum call (n + 1) ended y.transfer) (sym m.pool.pool)))
 
-in_call_moved : (t : Bool) → is_in_call (if t then Own else Moving) ≡ true
+in_call_moved : (t : Bool) → is_at_step (if t then Own else Moving) ≡ true
 in_call_moved true = refl
 in_call_moved false = refl
 

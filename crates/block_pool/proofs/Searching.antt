@@ -42,7 +42,7 @@ use Rattle.call_invariant.proofs.Uses.{calls_used}
 use Rattle.interleaving_core.specs.Moves.{may_go, may_start_at, started_at}
 use Rattle.interleaving_core.specs.Runs.{entries_of}
 use Rattle.interleaving_core.specs.StepLaws.{word_met, StepIsDue}
-use Rattle.interleaving_core.specs.Steps.{is_in_call, next_answer, next_met}
+use Rattle.interleaving_core.specs.Steps.{is_at_step, next_answer, next_met}
 use Rattle.pool_table.specs.declared.about.About.TheVariants.{InCall}
 use Rattle.pool_table.specs.Minds.{number_of}
 use Rattle.pool_table.specs.Rule.{views_of}
@@ -180,14 +180,14 @@ at_choice sizes x y word go s is =
     let v = y.seat.view.mind.view in
     let view : v ≡ seeking_at Choosing false y.transfer y.pool = becomes sizes Search (seeking false x) x.seat.view y.seat.view word go s ∙ is in
     let stage : v.calls.stage ≡ Choosing = ap (λ (z : ProcessView). z.calls.stage) view in
-    let may : may_go sizes true Search v ≡ true = ap (λ k. is_in_call k || may_start_at k sizes true Search v) stage in
+    let may : may_go sizes true Search v ≡ true = ap (λ k. is_at_step k || may_start_at k sizes true Search v) stage in
     record {
       transfer = ap (λ (z : ProcessView). z.transfer) view;
       pool = ap (λ (z : ProcessView). z.pool) view;
       go = record {
         can = call_can_step sizes Search y.seat.view (ap (λ (z : SeatView). z.of_process) s.stays ∙ go.can.of_process)
             (ap (λ (z : SeatView). z.sizes) s.stays ∙ go.can.shape) s.among may tt;
-        view = ap (λ k. if is_in_call k then v else started_at k Search v) stage;
+        view = ap (λ k. if is_at_step k then v else started_at k Search v) stage;
       };
     }
 

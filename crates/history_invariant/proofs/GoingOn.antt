@@ -7,10 +7,12 @@ use Rattle.pool_model.specs.declared.entry.Entry.{Entry}
 use Rattle.pool_model.specs.Limits.{Limits}
 use Rattle.pool_model.specs.History.{own}
 use Rattle.transfer_schedule.specs.declared.pending.Pending.TheVariants.{Taking, Giving}
-use Rattle.transfer_schedule.specs.Numbers.{Numbers, AreSizes, is_idle, is_taking, is_giving, after_begin, after_choice, after_steps, after_end}
+use Rattle.transfer_schedule.specs.Numbers.{Numbers, AreSizes, is_idle, is_taking, is_giving, after_begin, after_choice, after_steps}
+use Rattle.transfer_schedule.specs.Numbers.{after_end}
 use Rattle.transfer_schedule.specs.Numbers.{after_shelved}
-use Rattle.transfer_schedule.specs.Account.{CallPhase, Account, Between, Moving, Own, Seeking, Sought, Leaving, Clearing, Shedding, Returning}
-use Rattle.transfer_schedule.specs.Account.{moves_in, sought_by, after_seek, Follows, begins, continues, idles, moves, ends}
+use Rattle.transfer_schedule.specs.Account.{CallPhase, Account, Moving, Own, Seeking, Sought, Leaving, Clearing, Shedding}
+use Rattle.transfer_schedule.specs.Account.{Returning}
+use Rattle.transfer_schedule.specs.Account.{moves_in, sought_by, Follows, begins, continues, idles, moves, ends}
 use Rattle.transfer_schedule.specs.Account.{gets, refuses, frees, meets, seeks, quits, clears, gives, shelves, retires, enlists, retakes}
 use Rattle.transfer_schedule.specs.Account.{Reached, follows}
 use Rattle.transfer_schedule.proofs.Reaching.{reached_stands, stands_begun}

@@ -41,7 +41,7 @@ pub refusal_may_follow : (limits : Limits) (bound quantum : ℕ) (history : List
 refusal_may_follow limits bound quantum history i ledger sizes lt f phase none =
     let stands = reached_stands limits.batch_length bound quantum ledger.account sizes f.reached in
     let soon : FoundNothing (2 * ledger.account.plan.length - 2) ledger.account =
-        stands_refused ledger.account stands ledger.account.phase refl phase none in
+    stands_refused ledger.account stands ledger.account.phase refl phase none in
     let same = (reached_sizes limits.batch_length bound quantum ledger.account f.reached).0 in
     let few = f.found.dry soon.dry in
     let all : length (own history i) ≡ ledger.account.entries = ap length f.sees.own_entries ∙ sym f.counts.entries in (

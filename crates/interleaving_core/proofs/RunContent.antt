@@ -32,7 +32,7 @@ use Rattle.interleaving_core.specs.Invariant.{Ghosts, Holds}
 use Rattle.interleaving_core.specs.Moves.{CoreState, view_at, with_step, started_at, started}
 use Rattle.transfer_schedule.specs.Numbers.{is_idle}
 use Rattle.interleaving_core.specs.Runs.{Turn, Moves, Events, by_of, is_made, turning_view}
-use Rattle.interleaving_core.specs.Steps.{is_alone, is_busy, is_in_call, next_action, next_met}
+use Rattle.interleaving_core.specs.Steps.{is_alone, is_busy, is_at_step, next_action, next_met}
 use Rattle.interleaving_core.specs.TransferLaws.{next_step, announced_count, moves_transfer, ShowsState, LeavesContent, AppliesPending}
 use Rattle.interleaving_core.specs.TransferLaws.{IsExchange, ContentMoves}
 use Rattle.interleaving_core.proofs.Holds.{step_allowed}
@@ -79,7 +79,7 @@ calling_exchanges call v false at = started_exchanges call v v.calls.stage at
 
 turning_exchanges : (turn : Turn) (s : CoreState) → IsExchange (turning_view turn s).transfer.next → IsExchange (next_step s (by_of turn))
 turning_exchanges (Moves by wish) s at = moving_exchanges wish (view_at s by) (is_rest (view_at s by).transfer.next) at
-turning_exchanges (Events by call) s at = calling_exchanges call (view_at s by) (is_in_call (view_at s by).calls.stage) at
+turning_exchanges (Events by call) s at = calling_exchanges call (view_at s by) (is_at_step (view_at s by).calls.stage) at
 
 due_age : (wish : Option Wish) (v : ProcessView) → (begun_if_due wish v).transfer.age ≡ v.transfer.age
 due_age None v = refl
@@ -112,7 +112,7 @@ calling_age call v false = started_age call v v.calls.stage
 
 turning_age : (turn : Turn) (s : CoreState) → (turning_view turn s).transfer.age ≡ announced_count s (by_of turn)
 turning_age (Moves by wish) s = moving_age wish (view_at s by) (is_rest (view_at s by).transfer.next)
-turning_age (Events by call) s = calling_age call (view_at s by) (is_in_call (view_at s by).calls.stage)
+turning_age (Events by call) s = calling_age call (view_at s by) (is_at_step (view_at s by).calls.stage)
 
 ages_of : (sizes : Sizes) (xs : List ProcessView) (i : ℕ) (v : ProcessView) → i < length xs
     → v.transfer.age ≡ (get_or xs i (opening_view sizes i)).transfer.age → (o : ℕ)
@@ -131,7 +131,8 @@ moves_action sizes v false Choosing alone here moves = absurd (false≢true (rw 
 moves_action sizes v false Moving alone here moves = rw (alone, here) refl
 moves_action sizes v false Own alone here moves = absurd (false≢true (rw (alone, here) at moves))
 
-pub moves_met : (sizes : Sizes) (v : ProcessView) (word : ℕ) (t : Bool) (stage : CallStage) → is_alone v.calls.way ≡ t → v.calls.stage ≡ stage
+pub moves_met : (sizes : Sizes) (v : ProcessView) (word : ℕ) (t : Bool) (stage : CallStage) → is_alone v.calls.way ≡ t
+    → v.calls.stage ≡ stage
     → moves_transfer v ≡ true → (next_met sizes v word).transfer ≡ met_of sizes v.transfer word
 moves_met sizes v word true stage alone here moves = rw alone refl
 moves_met sizes v word false Between alone here moves = absurd (false≢true (rw (alone, here) at moves))
@@ -139,7 +140,7 @@ moves_met sizes v word false Choosing alone here moves = absurd (false≢true (r
 moves_met sizes v word false Moving alone here moves = rw (alone, here) refl
 moves_met sizes v word false Own alone here moves = absurd (false≢true (rw (alone, here) at moves))
 
-own_acts : (sizes : Sizes) (v : ProcessView) (t : Bool) (stage : CallStage) → is_alone v.calls.way ≡ t → v.calls.stage ≡ stage
+pub own_acts : (sizes : Sizes) (v : ProcessView) (t : Bool) (stage : CallStage) → is_alone v.calls.way ≡ t → v.calls.stage ≡ stage
     → is_busy v ≡ true → moves_transfer v ≡ false → next_action sizes v ≡ own_action v
 own_acts sizes v true stage alone here busy not = absurd (false≢true (sym (rw alone at not)))
 own_acts sizes v false Between alone here busy not = absurd (false≢true (rw (alone, here) at busy))
@@ -197,8 +198,7 @@ module _
         let new_shown = holds_show now (transfers (view_at now)) (states_after words v.transfer ghosts.states) kept (λ o lo. refl) in
         step_content s now refl by (transfers views) (transfers (view_at now)) ghosts.states shape li h.stack kept acts old_shown new_shown
 
-    own_content : is_busy (views by) ≡ true → moves_transfer (views by) ≡ false → MoveContent s by (views by)
-    unfolding MoveContent
+    own_content : is_busy (views by) ≡ true → moves_transfer (views by) ≡ false → LeavesContent s (with_step by (views by) s)
     own_content busy not =
         let v = views by in
         let now = with_step by v s in
@@ -213,16 +213,21 @@ module _
         let tag : state_tag new ≡ state_tag words = (records_stay s.sizes words new stay).state in
         let old_shown = holds_show s (transfers views) ghosts.states h.stack (λ o lo. ages o) in
         let new_shown = holds_show now (transfers (view_at now)) ghosts.states kept (λ o lo. refl) in
-        inl (both_shown s now (present words ghosts.states) refl old_shown
-        (subst (λ (n : ℕ). ShowsState now (ghosts.states n)) tag new_shown))
+        both_shown s now (present words ghosts.states) refl old_shown (subst (λ (n : ℕ). ShowsState now (ghosts.states n)) tag new_shown)
 
     either_content : is_busy (views by) ≡ true → (t : Bool) → moves_transfer (views by) ≡ t → MoveContent s by (views by)
+    unfolding MoveContent
     either_content busy true moves = transfer_content moves
-    either_content busy false moves = own_content busy moves
+    either_content busy false moves = inl (own_content busy moves)
+
+-- the own step of a call leaves it
+OwnLeaves : CoreState → ℕ → ProcessView → Type 0
+OwnLeaves s by v = moves_transfer v ≡ false → LeavesContent s (with_step by v s)
 
 -- of a turn that is made
 made_content : (s : CoreState) (history : List Entry) (turn : Turn) → RunFits s history → is_made turn s ≡ true
-    → MoveContent s (by_of turn) (turning_view turn s)
+    → MoveContent s (by_of turn) (turning_view turn s) × OwnLeaves s (by_of turn) (turning_view turn s)
+unfolding OwnLeaves
 made_content s history turn fits made =
     let by = by_of turn in
     let v = turning_view turn s in
@@ -240,9 +245,16 @@ made_content s history turn fits made =
     let allowed = step_allowed s.sizes words views history by fits.shape li meets busy in
     let does = table_acted s.sizes s.words (next_action s.sizes (views by)) fits.whole
     (next_in_range s.sizes words (views by) (is_alone (views by).calls.way) refl allowed) in
-    subst (MoveContent s by) here
-    (either_content s by views history ghosts fits.shape li h does moved (λ o. ages_of s.sizes s.views by v low (turning_age turn s) o)
-    busy (moves_transfer (views by)) refl)
+    let ages = λ (o : ℕ). ages_of s.sizes s.views by v low (turning_age turn s) o in
+    subst (λ (w : ProcessView). MoveContent s by w × OwnLeaves s by w) here (
+      either_content s by views history ghosts fits.shape li h does moved ages busy (moves_transfer (views by)) refl,
+      own_content s by views history ghosts fits.shape li h does moved ages busy,
+    )
+
+pub own_step_leaves : (s : CoreState) (history : List Entry) (turn : Turn) → RunFits s history → is_made turn s ≡ true
+    → moves_transfer (turning_view turn s) ≡ false → LeavesContent s (with_step (by_of turn) (turning_view turn s) s)
+unfolding OwnLeaves
+own_step_leaves s history turn fits made own = (made_content s history turn fits made).1 own
 
 -- a turn that isn't made changes nothing
 content_of_turn : (s : CoreState) (history : List Entry) (turn : Turn) (t : Bool) → RunFits s history → is_made turn s ≡ t
@@ -252,7 +264,7 @@ content_of_turn : (s : CoreState) (history : List Entry) (turn : Turn) (t : Bool
     × ((u : StackState) × AppliesPending s (if t then with_step (by_of turn) (turning_view turn s) s else s) announcements u)))
 unfolding MoveContent
 content_of_turn s history turn true fits made =
-    elim (made_content s history turn fits made) [
+    elim ((made_content s history turn fits made).0) [
       | inl left ↦ inl left
       | inr applied ↦ inr (turning_exchanges turn s applied.0, applied.1)
     ]

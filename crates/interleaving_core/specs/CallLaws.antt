@@ -1,5 +1,6 @@
 -- laws of calls over every run
-use Rattle.std.specs.Prelude.{◌≡◌, ◌≢◌, ℕ, ◌+◌, ◌*◌, ◌-◌, ◌<◌, ◌≤◌, ◌↔◌, Bool, true, false, Some, List, length, slice_get, take, Contains}
+use Rattle.std.specs.Prelude.{◌≡◌, ◌≢◌, ℕ, ◌+◌, ◌*◌, ◌-◌, ◌<◌, ◌≤◌, ◌↔◌, Bool, true, false}
+use Rattle.std.specs.Prelude.{Some, List, ◌++◌, length, slice_get, take, Contains}
 use Rattle.word_layout.specs.Sizes.{Sizes, blocks, transfer_bound, limits_of}
 use Rattle.word_layout.specs.Names.{word_at}
 use Rattle.word_layout.specs.declared.announced.Wish.{Wish}
@@ -19,17 +20,24 @@ use Rattle.pool_machine.specs.declared.call.Call.{Call}
 use Rattle.pool_machine.specs.declared.call.Call.TheVariants.{Read, Write}
 use Rattle.pool_machine.specs.declared.call.CallStage.{CallStage}
 use Rattle.pool_machine.specs.declared.call.CallStage.TheVariants.{Between, Choosing, Moving, Own}
-use Rattle.pool_machine.specs.declared.call.CallView.{CallView}
 use Rattle.pool_machine.specs.declared.call.Way.TheVariants.{Alone}
 use Rattle.pool_machine.specs.declared.view.ProcessView.{ProcessView}
 use Rattle.pool_machine.specs.Laws.{most_moves}
 use Rattle.pool_machine.specs.Steps.{is_paced}
-use Rattle.pool_machine.specs.declared.event.Happened.TheVariants.{Loaded, Stored}
+use Rattle.pool_machine.specs.declared.event.Happened.{Happened}
+use Rattle.pool_machine.specs.declared.event.Happened.TheVariants.{Step, Ended, Loaded, Stored, Ignored}
 use Rattle.call_invariant.specs.Phases.{call_phase}
 use Rattle.interleaving_core.specs.Kept.{kept}
 use Rattle.interleaving_core.specs.Moves.{CoreState, view_at, holder_of, is_holder}
 use Rattle.interleaving_core.specs.Runs.{Turn, Moves, Events, by_of, is_made, turning_view, after_turn, turn_answer, entries_of, IsRun}
-use Rattle.interleaving_core.specs.Steps.{is_in_call}
+
+-- whether this is the answer of a call
+abbrev pub answers_call : Happened → Bool
+answers_call (Step kind) = false
+answers_call (Ended kind entry) = true
+answers_call (Loaded word) = true
+answers_call Stored = true
+answers_call Ignored = false
 
 -- a fact of the shape, the history and the state at the end of every run
 abbrev pub EveryRun : (Sizes → List Entry → CoreState → Type 0) → Type 0
@@ -74,6 +82,16 @@ abbrev pub AllAreCounted : Type 0
 AllAreCounted = EveryRun (λ sizes history s.
     total sizes.processes (kept s) + length (held history) + sizes.length * length (stack sizes s.words) ≡ blocks sizes)
 
+-- between these states, with these histories, process i moved blocks between what it keeps and what is held, and no other process did
+pub record MovesBlocks (s after : CoreState) (i : ℕ) (before now : List Entry) : Type 0 where
+  pub own : kept after i + length (held now) ≡ kept s i + length (held before)
+  pub others : (o : ℕ) → o < s.sizes.processes → o ≢ i → kept after o ≡ kept s o
+
+-- what the answer of a call changes of the held blocks it changes of what its own process keeps
+abbrev pub KeptFollowsCalls : Type 0
+KeptFollowsCalls = EveryRun (λ sizes history s. (turn : Turn) → answers_call (turn_answer turn s) ≡ true
+    → MovesBlocks s (after_turn turn s) (by_of turn) history (history ++ entries_of (turn_answer turn s)))
+
 -- how many turns a call needs at most at the steps of its transfer: those left of its quantum and its own one; a search those left of the
 -- transfer, those of another one unless it has chosen, and its own one
 abbrev pub moving_left : Bool → Bool → ℕ → ℕ → ℕ → ℕ → ℕ
@@ -93,17 +111,17 @@ steps_left sizes v =
     left_at (is_paced v.calls.call) v.calls.chosen sizes.quantum (transfer_bound sizes) v.calls.steps v.pool.plan.done v.calls.stage
 
 -- whether a process is in the middle of a call
-abbrev pub is_within : CallStage → Bool
-is_within Between = false
-is_within Choosing = true
-is_within Moving = true
-is_within Own = true
+abbrev pub is_in_call : CallStage → Bool
+is_in_call Between = false
+is_in_call Choosing = true
+is_in_call Moving = true
+is_in_call Own = true
 
 -- process i goes on with one call from one state to another, in any turns of all, of which so many are steps of that call
 pub data GoesOnWith (i : ℕ) : ℕ → CoreState → CoreState → Type 0 where
   starts : (s : CoreState) → GoesOnWith i 0 s s
   steps : (n : ℕ) (s t : CoreState) (call : Call) → GoesOnWith i n s t
-      → is_within (view_at t i).calls.stage ≡ true
+      → is_in_call (view_at t i).calls.stage ≡ true
       → GoesOnWith i (n + 1) s (after_turn (Events i call) t)
   others : (n : ℕ) (s t : CoreState) (turn : Turn) → GoesOnWith i n s t
       → by_of turn ≢ i
@@ -160,7 +178,8 @@ pub record EndsByAccount (sizes : Sizes) (mine : List Entry) (v : ProcessView) :
   pub counts : CountsEntries account mine
   pub plan : account.plan ≡ v.pool.plan
   pub phase : account.phase ≡ call_phase v
-  pub since : v.calls.stage ≡ Moving → is_paced v.calls.call ≡ true → v.pool.plan.done ≡ sizes.quantum * (length mine - account.begun) + v.calls.steps
+  pub since : v.calls.stage ≡ Moving → is_paced v.calls.call ≡ true
+      → v.pool.plan.done ≡ sizes.quantum * (length mine - account.begun) + v.calls.steps
   pub young : v.pool.plan.pending ≢ Idle → length mine < account.begun + sizes.length
 
 -- a transfer of a process that makes calls is pending in fewer than `length` calls after the one that began it

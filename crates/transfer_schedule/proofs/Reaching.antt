@@ -1,5 +1,6 @@
 -- What holds of every account that the schedule reaches.
-use Rattle.std.proofs.Common.{◌≡◌, ◌≢◌, ℕ, ◌+◌, ◌-◌, ◌*◌, ◌<◌, ◌≤◌, Bool, true, false, if◌then◌else◌, sym, refl, ◌∙◌, ap, subst, inl, inr, arith}
+use Rattle.std.proofs.Common.{◌≡◌, ◌≢◌, ℕ, ◌+◌, ◌-◌, ◌*◌, ◌<◌, ◌≤◌, Bool, true, false, if◌then◌else◌, sym, refl, ◌∙◌, ap, subst, inl, inr}
+use Rattle.std.proofs.Common.{arith}
 use Rattle.std.proofs.lemmas.Bool.{cases_eq, false≢true}
 use Rattle.std.proofs.lemmas.Bool.Decides.{nat_tests}
 use Rattle.transfer_schedule.specs.declared.own_step.Source.TheVariants.{Nothing}
@@ -14,7 +15,8 @@ use Rattle.transfer_schedule.specs.Account.{ended_with, last_take, sought_by}
 use Rattle.transfer_schedule.specs.Account.{Follows, begins, continues, idles, moves, ends, gets, refuses, frees, meets, seeks, quits}
 use Rattle.transfer_schedule.specs.Account.{clears, gives, shelves, retires, enlists, retakes, Reached, opens, follows}
 use Rattle.transfer_schedule.specs.Laws.{HasSizes, RestsWithFour, WithholdsFive, IsSound, EndsInTime, GivesLeaveBatch, CountsSteps}
-use Rattle.transfer_schedule.specs.Laws.{BeginsShort, RefusesSoon, serves, SoundWhileServing, MissesNow, FoundNothing, IsCleared, RestsCleared, is_at_rest}
+use Rattle.transfer_schedule.specs.Laws.{BeginsShort, RefusesSoon, serves, SoundWhileServing, MissesNow, FoundNothing, IsCleared}
+use Rattle.transfer_schedule.specs.Laws.{RestsCleared, is_at_rest}
 use Rattle.transfer_schedule.specs.Laws.{WaitsAnnounced, JustBegun, PendsWhileMoving, is_still, IdlesWhileStill}
 use Rattle.transfer_schedule.proofs.Products.{times_two, times_three, times_le, quantum_some}
 use Rattle.transfer_schedule.proofs.Operations.{one_more_few, no_steps, end_steps, choice_busy, choice_sizes, end_sizes, took_sizes}
@@ -191,11 +193,19 @@ step_facts a (Moving made) e s moving low = record {
 }
 step_facts a Own e s moving low = no_net moving
 step_facts a (Seeking chosen) e s moving low =
-    record { at_phase = rw e (sought_step chosen a (Seeking chosen) (at (Seeking chosen) a e s) low); held = s.held; net = λ serving. s.net (rw e refl) }
+    record {
+      at_phase = rw e (sought_step chosen a (Seeking chosen) (at (Seeking chosen) a e s) low);
+      held = s.held;
+      net = λ serving. s.net (rw e refl);
+    }
 step_facts a Choosing e s moving low = no_net moving
 step_facts a Sought e s moving low = no_net moving
 step_facts a Leaving e s moving low =
-    record { at_phase = rw e (sought_step false a Leaving (at Leaving a e s) low); held = s.held; net = λ serving. no_net (rw e at serving) }
+    record {
+      at_phase = rw e (sought_step false a Leaving (at Leaving a e s) low);
+      held = s.held;
+      net = λ serving. no_net (rw e at serving);
+    }
 step_facts a Clearing e s moving low = no_net moving
 step_facts a Shedding e s moving low =
     let c = at Shedding a e s in
@@ -258,10 +268,12 @@ came_back : (x : Numbers) (found : Bool) (entries begun ended : ℕ) → AreSize
 came_back x found entries begun ended sizes taking none few now = grind (arith, nat_tests, one_more_few x.spares)
 
 sizes_of_end : (found : Bool) (x : Numbers) → AreSizes x.length x.bound x.quantum
-    → AreSizes (after_end found (after_steps 1 x)).length (after_end found (after_steps 1 x)).bound (after_end found (after_steps 1 x)).quantum
+    → AreSizes (after_end found (after_steps 1 x)).length (after_end found (after_steps 1 x)).bound
+    (after_end found (after_steps 1 x)).quantum
 sizes_of_end found x h = grind (arith, nat_tests)
 
-end_facts : (a : Account) (found : Bool) (phase : CallPhase) → a.phase ≡ phase → Stands a → moves_in phase ≡ true → Stands (ended_with found a)
+end_facts : (a : Account) (found : Bool) (phase : CallPhase) → a.phase ≡ phase → Stands a → moves_in phase ≡ true
+    → Stands (ended_with found a)
 end_facts a found Between e s moving = no_net moving
 end_facts a found (Moving made) e s moving =
     let m = at (Moving made) a e s in

@@ -1,9 +1,11 @@
 // The plan of one process.
 ghost use Rattle.std.specs.Prelude.{◌≡◌, ◌≢◌, ◌↔◌, ◌+◌, ◌-◌, ◌*◌, ◌<◌, ◌≤◌, IsTrue};
-ghost use Rattle.transfer_schedule.specs.Numbers.{opening, due, after_begin, after_choice, after_steps, after_end, after_took_one, source_of, after_gave_one, after_shelved, target_of, stock, kept, withheld};
+ghost use Rattle.transfer_schedule.specs.Numbers.{opening, due, after_begin, after_choice, after_steps, after_end, after_took_one};
+ghost use Rattle.transfer_schedule.specs.Numbers.{source_of, after_gave_one, after_shelved, target_of, stock, kept, withheld};
 ghost use Rattle.transfer_schedule.specs.Beginning.{MayBegin, may_begin, few_spares, many_spares};
 ghost use Rattle.transfer_schedule.specs.Table.{InTable};
-ghost use Rattle.transfer_schedule.specs.Calls.{Fits, ready_for, after_call, own_answer, FitAll, after_calls, EndWithin, EndsEmpty, EachMoment, RefusesOnlyDry};
+ghost use Rattle.transfer_schedule.specs.Calls.{Fits, ready_for, after_call, own_answer, FitAll, after_calls, EndWithin, EndsEmpty};
+ghost use Rattle.transfer_schedule.specs.Calls.{EachMoment, RefusesOnlyDry};
 
 use crate::call::{OwnStep, PlannedAnswer, PlannedCall};
 use crate::own_step::{Source, Target};
