@@ -43,7 +43,7 @@ pub enum Getting {
     Got(u32),
     /// The pass's own pool has no block.
     Dry,
-    /// The pass has begun as many transfers as there may be. No call was made.
+    /// A transfer is due, and the pass has begun as many as it may. No call was made.
     Spent,
 }
 
@@ -54,7 +54,7 @@ pub enum Freeing {
     Freed,
     /// The pass doesn't hold this block. No call was made.
     NotHeld,
-    /// The pass has begun as many transfers as there may be. No call was made, and it holds the block still.
+    /// A transfer is due, and the pass has begun as many as it may. No call was made, and it holds the block still.
     Spent,
 }
 
@@ -112,6 +112,14 @@ impl Member {
         ensures { result ≡ is_idle (after_choice self.now.plan).pending }
     {
         self.pass.is_quiet()
+    }
+
+    /// Whether an allocate, or a free of a held block, would be made now: no transfer is due, or the pass has begun fewer than it may.
+    #[inline]
+    pub fn has_age(&self) -> bool
+        ensures { IsTrue result ↔ HasAge self.now }
+    {
+        self.pass.has_age()
     }
 
     /// Whether the pass holds this block. Any number may be asked.
