@@ -3,6 +3,5 @@ pub mod Gates
 pub mod Links
 pub mod MemoryFiles
 pub mod MemorySink
-pub mod StdSink
 pub mod Told
 pub mod Writes

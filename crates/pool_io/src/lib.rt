@@ -23,7 +23,7 @@ pub use gate::{Gate, OpenGate};
 pub use memory_files::{MemoryFiles, MemorySource};
 pub use memory_sink::MemorySink;
 pub use reads::Reads;
-pub use real::{RealFiles, StdSink};
+pub use real::{RealFiles, StdSink, StdStream, StreamSink};
 pub use sink::Sink;
 pub use write::write_whole;
 

@@ -38,7 +38,7 @@ pub struct MemorySource {
 }
 
 impl MemoryFiles {
-    ghost use Rattle.std.specs.Prelude.{Some};
+    ghost use Rattle.std.specs.Prelude.{Some, length};
     ghost use Rattle.pool_io.specs.MemoryFiles.{is_named, bytes_of, bytes_left, faulted};
 
     /// Files of which no call was made so far.
@@ -67,6 +67,7 @@ impl MemoryFiles {
         most: usize,
     ) -> Result<MemoryFiles, NoMemory>
         ensures told { IfOk result (λ files. bytes_of files name.now ≡ Some bytes.now) }
+        ensures alone { IfOk result (λ files. length files.files.items ≡ 1) }
         ensures setting { IfOk result (λ files. (files.failing ≡ failing) × (files.most ≡ most)) }
         ensures counts { IfOk result (λ files. (files.calls ≡ 0) × (files.opens ≡ 0) × (files.faults ≡ 0)) }
         ensures reads { IfOk result (λ files. files.reads ≡ []) }

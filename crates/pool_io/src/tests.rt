@@ -124,6 +124,21 @@ fn the_systems_streams_take_a_text(rt: HostRuntime) -> Result<(), Fail> {
     Ok(())
 }
 
+#[test]
+fn a_writer_that_takes_no_more_is_a_fault(rt: HostRuntime) -> Result<(), Fail> {
+    for (text, is_whole, faults) in [
+        (b"1: n".as_slice(), true, 0),
+        (b"1: ne".as_slice(), false, 1),
+    ] {
+        let mut room = [0; 4];
+        let mut sink = StreamSink::new(room.as_mut_slice());
+        let written = write_whole(&mut sink, text).is_ok();
+        assert_eq!(rt; (written, sink.faults), (is_whole, faults));
+        assert_eq!(rt; room.as_slice(), b"1: n".as_slice());
+    }
+    Ok(())
+}
+
 // A system that gives the words that stand between bytes 10.
 #[derive(Drop)]
 struct Given(&'static [u8]);
