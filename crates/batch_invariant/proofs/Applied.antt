@@ -30,9 +30,11 @@ with_granted process odd wish s =
       applied = put process (s.applied process + 1) s.applied;
     }
 
+-- the value put at a place is found there
 pub put_here : (place value : ℕ) (values : ℕ → ℕ) → put place value values place ≡ value
 put_here place value values = let test : (place == place) ≡ true = grind (arith, nat_tests) in rw test refl
 
+-- and the values of all other places stay
 pub put_elsewhere : (place value : ℕ) (values : ℕ → ℕ) (k : ℕ) → k ≢ place → put place value values k ≡ values k
 put_elsewhere place value values k ne = let test : (k == place) ≡ false = grind (arith, nat_tests) in rw test refl
 
@@ -41,6 +43,7 @@ taken_fits : (t : Bool) (head : ℕ) → (t ≡ false → head < most_blocks) �
 taken_fits true head h = tt
 taken_fits false head h = h refl
 
+-- where all heads of a content fit a word, so does the reply to any wish on it
 pub answer_fits : (s : StackState) (wish : Wish) → ((place : ℕ) → place < s.height → s.content place < most_blocks)
     → FitsReply (answer_to wish s)
 answer_fits s Take heads = taken_fits (s.height == 0) (s.content (s.height - 1)) (λ e. heads (s.height - 1) (not_empty s.height e))
@@ -131,6 +134,7 @@ module _ (sizes : Sizes) (s : StackState) (views : ProcessViews) (k : ℕ) (odd 
       took_answer Take s e g = took_either (s.height == 0) (s.content (s.height - 1)) g
       took_answer (Give head) s e g = absurd (grind arith)
 
+  -- a granted and answered wish moves one batch between what is in transit and the content, and its reply matches
   pub granted_carried : Carried sizes s (with_granted k odd (views k).transfer.wish s) views
   granted_carried = record {
     same_weight = granted_weight;

@@ -6,13 +6,15 @@ use Rattle.word_layout.specs.Names.{record_words}
 use Rattle.word_layout.specs.Packing.{tag_of}
 use Rattle.transfer_machine.specs.Loads.{loaded_tag}
 use Rattle.transfer_machine.specs.Tries.{begun_draft, pops_slot, after_announcement}
-use Rattle.transfer_machine.specs.Machine.{met_at, met_in_try, after_try, try_ended, installed, after_record, after_heard, record_word_loaded, announcement_loaded}
+use Rattle.transfer_machine.specs.Machine.{met_at, met_in_try, after_try, try_ended, installed, after_record}
+use Rattle.transfer_machine.specs.Machine.{after_heard, record_word_loaded, announcement_loaded}
 use Rattle.transfer_machine.specs.declared.loaded.Loaded.{Loaded}
 use Rattle.transfer_machine.specs.declared.transfer.TransferView.{TransferView}
 use Rattle.transfer_machine.specs.declared.stage.NextStep.{NextStep}
 use Rattle.transfer_machine.specs.declared.stage.NextStep.TheVariants.{Rest, Announce, Try, LoadFinalState, LoadReply}
 use Rattle.transfer_machine.specs.declared.stage.TryStep.{TryStep}
-use Rattle.transfer_machine.specs.declared.stage.TryStep.TheVariants.{LoadState, LoadRecordWord, LoadCoveredSlot, ExchangeSlot, LoadAnnouncement, LoadPoppedSlot, StoreRecordWord, ExchangeState}
+use Rattle.transfer_machine.specs.declared.stage.TryStep.TheVariants.{LoadState, LoadRecordWord, LoadCoveredSlot, ExchangeSlot}
+use Rattle.transfer_machine.specs.declared.stage.TryStep.TheVariants.{LoadAnnouncement, LoadPoppedSlot, StoreRecordWord, ExchangeState}
 use Rattle.transfer_invariant.specs.Progress.{has_announced, goes_on}
 use Rattle.batch_invariant.proofs.Moving.{SameAnnouncement}
 
@@ -62,12 +64,14 @@ try_same sizes v word second (StoreRecordWord index) h = record { was = h; annou
 try_same sizes v word second ExchangeState h = either_view (word == v.loaded.state) v (installed v) (try_ended second v)
     (record { was = h; announced = refl; wish = refl; age = refl }) (ended_same second v h)
 
+-- a step between the announcement and the reply is one of an announced transfer
 pub goes_on_announced : (s : NextStep) → goes_on s ≡ true → has_announced s ≡ true
 goes_on_announced s h = grind arith
 
 never : false ≡ true → ⊥
 never h = grind arith
 
+-- after such a step the transfer is still announced, with the same wish and age
 pub met_same_announcement : (sizes : Sizes) (v : TransferView) (word : ℕ) (s : NextStep) → goes_on s ≡ true → has_announced v.next ≡ true
     → SameAnnouncement v (met_at sizes v word s)
 met_same_announcement sizes v word Rest g h = absurd (never g)

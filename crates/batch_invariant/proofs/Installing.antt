@@ -52,6 +52,7 @@ either_state : (t : Bool) (x y : StackState) (o reply applied : ℕ) → (x.repl
 either_state true x y o reply applied hx hy = hx
 either_state false x y o reply applied hx hy = hy
 
+-- a process that wasn't met yet keeps its reply and its count of applied transfers
 pub unmet_stay : (announcements : ℕ → ℕ) (s : StackState) (k o : ℕ) → k ≤ o
     → ((next_of k announcements s).reply o ≡ s.reply o) × ((next_of k announcements s).applied o ≡ s.applied o)
 unfolding next_of

@@ -14,6 +14,7 @@ pub moving_at_rest : (s : StackState) (i : ℕ) (v : TransferView) → v.next �
 unfolding moving
 moving_at_rest s i v e = rw e refl
 
+-- in transit: of a begun transfer the batch that it gives
 pub moving_begun : (s : StackState) (i : ℕ) (v : TransferView) → v.next ≡ Announce → moving s i v ≡ given v.wish
 unfolding moving
 moving_begun s i v e = rw e refl
@@ -21,12 +22,14 @@ moving_begun s i v e = rw e refl
 announced_begun : (next : NextStep) → has_announced next ≡ true → has_only_begun next ≡ false
 announced_begun next h = grind arith
 
+-- while it isn't applied still that batch
 pub moving_pending : (s : StackState) (i : ℕ) (v : TransferView) → has_announced v.next ≡ true → s.applied i ≢ v.age
     → moving s i v ≡ given v.wish
 unfolding moving
 moving_pending s i v h ne = let test : (s.applied i == v.age) ≡ false = grind (arith, nat_tests) in
     rw (announced_begun v.next h, h, test) refl
 
+-- and once it is applied the batch that it took
 pub moving_applied : (s : StackState) (i : ℕ) (v : TransferView) → has_announced v.next ≡ true → s.applied i ≡ v.age
     → moving s i v ≡ taken v.wish (reply_of (s.reply i))
 unfolding moving
@@ -46,6 +49,7 @@ pub record SameAnnouncement (v x : TransferView) : Type 0 where
   pub wish : x.wish ≡ v.wish
   pub age : x.age ≡ v.age
 
+-- such a view has the same batches in transit
 pub moving_same_view : (s : StackState) (i : ℕ) (v x : TransferView) → SameAnnouncement v x → moving s i x ≡ moving s i v
 unfolding moving
 moving_same_view s i v x g = rw (announced_begun x.next g.announced, g.announced, announced_begun v.next g.was, g.was, g.wish, g.age) refl

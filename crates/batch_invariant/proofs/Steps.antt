@@ -95,6 +95,7 @@ ended_keeps s i v x reply last applied answer matches rest pool = let announced 
   matches = λ h. unannounced_matches s i x.transfer (rw rest refl);
 }
 
+-- a give is answered as given, and a take never so
 pub ends_answer : (s : StackState) (i : ℕ) (v : TransferView) (word : ℕ) → ReplyMatches s i v → InStep s i v word → v.next ≡ LoadReply
     → (is_take v.wish ≡ false → reply_of (value_of word) ≡ Gave) × (is_take v.wish ≡ true → reply_of (value_of word) ≢ Gave)
 ends_answer s i v word matches step last = let announced = reply_announced v.next last in (
@@ -110,6 +111,7 @@ trying_keeps sizes s i v word stage g e =
     goes_on_keeps s i v (record v { transfer = met_at sizes v.transfer word stage; pool = step_counted v.pool })
     (met_same_announcement sizes v.transfer word stage g (rw e (goes_on_announced stage g))) refl
 
+-- a step moves no batch out of those of its process, and the reply still matches
 pub stage_keeps : (sizes : Sizes) (s : StackState) (i : ℕ) (v : ProcessView) (word : ℕ) (stage : NextStep) → v.transfer.next ≡ stage
     → InStep s i v.transfer word → ReplyMatches s i v.transfer
     → KeepsBatches s i v (record v { transfer = met_at sizes v.transfer word stage; pool = pool_met_at word v.pool stage })
@@ -137,6 +139,7 @@ spares_parted f heads head some e =
     let all : take ((length heads - 1) + 1) heads ≡ heads = rw last (take_all (length heads) heads (omega arith)) in
     let whole = rw (all, e) at more in omega (arith, whole)
 
+-- nor does a beginning: the given batch leaves the spares and is in transit
 pub begun_keeps : (s : StackState) (i : ℕ) (wish : Wish) (v : ProcessView) → v.transfer.next ≡ Rest → MayBegin wish v.pool
     → KeepsBatches s i v (view_begun wish v)
 begun_keeps s i Take v rest may = record {

@@ -17,6 +17,7 @@ use Rattle.batch_invariant.proofs.Moving.{moving_pending}
 fits_where : (head : ℕ) → is_large head ≡ 0 → head < most_blocks
 fits_where head e = grind (arith, nat_tests)
 
+-- a head that fits a word isn't large
 pub small_where : (head : ℕ) → head < most_blocks → is_large head ≡ 0
 small_where head lt = grind (arith, nat_tests)
 
@@ -46,6 +47,7 @@ pub carried_fits : (sizes : Sizes) (s t : StackState) (views : ProcessViews) →
     → HeadsFit sizes t views
 carried_fits sizes s t views carried fits = record { none_large = carried.same_weight is_large ∙ fits.none_large }
 
+-- batches that are carried from one state to a second, and on to a third, are carried from the first to the third
 pub carried_on : (sizes : Sizes) (s t u : StackState) (views : ProcessViews) → Carried sizes s t views → Carried sizes t u views
     → Carried sizes s u views
 carried_on sizes s t u views first second = record {

@@ -52,7 +52,6 @@ use Rattle.pool_table.proofs.Transfers.{due_on}
 use Rattle.pool_table.proofs.Turns.{seat_of}
 use Rattle.batch_stack.specs.declared.progress.Progress.{Progress}
 use Rattle.batch_stack.specs.declared.progress.Progress.TheVariants.{Going, Took, Empty, Gave}
-use Rattle.versioned_records.proofs.Loading.{somewhere_met}
 use Rattle.batch_stack.specs.Ended.{IsWholeBatch, HasTaken, HadNothing, MetEmptyStack, FoundNothing, EndTells}
 use Rattle.batch_stack.specs.Running.{ended_as, progress_at}
 
@@ -164,7 +163,7 @@ module _ (sizes : Sizes) (a : About) (v x : SeatView) (t : TransferView) (word :
             holds.chains;
       }
 
-  met_empty : reply_of (value_of word) ≡ replied.Nothing → MetEmptyStack a v
+  met_empty : reply_of (value_of word) ≡ replied.Nothing → MetEmptyStack a v x
   met_empty nothing =
       let w = turning a v.mind.view in
       let words = s.made.words in
@@ -187,12 +186,16 @@ module _ (sizes : Sizes) (a : About) (v x : SeatView) (t : TransferView) (word :
       let number : d.process ≡ number_of v.mind =
       sym (number_holds v.sizes (word_at v.sizes words) d.views d.history d.process due.table.low due.table.meets)
       ∙ (ap (λ (z : ProcessView). z.transfer.number) d.here ∙ s.owner) in
-      somewhere_met a v x word s (HadNothing a v) (record {
-        states = states;
-        had = had;
-        met = subst (λ i. MetNothing v.sizes (word_at v.sizes words) states i w.transfer) number
-            (subst (λ (z : ProcessView). MetNothing v.sizes (word_at v.sizes words) states d.process z.transfer) d.here empty);
-      })
+      record {
+        word = word;
+        made = s.made;
+        nothing = record {
+          states = states;
+          had = had;
+          met = subst (λ i. MetNothing v.sizes (word_at v.sizes words) states i w.transfer) number
+              (subst (λ (z : ProcessView). MetNothing v.sizes (word_at v.sizes words) states d.process z.transfer) d.here empty);
+        };
+      }
 
   found_nothing : reply_of (value_of word) ≡ replied.Nothing → FoundNothing a v x
   found_nothing nothing =

@@ -17,7 +17,7 @@ use Rattle.pool_table.specs.Views.{SeatView}
 use Rattle.pool_table.specs.Rule.{Holds, views_of}
 use Rattle.pool_table.specs.Turns.{turning}
 use Rattle.pool_table.specs.Transfers.{transfer_about}
-use Rattle.versioned_records.specs.Loads.{SomewhereSeated}
+use Rattle.pool_table.specs.Steps.{MadeOn}
 use Rattle.batch_stack.specs.declared.progress.Progress.{Progress}
 use Rattle.batch_stack.specs.declared.progress.Progress.TheVariants.{Going, Took, Empty, Gave}
 
@@ -40,14 +40,16 @@ pub record HadNothing (about : About) (v : SeatView) (words : List ℕ) : Type 0
   pub had : HasStates v.sizes words states
   pub met : MetNothing v.sizes (word_at v.sizes words) states (number_of v.mind) (transfer_about about v)
 
--- so had the words of the last step
-abbrev pub MetEmptyStack : About → SeatView → Type 0
-MetEmptyStack about v = SomewhereSeated v (HadNothing about v)
+-- so had the words that the step was made on
+pub record MetEmptyStack (about : About) (v x : SeatView) : Type 0 where
+  pub word : ℕ
+  pub made : MadeOn about v word x
+  pub nothing : HadNothing about v made.words
 
 -- a take found nothing: it met an empty stack; its process's plan says dry, and so wherever the rule holds with its view few blocks were
 -- unheld at a place of the history that isn't before that take
 pub record FoundNothing (about : About) (v x : SeatView) : Type 0 where
-  pub met : MetEmptyStack about v
+  pub met : MetEmptyStack about v x
   pub dry : x.mind.view.pool.plan.dry ≡ true
   pub few : (words : List ℕ) (views : List SeatView) (place : ℕ) (h : Holds words views) → get_elem? views place ≡ some x
       → HadFewMoments x.sizes words h.history (number_of x.mind) x.mind.view

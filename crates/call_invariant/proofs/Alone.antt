@@ -32,7 +32,8 @@ use Rattle.call_invariant.proofs.Begun.{runs_begun}
 opened_pool : (sizes : Sizes) (i : ℕ) → PoolHolds sizes i (opening_view sizes i)
 opened_pool sizes i = search rules
 
-pub opening_calls : (sizes : Sizes) (i : ℕ) → InCalls sizes i (opening_view sizes i) (opening_ledger sizes.length (transfer_bound sizes) sizes.quantum)
+pub opening_calls : (sizes : Sizes) (i : ℕ)
+    → InCalls sizes i (opening_view sizes i) (opening_ledger sizes.length (transfer_bound sizes) sizes.quantum)
 opening_calls sizes i =
     let pool = opened_pool sizes i in
     record {
@@ -42,16 +43,26 @@ opening_calls sizes i =
       runs = pool.runs;
       heads = refl;
       announced = λ e. cc;
-      stage = record { none = λ e. refl; changes = λ e. cc; pending = λ e. cc; few = λ e. cc; some = λ e. cc; searches = λ e. cc; rests = λ e. cc };
+      stage = record {
+        none = λ e. refl;
+        changes = λ e. cc;
+        pending = λ e. cc;
+        few = λ e. cc;
+        some = λ e. cc;
+        searches = λ e. cc;
+        rests = λ e. cc;
+      };
       choice = λ e. cc;
       fresh = λ e. record { view = refl; nothing = record { account = refl; none = refl } };
     }
 
 -- a process that has begun nothing, or transfers alone, begins one
-alone_pool : (sizes : Sizes) (i : ℕ) (v : ProcessView) (wish : Wish) → PoolAlone sizes i v.pool → is_idle v.pool.plan.pending ≡ true → MayBegin wish v.pool → PoolAlone sizes i (view_begun wish v).pool
+alone_pool : (sizes : Sizes) (i : ℕ) (v : ProcessView) (wish : Wish) → PoolAlone sizes i v.pool → is_idle v.pool.plan.pending ≡ true
+    → MayBegin wish v.pool → PoolAlone sizes i (view_begun wish v).pool
 alone_pool sizes i v wish h idle may = search rules
 
-alone_begins : (sizes : Sizes) (i : ℕ) (v : ProcessView) (wish : Wish) (g : Ledger) → PoolHolds sizes i v → NothingEntered sizes g → v.calls.stage ≡ Between → v.calls.call ≡ None
+alone_begins : (sizes : Sizes) (i : ℕ) (v : ProcessView) (wish : Wish) (g : Ledger) → PoolHolds sizes i v → NothingEntered sizes g
+    → v.calls.stage ≡ Between → v.calls.call ≡ None
     → v.transfer.next ≡ Rest → MayBegin wish v.pool → v.transfer.age < most_age sizes
     → InTransfers sizes i (alone_begun wish v) g
 alone_begins sizes i v wish g pool nothing stage none rest may young = record {
@@ -65,12 +76,15 @@ alone_begins sizes i v wish g pool nothing stage none rest may young = record {
   nothing = nothing;
 }
 
-fresh_begins : (sizes : Sizes) (i : ℕ) (v : ProcessView) (wish : Wish) (g : Ledger) → IsFresh sizes i v g → v.transfer.next ≡ Rest → MayBegin wish v.pool → v.transfer.age < most_age sizes
+fresh_begins : (sizes : Sizes) (i : ℕ) (v : ProcessView) (wish : Wish) (g : Ledger) → IsFresh sizes i v g → v.transfer.next ≡ Rest
+    → MayBegin wish v.pool → v.transfer.age < most_age sizes
     → InTransfers sizes i (alone_begun wish v) g
 fresh_begins sizes i v wish g f rest may young =
-    alone_begins sizes i v wish g (rw f.view (opened_pool sizes i)) f.nothing (ap (λ x. x.calls.stage) f.view) (ap (λ x. x.calls.call) f.view) rest may young
+    alone_begins sizes i v wish g (rw f.view (opened_pool sizes i)) f.nothing (ap (λ x. x.calls.stage) f.view)
+    (ap (λ x. x.calls.call) f.view) rest may young
 
-pub moves_alone : (sizes : Sizes) (i : ℕ) (v : ProcessView) (wish : Wish) (g : Ledger) (way : Way) → v.calls.way ≡ way → UsesPoolBy way sizes i v g → MayMove v → v.transfer.next ≡ Rest
+pub moves_alone : (sizes : Sizes) (i : ℕ) (v : ProcessView) (wish : Wish) (g : Ledger) (way : Way) → v.calls.way ≡ way
+    → UsesPoolBy way sizes i v g → MayMove v → v.transfer.next ≡ Rest
     → MayBegin wish v.pool → v.transfer.age < most_age sizes
     → InTransfers sizes i (alone_begun wish v) g
 moves_alone sizes i v wish g Fresh e h moves rest may young = fresh_begins sizes i v wish g (h.fresh e) rest may young
@@ -78,7 +92,8 @@ moves_alone sizes i v wish g Alone e h moves rest may young = alone_begins sizes
 moves_alone sizes i v wish g Calls e h moves rest may young = grind arith
 
 -- a step of such a transfer
-pub transfers_step : (sizes : Sizes) (i : ℕ) (v : ProcessView) (word : ℕ) (g : Ledger) → InTransfers sizes i v g → 1 ≤ sizes.processes → GivenToPool sizes v.transfer word
+pub transfers_step : (sizes : Sizes) (i : ℕ) (v : ProcessView) (word : ℕ) (g : Ledger) → InTransfers sizes i v g → 1 ≤ sizes.processes
+    → GivenToPool sizes v.transfer word
     → InTransfers sizes i (view_met sizes v word) g
 transfers_step sizes i v word g h some given = record {
   way = h.way;
@@ -91,7 +106,8 @@ transfers_step sizes i v word g h some given = record {
 -- the plan of transfers alone is within the table, and withholds at most three batches
 pub kept_in_table : (sizes : Sizes) (i : ℕ) (v : ProcessView) → PoolHolds sizes i v → InTable v.pool.plan
 kept_in_table sizes i v h =
-    let busy : (p : Pending) → is_idle p ≡ false → v.pool.plan.pending ≡ p → v.pool.plan.spares ≤ 1 = λ p e is. h.alone.full.busy (ap is_idle is ∙ e) in
+    let busy : (p : Pending) → is_idle p ≡ false → v.pool.plan.pending ≡ p → v.pool.plan.spares ≤ 1 =
+    λ p e is. h.alone.full.busy (ap is_idle is ∙ e) in
     let taking : v.pool.plan.pending ≡ Taking → v.pool.plan.spares ≤ 1 = busy Taking refl in
     let giving : v.pool.plan.pending ≡ Giving → v.pool.plan.spares ≤ 1 = busy Giving refl in
     record {
@@ -103,12 +119,18 @@ kept_in_table sizes i v h =
       give_late = λ e three. absurd (let one = giving e in omega arith);
     }
 
-pub withholds_three : (sizes : Sizes) (i : ℕ) (x : PoolView) → x.plan.length ≡ sizes.length → KeptAlone sizes i x → withheld x.plan ≤ 5 * sizes.length
+pub withholds_three : (sizes : Sizes) (i : ℕ) (x : PoolView) → x.plan.length ≡ sizes.length → KeptAlone sizes i x
+    → withheld x.plan ≤ 5 * sizes.length
 withholds_three sizes i x e h = by_pending (is_idle x.plan.pending) refl
   where
     few : (l s more : ℕ) → l * s ≤ l * 2 → l * 2 ≡ l + l → more ≤ l → l + l * s + more ≤ 5 * l
     few l s more le two most = omega arith
 
     by_pending : (t : Bool) → is_idle x.plan.pending ≡ t → withheld x.plan ≤ 5 * sizes.length
-    by_pending true idle = rw (idle, h.full, e) (few sizes.length x.plan.spares 0 (times_le sizes.length x.plan.spares 2 (h.resting idle)) (times_two sizes.length) (omega arith))
-    by_pending false busy = rw (busy, h.full, e) (few sizes.length x.plan.spares sizes.length (times_le sizes.length x.plan.spares 2 (let one = h.busy busy in omega arith)) (times_two sizes.length) (omega arith))
+    by_pending true idle =
+        rw (idle, h.full, e)
+        (few sizes.length x.plan.spares 0 (times_le sizes.length x.plan.spares 2 (h.resting idle)) (times_two sizes.length) (omega arith))
+    by_pending false busy =
+        rw (busy, h.full, e)
+        (few sizes.length x.plan.spares sizes.length (times_le sizes.length x.plan.spares 2 (let one = h.busy busy in omega arith))
+        (times_two sizes.length) (omega arith))

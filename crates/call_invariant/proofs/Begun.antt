@@ -24,7 +24,7 @@ use Rattle.transfer_machine.specs.declared.stage.NextStep.TheVariants.{Rest, Ann
 use Rattle.pool_machine.specs.declared.view.PoolView.{PoolView}
 use Rattle.pool_machine.specs.declared.view.ProcessView.{ProcessView}
 use Rattle.transfer_invariant.specs.Progress.{has_announced, is_moving}
-use Rattle.pool_machine.specs.Beginning.{newest, due, begun_if_due, before_call, first_stage, entered, entered_so, search_chosen}
+use Rattle.pool_machine.specs.Beginning.{newest, due, begun_if_due, before_call, first_stage, entered, search_chosen}
 use Rattle.pool_machine.specs.Beginning.{search_begun_by, call_begun}
 use Rattle.pool_machine.specs.Steps.{is_paced}
 use Rattle.pool_machine.specs.Conditions.{HasAgeFor, IsYoungFor}
@@ -39,7 +39,6 @@ use Rattle.call_invariant.specs.Ledgers.{account_begun_by, account_begun, accoun
 use Rattle.call_invariant.specs.InCalls.{Scheduled, InCalls, CarriesOn}
 use Rattle.call_invariant.proofs.Standing.{some_quantum, idle_rests, runs_with_calls}
 use Rattle.transfer_schedule.proofs.Reaching.{reached_stands, stands_waits}
-use Rattle.transfer_schedule.specs.declared.pending.Pending.{Pending}
 use Rattle.transfer_schedule.specs.declared.pending.Pending.TheVariants.{Idle}
 
 -- the transfer that is due is one that may begin, and it is due only while nothing is pending
@@ -64,10 +63,12 @@ pub due_rests : (sizes : Sizes) (v : ProcessView) (wish : Wish) → PoolKept siz
 due_rests sizes v wish h e = idle_rests sizes v h (idle_is v.pool.plan.pending (due_idle v.pool wish e))
 
 -- the facts of the pool once a transfer is begun
-pub runs_begun : (sizes : Sizes) (v : ProcessView) (wish : Wish) → PoolRuns sizes v → v.transfer.next ≡ Rest → MayBegin wish v.pool → v.transfer.age < most_age sizes → PoolRuns sizes (view_begun wish v)
+pub runs_begun : (sizes : Sizes) (v : ProcessView) (wish : Wish) → PoolRuns sizes v → v.transfer.next ≡ Rest → MayBegin wish v.pool
+    → v.transfer.age < most_age sizes → PoolRuns sizes (view_begun wish v)
 runs_begun sizes v wish h rest may young = search rules
 
-heads_begun : (v : ProcessView) (wish : Wish) → length v.pool.heads ≡ v.pool.plan.spares → MayBegin wish v.pool → length (view_begun wish v).pool.heads ≡ (view_begun wish v).pool.plan.spares
+heads_begun : (v : ProcessView) (wish : Wish) → length v.pool.heads ≡ v.pool.plan.spares → MayBegin wish v.pool
+    → length (view_begun wish v).pool.heads ≡ (view_begun wish v).pool.plan.spares
 heads_begun v Take h may = h
 heads_begun v (Give head) h may = one_fewer v.pool.heads v.pool.plan.spares h
   where
@@ -80,7 +81,8 @@ record Enters (sizes : Sizes) (x : ProcessView) : Type 0 where
   heads : length x.pool.heads ≡ x.pool.plan.spares
   announced : has_announced x.transfer.next ≡ true → 0 < x.pool.plan.done
 
-enters_if_due : (sizes : Sizes) (v : ProcessView) (wish : Option Wish) → due v.pool ≡ wish → HasAgeFor sizes v.pool.plan v.transfer.age → Enters sizes v → Enters sizes (begun_if_due wish v)
+enters_if_due : (sizes : Sizes) (v : ProcessView) (wish : Option Wish) → due v.pool ≡ wish → HasAgeFor sizes v.pool.plan v.transfer.age
+    → Enters sizes v → Enters sizes (begun_if_due wish v)
 enters_if_due sizes v None e young h = h
 enters_if_due sizes v (Some wish) e young h =
     let may = due_may_begin v.pool wish h.heads e in
@@ -96,7 +98,8 @@ begun_pends s t idle e = λ rest. grind arith
 
 begun_phase : (call : Call) (t : Bool) → changes_pool (Some call) ≡ true
     → (if t then own_phase (Some call) else moving_phase (is_paced (Some call)) true 0)
-    ≡ call_phase_at (record { stage = if t then Own else Moving; call = Some call; steps = 0; chosen = true; way = Calls }) (if t then Own else Moving)
+    ≡ call_phase_at (record { stage = if t then Own else Moving; call = Some call; steps = 0; chosen = true; way = Calls })
+    (if t then Own else Moving)
 begun_phase Allocate true e = refl
 begun_phase Allocate false e = refl
 begun_phase (Free block) true e = refl
@@ -115,12 +118,14 @@ begun_chosen true = λ e. cc
 begun_chosen false = λ e. cc
 
 none_left : (call : Call) (t : Bool)
-    → may_choose_at (record { stage = if t then Own else Moving; call = Some call; steps = 0; chosen = true; way = Calls }) (if t then Own else Moving) ≡ false
+    → may_choose_at (record { stage = if t then Own else Moving; call = Some call; steps = 0; chosen = true; way = Calls })
+    (if t then Own else Moving) ≡ false
 none_left call true = refl
 none_left call false = grind arith
 
 enters_call : (sizes : Sizes) (i : ℕ) (x : ProcessView) (call : Call) (g : Ledger) → changes_pool (Some call) ≡ true → 0 < sizes.quantum
-    → g.account.plan ≡ x.pool.plan → g.account.phase ≡ (if is_idle x.pool.plan.pending then own_phase (Some call) else moving_phase (is_paced (Some call)) true 0)
+    → g.account.plan ≡ x.pool.plan
+    → g.account.phase ≡ (if is_idle x.pool.plan.pending then own_phase (Some call) else moving_phase (is_paced (Some call)) true 0)
     → Enters sizes x
     → InCalls sizes i (entered call (first_stage x) x) g
 enters_call sizes i x call g changes some plan phase h = record {
@@ -150,7 +155,8 @@ begun_plan a true false = refl
 begun_plan a false true = refl
 begun_plan a false false = refl
 
-begun_account_phase : (a : Account) (idle rests : Bool) → (account_begun_by idle rests a).phase ≡ (if rests then schedule.Own else schedule.Moving 0)
+begun_account_phase : (a : Account) (idle rests : Bool)
+    → (account_begun_by idle rests a).phase ≡ (if rests then schedule.Own else schedule.Moving 0)
 begun_account_phase a true true = refl
 begun_account_phase a true false = refl
 begun_account_phase a false true = refl
@@ -159,21 +165,25 @@ begun_account_phase a false false = refl
 still_between : (g : Ledger) → g.account.phase ≡ schedule.Between → schedule.moves_in g.account.phase ≡ false
 still_between g between = rw between refl
 
-begun_goes : (g : Ledger) (idle rests : Bool) → is_idle g.account.plan.pending ≡ idle → is_idle (after_choice g.account.plan).pending ≡ rests → g.account.phase ≡ schedule.Between
+begun_goes : (g : Ledger) (idle rests : Bool) → is_idle g.account.plan.pending ≡ idle
+    → is_idle (after_choice g.account.plan).pending ≡ rests → g.account.phase ≡ schedule.Between
     → GoesOn g (record g { account = account_begun_by idle rests g.account })
-begun_goes g true true idle rest between = steps.begins _ (still_between g between) refl (schedule.rests between rest)
+begun_goes g true true idle rest between = steps.begins _ (still_between g between) refl (schedule.idles between rest)
 begun_goes g true false idle busy between = steps.begins _ (still_between g between) refl (schedule.begins between idle busy)
-begun_goes g false true busy rest between = steps.begins _ (still_between g between) refl (schedule.rests between rest)
+begun_goes g false true busy rest between = steps.begins _ (still_between g between) refl (schedule.idles between rest)
 begun_goes g false false busy still between = steps.begins _ (still_between g between) refl (schedule.continues between busy)
 
 -- an allocate or a free begins
-between_phase : (sizes : Sizes) (i : ℕ) (v : ProcessView) (g : Ledger) → InCalls sizes i v g → v.calls.stage ≡ Between → g.account.phase ≡ schedule.Between
+between_phase : (sizes : Sizes) (i : ℕ) (v : ProcessView) (g : Ledger) → InCalls sizes i v g → v.calls.stage ≡ Between
+    → g.account.phase ≡ schedule.Between
 between_phase sizes i v g h e = h.phase ∙ ap (call_phase_at v.calls) e
 
 changing_begun : (sizes : Sizes) (i : ℕ) (v : ProcessView) (g : Ledger) (call : Call) → changes_pool (Some call) ≡ true
-    → own_phase (Some call) ≡ schedule.Own → moving_phase (is_paced (Some call)) true 0 ≡ schedule.Moving 0 → 0 < sizes.quantum → v.calls.stage ≡ Between
+    → own_phase (Some call) ≡ schedule.Own → moving_phase (is_paced (Some call)) true 0 ≡ schedule.Moving 0 → 0 < sizes.quantum
+    → v.calls.stage ≡ Between
     → HasAgeFor sizes v.pool.plan v.transfer.age
-    → InCalls sizes i v g → CarriesOn sizes i (entered call (first_stage (before_call v)) (before_call v)) g (record g { account = account_begun g.account })
+    → InCalls sizes i v g
+    → CarriesOn sizes i (entered call (first_stage (before_call v)) (before_call v)) g (record g { account = account_begun g.account })
 changing_begun sizes i v g call changes owns moves some between young h =
     let a = g.account in
     let x = before_call v in
@@ -184,7 +194,8 @@ changing_begun sizes i v g call changes owns moves some between young h =
       goes = begun_goes g idle rests refl refl (between_phase sizes i v g h between);
       calls = enters_call sizes i x call (record g { account = account_begun a }) changes some
           (begun_plan a idle rests ∙ chosen)
-          (rw (owns, moves) (begun_account_phase a idle rests ∙ ap (λ plan. if is_idle plan.pending then schedule.Own else schedule.Moving 0) chosen))
+          (rw (owns, moves)
+          (begun_account_phase a idle rests ∙ ap (λ plan. if is_idle plan.pending then schedule.Own else schedule.Moving 0) chosen))
           (enters_if_due sizes v (due v.pool) refl young (record { runs = h.runs; heads = h.heads; announced = h.announced }));
     }
 
@@ -206,7 +217,7 @@ chooses_still schedule.Between e = refl
 chooses_still schedule.Choosing e = refl
 chooses_still (schedule.Moving made) e = cc
 chooses_still schedule.Own e = refl
-chooses_still (schedule.Seeking own) e = cc
+chooses_still (schedule.Seeking chosen) e = cc
 chooses_still schedule.Sought e = refl
 chooses_still schedule.Leaving e = cc
 chooses_still schedule.Clearing e = refl
@@ -232,7 +243,8 @@ search_goes_on sizes i v g some chooses idle young h =
           (enters_if_due sizes v (due v.pool) refl (λ some. young) (record { runs = h.runs; heads = h.heads; announced = h.announced }));
     }
 
-pub search_chooses : (sizes : Sizes) (i : ℕ) (v : ProcessView) (g : Ledger) → 0 < sizes.quantum → v.calls.stage ≡ Choosing → InCalls sizes i v g
+pub search_chooses : (sizes : Sizes) (i : ℕ) (v : ProcessView) (g : Ledger) → 0 < sizes.quantum → v.calls.stage ≡ Choosing
+    → InCalls sizes i v g
     → CarriesOn sizes i (search_chosen v) g (ledger_chosen g)
 search_chooses sizes i v g some stage h =
     let choice : may_choose_at v.calls v.calls.stage ≡ true = rw stage refl in
@@ -244,7 +256,8 @@ search_chooses sizes i v g some stage h =
 not_announcing : (sizes : Sizes) (v : ProcessView) → PoolRuns sizes v → 1 ≤ v.pool.plan.done → v.transfer.next ≢ Announce
 not_announcing sizes v runs sent = λ e. (let few : v.pool.plan.done ≤ 0 = rw e at runs.counted refl in absurd (omega (arith, sent, few)))
 
-search_begins_by : (sizes : Sizes) (i : ℕ) (v : ProcessView) (g : Ledger) (t : Bool) → is_idle v.pool.plan.pending ≡ t → Scheduled sizes g.account
+search_begins_by : (sizes : Sizes) (i : ℕ) (v : ProcessView) (g : Ledger) (t : Bool) → is_idle v.pool.plan.pending ≡ t
+    → Scheduled sizes g.account
     → v.calls.stage ≡ Between → v.transfer.age < most_age sizes → InCalls sizes i v g
     → CarriesOn sizes i (search_begun_by t v) g (record g { account = account_searching t g.account })
 search_begins_by sizes i v g true idle s between young h =
@@ -252,7 +265,8 @@ search_begins_by sizes i v g true idle s between young h =
 search_begins_by sizes i v g false busy s between young h =
     let phase = between_phase sizes i v g h between in
     let pends : is_idle g.account.plan.pending ≡ false = ap (λ plan. is_idle plan.pending) h.plan ∙ busy in
-    let waits = stands_waits g.account (reached_stands _ _ _ g.account s.fit s.reached) phase (busy_not_idle g.account.plan.pending pends) in
+    let waits =
+    stands_waits g.account (reached_stands _ _ _ g.account s.fit s.reached) phase (busy_not_idle g.account.plan.pending pends) in
     let sent : 1 ≤ v.pool.plan.done = rw h.plan at waits in
     record {
       goes = steps.begins _ (still_between g phase) refl (schedule.meets phase pends);
@@ -272,13 +286,14 @@ search_begins_by sizes i v g false busy s between young h =
           searches = λ e. cc;
           rests = λ e. cc;
         };
-        choice = λ e. record { young = young; sent = not_announcing sizes v h.runs sent };
+        choice = λ e. record { young = young; announced = not_announcing sizes v h.runs sent };
         fresh = λ e. cc;
       };
     }
 
 -- a read or a write begins
-keeping_begun : (sizes : Sizes) (i : ℕ) (v : ProcessView) (g : Ledger) (call : Call) → changes_pool (Some call) ≡ false → v.calls.stage ≡ Between → InCalls sizes i v g
+keeping_begun : (sizes : Sizes) (i : ℕ) (v : ProcessView) (g : Ledger) (call : Call) → changes_pool (Some call) ≡ false
+    → v.calls.stage ≡ Between → InCalls sizes i v g
     → InCalls sizes i (entered call Own v) g
 keeping_begun sizes i v g call keeps between h = record {
   way = λ e. cc;
@@ -287,12 +302,21 @@ keeping_begun sizes i v g call keeps between h = record {
   runs = runs_with_calls sizes v _ h.runs;
   heads = h.heads;
   announced = h.announced;
-  stage = record { none = λ e. cc; changes = λ e. cc; pending = λ e. cc; few = λ e. cc; some = λ e. λ none. cc; searches = λ e. cc; rests = λ e. cc };
+  stage = record {
+    none = λ e. cc;
+    changes = λ e. cc;
+    pending = λ e. cc;
+    few = λ e. cc;
+    some = λ e. λ none. cc;
+    searches = λ e. cc;
+    rests = λ e. cc;
+  };
   choice = λ e. cc;
   fresh = λ e. cc;
 }
   where
-    kept_phase : (call : Call) → changes_pool (Some call) ≡ false → schedule.Between ≡ call_phase_at (record { stage = Own; call = Some call; steps = 0; chosen = true; way = Calls }) Own
+    kept_phase : (call : Call) → changes_pool (Some call) ≡ false
+        → schedule.Between ≡ call_phase_at (record { stage = Own; call = Some call; steps = 0; chosen = true; way = Calls }) Own
     kept_phase Allocate e = grind arith
     kept_phase (Free block) e = grind arith
     kept_phase (Read block index) e = refl
@@ -300,7 +324,8 @@ keeping_begun sizes i v g call keeps between h = record {
     kept_phase Search e = grind arith
 
 -- each call begins
-pub changing_call_begins : (sizes : Sizes) (i : ℕ) (v : ProcessView) (g : Ledger) (call : Call) → changes_pool (Some call) ≡ true → Scheduled sizes g.account
+pub changing_call_begins : (sizes : Sizes) (i : ℕ) (v : ProcessView) (g : Ledger) (call : Call) → changes_pool (Some call) ≡ true
+    → Scheduled sizes g.account
     → v.calls.stage ≡ Between → IsYoungFor sizes call v
     → InCalls sizes i v g → CarriesOn sizes i (call_begun call v) g (ledger_begun call g)
 changing_call_begins sizes i v g Allocate changes s between young h =
@@ -310,12 +335,15 @@ changing_call_begins sizes i v g (Free block) changes s between young h =
 changing_call_begins sizes i v g (Read block index) changes s between young h = grind arith
 changing_call_begins sizes i v g (Write block index value) changes s between young h = grind arith
 changing_call_begins sizes i v g Search changes s between young h =
-    rw (ap (λ (plan : Numbers). is_idle plan.pending) h.plan) (search_begins_by sizes i v g (is_idle v.pool.plan.pending) refl s between young h)
+    rw (ap (λ (plan : Numbers). is_idle plan.pending) h.plan)
+    (search_begins_by sizes i v g (is_idle v.pool.plan.pending) refl s between young h)
 
-pub keeping_call_begins : (sizes : Sizes) (i : ℕ) (v : ProcessView) (g : Ledger) (call : Call) → changes_pool (Some call) ≡ false → v.calls.stage ≡ Between → InCalls sizes i v g
+pub keeping_call_begins : (sizes : Sizes) (i : ℕ) (v : ProcessView) (g : Ledger) (call : Call) → changes_pool (Some call) ≡ false
+    → v.calls.stage ≡ Between → InCalls sizes i v g
     → InCalls sizes i (call_begun call v) g
 keeping_call_begins sizes i v g Allocate keeps between h = grind arith
 keeping_call_begins sizes i v g (Free block) keeps between h = grind arith
 keeping_call_begins sizes i v g (Read block index) keeps between h = keeping_begun sizes i v g (Read block index) keeps between h
-keeping_call_begins sizes i v g (Write block index value) keeps between h = keeping_begun sizes i v g (Write block index value) keeps between h
+keeping_call_begins sizes i v g (Write block index value) keeps between h =
+    keeping_begun sizes i v g (Write block index value) keeps between h
 keeping_call_begins sizes i v g Search keeps between h = grind arith

@@ -42,7 +42,8 @@ use Rattle.call_invariant.proofs.Standing.{in_table}
 use Rattle.call_invariant.proofs.Moved.{Moves, calls_counted, moves_at, moves_now, counted_calls, phase_goes, phase_ends}
 
 -- a step that doesn't end the transfer
-more_left : (sizes : Sizes) (v : TransferView) (s : NextStep) → IndexFitsAt sizes v.loaded s → (has_record s ≡ true → overlay_length v.loaded ≤ sizes.processes) → goes_on s ≡ true
+more_left : (sizes : Sizes) (v : TransferView) (s : NextStep) → IndexFitsAt sizes v.loaded s
+    → (has_record s ≡ true → overlay_length v.loaded ≤ sizes.processes) → goes_on s ≡ true
     → steps_before_at sizes.processes s + 1 < transfer_bound sizes
 more_left sizes v s index few going = grind (arith, nat_tests)
 
@@ -65,7 +66,8 @@ going_goes sizes v g s e going m few =
     let (moving, sent) = going_is_moving s going in
     let index = rw e at m.runs.index in
     let counted : v.pool.plan.done ≤ steps_before_at sizes.processes s = rw e at m.runs.counted moving in
-    let low : v.pool.plan.done + 1 < v.pool.plan.bound = rw m.runs.kept.bound (less_done v.pool.plan.done _ (transfer_bound sizes) counted (more_left sizes v.transfer s index few going)) in
+    let low : v.pool.plan.done + 1 < v.pool.plan.bound =
+    rw m.runs.kept.bound (less_done v.pool.plan.done _ (transfer_bound sizes) counted (more_left sizes v.transfer s index few going)) in
     let some : 0 < v.pool.plan.done = m.announced (rw e sent) in
     steps.moves (moves_now sizes v g m) (rw m.plan some) (rw m.plan low)
 
@@ -87,11 +89,13 @@ going_chooses : (sizes : Sizes) (v : ProcessView) (word : ℕ) (s : NextStep) �
     → MayChoose sizes (record v { transfer = met_at sizes v.transfer word s; pool = pool_met_at word v.pool s })
 going_chooses sizes v word s going k =
     let stays = step_stays sizes v.transfer word s going in
-    record { young = omega (arith, k.young, stays.age); sent = never_announces _ stays.announced }
+    record { young = omega (arith, k.young, stays.age); announced = never_announces _ stays.announced }
 
-going_carries : (sizes : Sizes) (i : ℕ) (v : ProcessView) (word : ℕ) (g : Ledger) (s : NextStep) → v.transfer.next ≡ s → goes_on s ≡ true → 1 ≤ sizes.processes → Moves sizes v g
+going_carries : (sizes : Sizes) (i : ℕ) (v : ProcessView) (word : ℕ) (g : Ledger) (s : NextStep) → v.transfer.next ≡ s → goes_on s ≡ true
+    → 1 ≤ sizes.processes → Moves sizes v g
     → (has_record s ≡ true → overlay_length v.transfer.loaded ≤ sizes.processes)
-    → CarriesOn sizes i (move_counted sizes (record v { transfer = met_at sizes v.transfer word s; pool = pool_met_at word v.pool s })) g (ledger_moved_at word s g)
+    → CarriesOn sizes i (move_counted sizes (record v { transfer = met_at sizes v.transfer word s; pool = pool_met_at word v.pool s })) g
+    (ledger_moved_at word s g)
 going_carries sizes i v word g s e going some m few =
     let x = met_at sizes v.transfer word s in
     let same = going_pool v.pool word s going in
@@ -108,8 +112,11 @@ going_carries sizes i v word g s e going some m few =
     })
 
 -- the announcement
-announce_carries : (sizes : Sizes) (i : ℕ) (v : ProcessView) (word : ℕ) (g : Ledger) → v.transfer.next ≡ Announce → 1 ≤ sizes.processes → Moves sizes v g
-    → CarriesOn sizes i (move_counted sizes (record v { transfer = met_at sizes v.transfer word Announce; pool = pool_met_at word v.pool Announce })) g (announced g)
+announce_carries : (sizes : Sizes) (i : ℕ) (v : ProcessView) (word : ℕ) (g : Ledger) → v.transfer.next ≡ Announce → 1 ≤ sizes.processes
+    → Moves sizes v g
+    → CarriesOn sizes i
+    (move_counted sizes (record v { transfer = met_at sizes v.transfer word Announce; pool = pool_met_at word v.pool Announce })) g
+    (announced g)
 announce_carries sizes i v word g e some m =
     let x = met_at sizes v.transfer word Announce in
     let counted : v.pool.plan.done ≤ 0 = rw e at m.runs.counted refl in
@@ -120,22 +127,25 @@ announce_carries sizes i v word g e some m =
           (ap (after_steps 1) m.plan)
           (stepped_phase sizes v g (Try false LoadState) m refl)
           (step_runs sizes v word Announce e some m.runs (λ has. absurd (none has)))
-          m.heads (λ sent. one_step_more v.pool.plan) (λ k. absurd (k.sent e));
+          m.heads (λ sent. one_step_more v.pool.plan) (λ k. absurd (k.announced e));
     }
   where
     none : has_record Announce ≡ true → ⊥
     none has = cc
 
 -- the reply: what it says of the plan and of the spares
-ended_plan : (pool : PoolView) (reply : Reply) → (pool_ended reply (step_counted pool)).plan ≡ after_end (found_by reply) (after_steps 1 pool.plan)
+ended_plan : (pool : PoolView) (reply : Reply)
+    → (pool_ended reply (step_counted pool)).plan ≡ after_end (found_by reply) (after_steps 1 pool.plan)
 ended_plan pool Nothing = refl
 ended_plan pool (Took head) = refl
 ended_plan pool Gave = refl
 
-ended_heads : (pool : PoolView) (wish : Wish) (reply : Reply) → pool.plan.pending ≡ pending_of wish → Answers wish reply → InTable pool.plan → length pool.heads ≡ pool.plan.spares
+ended_heads : (pool : PoolView) (wish : Wish) (reply : Reply) → pool.plan.pending ≡ pending_of wish → Answers wish reply → InTable pool.plan
+    → length pool.heads ≡ pool.plan.spares
     → length (pool_ended reply (step_counted pool)).heads ≡ (pool_ended reply (step_counted pool)).plan.spares
 ended_heads pool Take Nothing pending a table h = grind (arith, nat_tests)
-ended_heads pool Take (Took head) pending a table h = let few = table.take pending in grind (arith, nat_tests, one_more_few pool.plan.spares, length-append pool.heads (head ∷ []))
+ended_heads pool Take (Took head) pending a table h =
+    let few = table.take pending in grind (arith, nat_tests, one_more_few pool.plan.spares, length-append pool.heads (head ∷ []))
 ended_heads pool Take Gave pending a table h = absurd a
 ended_heads pool (Give head) Nothing pending a table h = absurd a
 ended_heads pool (Give head) (Took batch) pending a table h = absurd a
@@ -154,10 +164,13 @@ take_wished (Give head) e = grind arith
 found_none : (reply : Reply) → found_by reply ≡ false → reply ≡ Nothing
 found_none reply e = grind arith
 
-reply_carries : (sizes : Sizes) (i : ℕ) (v : ProcessView) (word : ℕ) (g : Ledger) → v.transfer.next ≡ LoadReply → 1 ≤ sizes.processes → Moves sizes v g → InTable v.pool.plan
+reply_carries : (sizes : Sizes) (i : ℕ) (v : ProcessView) (word : ℕ) (g : Ledger) → v.transfer.next ≡ LoadReply → 1 ≤ sizes.processes
+    → Moves sizes v g → InTable v.pool.plan
     → Answers v.transfer.wish (reply_of (value_of word))
     → (is_take v.transfer.wish ≡ true → reply_of (value_of word) ≡ Nothing → g.found_nothing ≡ true)
-    → CarriesOn sizes i (move_counted sizes (record v { transfer = met_at sizes v.transfer word LoadReply; pool = pool_met_at word v.pool LoadReply })) g (ended (found_by (reply_of (value_of word))) g)
+    → CarriesOn sizes i
+    (move_counted sizes (record v { transfer = met_at sizes v.transfer word LoadReply; pool = pool_met_at word v.pool LoadReply })) g
+    (ended (found_by (reply_of (value_of word))) g)
 reply_carries sizes i v word g e some m table answers nothing =
     let x = met_at sizes v.transfer word LoadReply in
     let reply = reply_of (value_of word) in
@@ -170,13 +183,15 @@ reply_carries sizes i v word g e some m table answers nothing =
       goes = steps.ends (found_by reply) (moves_now sizes v g m) (rw m.plan sent) (rw m.plan low)
           (λ giving. give_found v.transfer.wish reply answers (rw wished at giving))
           (λ taking none. nothing (take_wished v.transfer.wish (rw wished at taking)) (found_none reply none));
-      calls = counted_calls sizes i v (record v { transfer = x; pool = pool_ended reply (step_counted v.pool) }) g (ended (found_by reply) g) m refl
+      calls =
+          counted_calls sizes i v (record v { transfer = x; pool = pool_ended reply (step_counted v.pool) }) g
+          (ended (found_by reply) g) m refl
           (ap (λ plan. after_end (found_by reply) (after_steps 1 plan)) m.plan ∙ sym (ended_plan v.pool reply))
           (rw m.phase (phase_ends sizes.quantum v.calls m.changes))
           (step_runs sizes v word LoadReply e some m.runs (λ has. absurd (none has)))
           (ended_heads v.pool v.transfer.wish reply pending answers table m.heads)
           (λ after. absurd (over after))
-          (λ k. record { young = k.young; sent = λ rest. cc });
+          (λ k. record { young = k.young; announced = λ rest. cc });
     }
   where
     none : has_record LoadReply ≡ true → ⊥
@@ -191,21 +206,27 @@ record MayMeet (sizes : Sizes) (v : TransferView) (word : ℕ) (g : Ledger) (s :
   answers : s ≡ LoadReply → Answers v.wish (reply_of (value_of word))
   nothing : s ≡ LoadReply → is_take v.wish ≡ true → reply_of (value_of word) ≡ Nothing → g.found_nothing ≡ true
 
-step_carries : (sizes : Sizes) (i : ℕ) (v : ProcessView) (word : ℕ) (g : Ledger) (s : NextStep) → v.transfer.next ≡ s → s ≢ Rest → 1 ≤ sizes.processes → Moves sizes v g → InTable v.pool.plan
+step_carries : (sizes : Sizes) (i : ℕ) (v : ProcessView) (word : ℕ) (g : Ledger) (s : NextStep) → v.transfer.next ≡ s → s ≢ Rest
+    → 1 ≤ sizes.processes → Moves sizes v g → InTable v.pool.plan
     → MayMeet sizes v.transfer word g s
-    → CarriesOn sizes i (move_counted sizes (record v { transfer = met_at sizes v.transfer word s; pool = pool_met_at word v.pool s })) g (ledger_moved_at word s g)
+    → CarriesOn sizes i (move_counted sizes (record v { transfer = met_at sizes v.transfer word s; pool = pool_met_at word v.pool s })) g
+    (ledger_moved_at word s g)
 step_carries sizes i v word g Rest e busy some m table may = absurd (busy refl)
 step_carries sizes i v word g Announce e busy some m table may = announce_carries sizes i v word g e some m
-step_carries sizes i v word g (Try second step) e busy some m table may = going_carries sizes i v word g (Try second step) e refl some m may.few
+step_carries sizes i v word g (Try second step) e busy some m table may =
+    going_carries sizes i v word g (Try second step) e refl some m may.few
 step_carries sizes i v word g LoadFinalState e busy some m table may = going_carries sizes i v word g LoadFinalState e refl some m may.few
-step_carries sizes i v word g LoadReply e busy some m table may = reply_carries sizes i v word g e some m table (may.answers refl) (may.nothing refl)
+step_carries sizes i v word g LoadReply e busy some m table may =
+    reply_carries sizes i v word g e some m table (may.answers refl) (may.nothing refl)
 
-pub transfer_steps_carry : (sizes : Sizes) (i : ℕ) (v : ProcessView) (word : ℕ) (g : Ledger) → InCalls sizes i v g → Scheduled sizes g.account → v.calls.stage ≡ Moving → 1 ≤ sizes.processes
+pub transfer_steps_carry : (sizes : Sizes) (i : ℕ) (v : ProcessView) (word : ℕ) (g : Ledger) → InCalls sizes i v g
+    → Scheduled sizes g.account → v.calls.stage ≡ Moving → 1 ≤ sizes.processes
     → GivenToPool sizes v.transfer word
     → (v.transfer.next ≡ LoadReply → is_take v.transfer.wish ≡ true → reply_of (value_of word) ≡ Nothing → g.found_nothing ≡ true)
     → CarriesOn sizes i (call_met_at sizes v word Moving) g (ledger_moved_at word v.transfer.next g)
 transfer_steps_carry sizes i v word g h s e some given nothing =
-    step_carries sizes i v word g v.transfer.next refl (h.stage.pending e) some (moves_at sizes i v g h e) (in_table sizes i v g s h) (record { few = given.few; answers = given.answers; nothing = nothing })
+    step_carries sizes i v word g v.transfer.next refl (h.stage.pending e) some (moves_at sizes i v g h e) (in_table sizes i v g s h)
+    (record { few = given.few; answers = given.answers; nothing = nothing })
 
 -- no step of the transfer makes an entry
 pub enters_nothing : (word : ℕ) (s : NextStep) (g : Ledger)

@@ -9,14 +9,13 @@ use Rattle.transfer_machine.specs.Stages.{is_rest}
 use Rattle.pool_machine.specs.declared.call.CallView.{CallView}
 use Rattle.pool_machine.specs.declared.call.Call.{Call}
 use Rattle.pool_machine.specs.declared.call.Call.TheVariants.{Allocate, Free, Read, Write, Search}
-use Rattle.pool_machine.specs.declared.call.CallStage.{CallStage}
-use Rattle.pool_machine.specs.declared.call.CallStage.TheVariants.{Between, Choosing, Moving, Own}
+use Rattle.pool_machine.specs.declared.call.CallStage.TheVariants.{Between, Choosing, Moving}
 use Rattle.pool_machine.specs.declared.call.Way.TheVariants.{Fresh, Alone}
 use Rattle.transfer_machine.specs.declared.stage.NextStep.{NextStep}
-use Rattle.transfer_machine.specs.declared.stage.NextStep.TheVariants.{Rest, Announce}
+use Rattle.transfer_machine.specs.declared.stage.NextStep.TheVariants.{Rest}
 use Rattle.pool_machine.specs.declared.view.ProcessView.{ProcessView}
 use Rattle.transfer_invariant.specs.Progress.{has_announced}
-use Rattle.pool_machine.specs.Steps.{after_move, after_search_move, is_paced, stage_after, steps_after, move_counted}
+use Rattle.pool_machine.specs.Steps.{is_paced, stage_after, steps_after, move_counted}
 use Rattle.pool_invariant.specs.Holds.{PoolRuns}
 use Rattle.history_invariant.specs.Ledger.{Ledger}
 use Rattle.call_invariant.specs.Phases.{changes_pool, own_phase, moving_phase, may_choose_at, call_phase_at, call_phase}
@@ -99,7 +98,8 @@ calls_counted quantum next calls = record calls {
   steps = steps_after (is_paced calls.call) calls.steps;
 }
 
-paced_steps : (paced : Bool) (steps quantum : ℕ) → paced ≡ true → (paced ≡ true → steps < quantum) → steps + 1 ≢ quantum → steps_after paced steps < quantum
+paced_steps : (paced : Bool) (steps quantum : ℕ) → paced ≡ true → (paced ≡ true → steps < quantum) → steps + 1 ≢ quantum
+    → steps_after paced steps < quantum
 paced_steps true steps quantum e few ne = let lt = few refl in omega (arith, ne, lt)
 paced_steps false steps quantum e few ne = cc
 
@@ -161,7 +161,8 @@ phase_ends quantum calls changes = by_pace (is_paced calls.call) calls.chosen re
     by_pace false false e = refl
 
 -- a search that hasn't chosen keeps its age in the steps of the transfer that it met
-still_open : (paced chosen : Bool) (quantum steps : ℕ) (next : NextStep) (calls : CallView) → is_paced calls.call ≡ paced → calls.chosen ≡ chosen
+still_open : (paced chosen : Bool) (quantum steps : ℕ) (next : NextStep) (calls : CallView) → is_paced calls.call ≡ paced
+    → calls.chosen ≡ chosen
     → may_choose_at calls (stage_after paced chosen quantum steps next) ≡ true → (not paced && not chosen) ≡ true
 still_open true chosen quantum steps next calls e f choice = grind (arith, nat_tests)
 still_open false true quantum steps next calls e f choice = grind (arith, nat_tests)
@@ -192,6 +193,6 @@ counted_calls sizes i v x g new m same plan phase runs heads sent choice =
           (calls_counted sizes.quantum x.transfer.next x.calls) refl refl e in
           let was : may_choose_at v.calls Moving ≡ true = rw same at now in
           let k = choice (m.choice was) in
-          record { young = k.young; sent = k.sent };
+          record { young = k.young; announced = k.announced };
       fresh = λ e. absurd (m.fresh (ap (λ c. c.way) (sym same) ∙ e));
     }

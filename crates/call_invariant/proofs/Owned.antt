@@ -55,7 +55,8 @@ took_room x l e h = grind (arith, nat_tests)
 gave_room : (x : Numbers) (l : ℕ) → x.length ≡ l → 2 ≤ l → x.current ≤ l → (after_gave_one x).current ≤ l
 gave_room x l e long h = grind (arith, nat_tests)
 
-runs_with_pool : (sizes : Sizes) (v : ProcessView) (pool : PoolView) (calls : CallView) → PendsAs v.pool.plan pool.plan → pool.giving ≡ v.pool.giving → pool.plan.current ≤ sizes.length
+runs_with_pool : (sizes : Sizes) (v : ProcessView) (pool : PoolView) (calls : CallView) → PendsAs v.pool.plan pool.plan
+    → pool.giving ≡ v.pool.giving → pool.plan.current ≤ sizes.length
     → PoolRuns sizes v
     → PoolRuns sizes (record v { pool = pool; calls = calls })
 runs_with_pool sizes v pool calls pends giving room h = record {
@@ -76,7 +77,8 @@ runs_with_pool sizes v pool calls pends giving room h = record {
 }
 
 -- each spare keeps its head
-took_heads : (word : ℕ) (pool : PoolView) (s : Source) → source_of pool.plan ≡ s → length pool.heads ≡ pool.plan.spares → length (allocated word pool s).heads ≡ (allocated word pool s).plan.spares
+took_heads : (word : ℕ) (pool : PoolView) (s : Source) → source_of pool.plan ≡ s → length pool.heads ≡ pool.plan.spares
+    → length (allocated word pool s).heads ≡ (allocated word pool s).plan.spares
 took_heads word pool source.Current e h = grind (arith, nat_tests)
 took_heads word pool source.Spare e h = popped pool.heads pool.plan.spares h ∙ sym (left pool.plan e)
   where
@@ -87,12 +89,14 @@ took_heads word pool source.Spare e h = popped pool.heads pool.plan.spares h ∙
     left x e = grind (arith, nat_tests)
 took_heads word pool source.Nothing e h = grind (arith, nat_tests)
 
-gave_heads : (block : ℕ) (pool : PoolView) (t : Target) → target_of pool.plan ≡ t → pool.plan.spares ≤ 3 → length pool.heads ≡ pool.plan.spares
+gave_heads : (block : ℕ) (pool : PoolView) (t : Target) → target_of pool.plan ≡ t → pool.plan.spares ≤ 3
+    → length pool.heads ≡ pool.plan.spares
     → length (freed block pool t).heads ≡ (freed block pool t).plan.spares
 gave_heads block pool target.Current e few h = grind (arith, nat_tests)
 gave_heads block pool target.Fresh e few h = length-append pool.heads ((pool.head - 1) ∷ []) ∙ more pool.plan (length pool.heads) h e few
   where
-    more : (x : Numbers) (n : ℕ) → n ≡ x.spares → target_of x ≡ target.Fresh → x.spares ≤ 3 → n + length ((pool.head - 1) ∷ []) ≡ (after_gave_one x).spares
+    more : (x : Numbers) (n : ℕ) → n ≡ x.spares → target_of x ≡ target.Fresh → x.spares ≤ 3
+        → n + length ((pool.head - 1) ∷ []) ≡ (after_gave_one x).spares
     more x n h e few = grind (arith, nat_tests, one_more_few x.spares)
 
 -- a process that has left its call
@@ -107,7 +111,15 @@ left_calls sizes i v g new pool h own pends giving room heads plan phase = recor
   runs = runs_with_pool sizes v pool _ pends giving room h.runs;
   heads = heads;
   announced = λ e. rw pends.transfer.done (h.announced e);
-  stage = record { none = λ e. refl; changes = λ e. cc; pending = λ e. cc; few = λ e. cc; some = λ e. cc; searches = λ e. cc; rests = λ e. cc };
+  stage = record {
+    none = λ e. refl;
+    changes = λ e. cc;
+    pending = λ e. cc;
+    few = λ e. cc;
+    some = λ e. cc;
+    searches = λ e. cc;
+    rests = λ e. cc;
+  };
   choice = λ e. cc;
   fresh = λ e. absurd (not_fresh sizes i v g h (λ between. apart (sym own ∙ between)) e);
 }
@@ -128,23 +140,29 @@ getting_met word pool (Some (Read block index)) e = cc
 getting_met word pool (Some (Write block index value)) e = cc
 getting_met word pool (Some Search) e = refl
 
-allocate_leaves : (sizes : Sizes) (i : ℕ) (v : ProcessView) (word : ℕ) (g new : Ledger) → InCalls sizes i v g → v.calls.stage ≡ Own → is_getting v.calls.call ≡ true
+allocate_leaves : (sizes : Sizes) (i : ℕ) (v : ProcessView) (word : ℕ) (g new : Ledger) → InCalls sizes i v g → v.calls.stage ≡ Own
+    → is_getting v.calls.call ≡ true
     → new.account.plan ≡ after_took_one g.account.plan → new.account.phase ≡ schedule.Between
     → InCalls sizes i (own_met v word) new
 allocate_leaves sizes i v word g new h own call plan phase =
     let s = source_of v.pool.plan in
     let same = allocated_plan word v.pool s in
     rw (getting_met word v.pool v.calls.call call) (left_calls sizes i v g new (allocated word v.pool s) h own
-    (rw same (took_pends v.pool.plan)) (allocated_giving word v.pool s) (rw same (took_room v.pool.plan sizes.length h.runs.kept.batch h.runs.kept.room)) (took_heads word v.pool s refl h.heads)
+    (rw same (took_pends v.pool.plan)) (allocated_giving word v.pool s)
+    (rw same (took_room v.pool.plan sizes.length h.runs.kept.batch h.runs.kept.room)) (took_heads word v.pool s refl h.heads)
     (plan ∙ ap after_took_one h.plan ∙ sym same) phase)
 
-pub gets_leave : (sizes : Sizes) (i : ℕ) (v : ProcessView) (word : ℕ) (g : Ledger) (history : List Entry) (entry : Entry) → InCalls sizes i v g → v.calls.stage ≡ Own → is_getting v.calls.call ≡ true
+pub gets_leave : (sizes : Sizes) (i : ℕ) (v : ProcessView) (word : ℕ) (g : Ledger) (history : List Entry) (entry : Entry)
+    → InCalls sizes i v g → v.calls.stage ≡ Own → is_getting v.calls.call ≡ true
     → InCalls sizes i (own_met v word) (entered history entry (got_one g.account) g)
-gets_leave sizes i v word g history entry h own call = allocate_leaves sizes i v word g (entered history entry (got_one g.account) g) h own call refl refl
+gets_leave sizes i v word g history entry h own call =
+    allocate_leaves sizes i v word g (entered history entry (got_one g.account) g) h own call refl refl
 
-pub refusals_leave : (sizes : Sizes) (i : ℕ) (v : ProcessView) (word : ℕ) (g : Ledger) (history : List Entry) (entry : Entry) → InCalls sizes i v g → v.calls.stage ≡ Own → is_getting v.calls.call ≡ true
+pub refusals_leave : (sizes : Sizes) (i : ℕ) (v : ProcessView) (word : ℕ) (g : Ledger) (history : List Entry) (entry : Entry)
+    → InCalls sizes i v g → v.calls.stage ≡ Own → is_getting v.calls.call ≡ true
     → InCalls sizes i (own_met v word) (entered history entry (got_none g.account) g)
-refusals_leave sizes i v word g history entry h own call = allocate_leaves sizes i v word g (entered history entry (got_none g.account) g) h own call refl refl
+refusals_leave sizes i v word g history entry h own call =
+    allocate_leaves sizes i v word g (entered history entry (got_none g.account) g) h own call refl refl
 
 -- a free
 freed_giving : (block : ℕ) (pool : PoolView) (t : Target) → (freed block pool t).giving ≡ pool.giving
@@ -154,16 +172,17 @@ own_phase_at : (calls : CallView) → calls.stage ≡ Own → call_phase_at call
 own_phase_at calls own = rw own refl
 
 -- at its own step an allocate, a free or a search is so in the schedule
-pub phase_own : (sizes : Sizes) (i : ℕ) (v : ProcessView) (g : Ledger) → InCalls sizes i v g → v.calls.stage ≡ Own → g.account.phase ≡ own_phase v.calls.call
+pub phase_own : (sizes : Sizes) (i : ℕ) (v : ProcessView) (g : Ledger) → InCalls sizes i v g → v.calls.stage ≡ Own
+    → g.account.phase ≡ own_phase v.calls.call
 phase_own sizes i v g h own = h.phase ∙ own_phase_at v.calls own
 
-pub getting_owns : (call : Option Call) → is_getting call ≡ true → schedule.owns_in (own_phase call) ≡ true
-getting_owns None e = cc
-getting_owns (Some Allocate) e = refl
-getting_owns (Some (Free block)) e = cc
-getting_owns (Some (Read block index)) e = cc
-getting_owns (Some (Write block index value)) e = cc
-getting_owns (Some Search) e = refl
+pub getting_asks : (call : Option Call) → is_getting call ≡ true → schedule.asks_in (own_phase call) ≡ true
+getting_asks None e = cc
+getting_asks (Some Allocate) e = refl
+getting_asks (Some (Free block)) e = cc
+getting_asks (Some (Read block index)) e = cc
+getting_asks (Some (Write block index value)) e = cc
+getting_asks (Some Search) e = refl
 
 -- there are at most three spares, also after a free: with three the current list has room for its block
 few_in_table : (x : Numbers) → InTable x → x.spares ≤ 3
@@ -174,23 +193,29 @@ few_in_table x h = by_pending x.pending refl
     by_pending Taking e = let few = h.take e in omega arith
     by_pending Giving e = h.give e
 
-pub spares_few : (sizes : Sizes) (i : ℕ) (v : ProcessView) (g : Ledger) → Scheduled sizes g.account → InCalls sizes i v g → v.pool.plan.spares ≤ 3
+pub spares_few : (sizes : Sizes) (i : ℕ) (v : ProcessView) (g : Ledger) → Scheduled sizes g.account → InCalls sizes i v g
+    → v.pool.plan.spares ≤ 3
 spares_few sizes i v g s h = few_in_table v.pool.plan (in_table sizes i v g s h)
 
 few_when_full : (x : Numbers) → target_of x ≡ target.Fresh → x.spares ≤ 3 → (after_gave_one x).spares ≤ 3 → x.spares < 3
 few_when_full x fresh few after = grind (arith, nat_tests, one_more_few x.spares)
 
 reached_few : (sizes : Sizes) (a : Account) → Scheduled sizes a → a.plan.spares ≤ 3
-reached_few sizes a s = few_in_table a.plan (stands_table a (reached_stands sizes.length (transfer_bound sizes) sizes.quantum a s.fit s.reached))
+reached_few sizes a s =
+    few_in_table a.plan (stands_table a (reached_stands sizes.length (transfer_bound sizes) sizes.quantum a s.fit s.reached))
 
-pub frees_have_room : (sizes : Sizes) (i : ℕ) (v : ProcessView) (g : Ledger) → InCalls sizes i v g → Scheduled sizes g.account → v.calls.stage ≡ Own → own_phase v.calls.call ≡ schedule.Own
+pub frees_have_room : (sizes : Sizes) (i : ℕ) (v : ProcessView) (g : Ledger) → InCalls sizes i v g → Scheduled sizes g.account
+    → v.calls.stage ≡ Own → own_phase v.calls.call ≡ schedule.Own
     → g.account.backs < g.account.gots → target_of v.pool.plan ≡ target.Fresh → length v.pool.heads < 3
 frees_have_room sizes i v g h s own frees_now held fresh =
-    let after = reached_few sizes (gave_back g.account) (record { fit = s.fit; reached = follows s.reached (frees (phase_own sizes i v g h own ∙ frees_now) (λ unbroken. held)) }) in
+    let after =
+    reached_few sizes (gave_back g.account)
+    (record { fit = s.fit; reached = follows s.reached (frees (phase_own sizes i v g h own ∙ frees_now) (λ unbroken. held)) }) in
     rw h.heads (few_when_full v.pool.plan fresh (spares_few sizes i v g s h) (rw (sym h.plan) after))
 
 -- a process that holds a block has been given more than it gave back
-pub holders_may_free : (account : Account) (entries : List Entry) (block : ℕ) → CountsEntries account entries → Balances entries → Contains (grip entries) block → account.backs < account.gots
+pub holders_may_free : (account : Account) (entries : List Entry) (block : ℕ) → CountsEntries account entries → Balances entries
+    → Contains (grip entries) block → account.backs < account.gots
 holders_may_free account entries block counts balance held =
     let (k, lt, at) = at_from_Contains (grip entries) block held in
     omega (arith, counts.gots, counts.backs, balance)
@@ -209,10 +234,12 @@ no_block_has_none pool e = by_source (source_of pool.plan) e
 spare_has_head : (x : Numbers) → source_of x ≡ source.Spare → 1 ≤ x.spares
 spare_has_head x e = grind (arith, nat_tests)
 
-pub allocates_have_spare : (sizes : Sizes) (i : ℕ) (v : ProcessView) (g : Ledger) → InCalls sizes i v g → source_of v.pool.plan ≡ source.Spare → 1 ≤ length v.pool.heads
+pub allocates_have_spare : (sizes : Sizes) (i : ℕ) (v : ProcessView) (g : Ledger) → InCalls sizes i v g
+    → source_of v.pool.plan ≡ source.Spare → 1 ≤ length v.pool.heads
 allocates_have_spare sizes i v g h e = rw h.heads (spare_has_head v.pool.plan e)
 
-pub frees_leave : (sizes : Sizes) (i : ℕ) (v : ProcessView) (word block : ℕ) (g : Ledger) (history : List Entry) (entry : Entry) → InCalls sizes i v g → Scheduled sizes g.account
+pub frees_leave : (sizes : Sizes) (i : ℕ) (v : ProcessView) (word block : ℕ) (g : Ledger) (history : List Entry) (entry : Entry)
+    → InCalls sizes i v g → Scheduled sizes g.account
     → v.calls.stage ≡ Own → v.calls.call ≡ Some (Free block)
     → InCalls sizes i (own_met v word) (entered history entry (gave_back g.account) g)
 frees_leave sizes i v word block g history entry h s own call =
@@ -220,7 +247,9 @@ frees_leave sizes i v word block g history entry h s own call =
     let same = freed_plan block v.pool t in
     let few = spares_few sizes i v g s h in
     rw call (left_calls sizes i v g (entered history entry (gave_back g.account) g) (freed block v.pool t) h own
-    (rw same (gave_pends v.pool.plan)) (freed_giving block v.pool t) (rw same (gave_room v.pool.plan sizes.length h.runs.kept.batch s.fit.long h.runs.kept.room)) (gave_heads block v.pool t refl few h.heads)
+    (rw same (gave_pends v.pool.plan)) (freed_giving block v.pool t)
+    (rw same (gave_room v.pool.plan sizes.length h.runs.kept.batch s.fit.long h.runs.kept.room))
+    (gave_heads block v.pool t refl few h.heads)
     (ap after_gave_one h.plan ∙ sym same) refl)
 
 -- a read or a write leaves the pool and the ledger as they are
@@ -238,8 +267,10 @@ kept_phase calls own keeps = rw own (at_own calls.call keeps)
     at_own : (call : Option Call) → changes_pool call ≡ false → own_phase call ≡ schedule.Between
     at_own call e = grind arith
 
-pub keeping_steps_leave : (sizes : Sizes) (i : ℕ) (v : ProcessView) (word : ℕ) (g : Ledger) → InCalls sizes i v g → v.calls.stage ≡ Own → changes_pool v.calls.call ≡ false
+pub keeping_steps_leave : (sizes : Sizes) (i : ℕ) (v : ProcessView) (word : ℕ) (g : Ledger) → InCalls sizes i v g → v.calls.stage ≡ Own
+    → changes_pool v.calls.call ≡ false
     → InCalls sizes i (own_met v word) g
 keeping_steps_leave sizes i v word g h own keeps =
     rw (same_pool word v.pool v.calls.call keeps) (left_calls sizes i v g g v.pool h own
-    (record { sizes = (refl, refl, refl); transfer = same_transfer v.pool.plan }) refl h.runs.kept.room h.heads h.plan (h.phase ∙ kept_phase v.calls own keeps))
+    (record { sizes = (refl, refl, refl); transfer = same_transfer v.pool.plan }) refl h.runs.kept.room h.heads h.plan
+    (h.phase ∙ kept_phase v.calls own keeps))

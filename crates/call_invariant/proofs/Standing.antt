@@ -60,10 +60,12 @@ runs_with_calls sizes v calls h = record {
 stands : (sizes : Sizes) (a : Account) → Scheduled sizes a → Stands a
 stands sizes a s = reached_stands sizes.length (transfer_bound sizes) sizes.quantum a s.fit s.reached
 
-pub in_table : (sizes : Sizes) (i : ℕ) (v : ProcessView) (g : Ledger) → Scheduled sizes g.account → InCalls sizes i v g → InTable v.pool.plan
+pub in_table : (sizes : Sizes) (i : ℕ) (v : ProcessView) (g : Ledger) → Scheduled sizes g.account → InCalls sizes i v g
+    → InTable v.pool.plan
 in_table sizes i v g s h = rw (sym h.plan) (stands_table g.account (stands sizes g.account s))
 
-pub withholds_five : (sizes : Sizes) (i : ℕ) (v : ProcessView) (g : Ledger) → Scheduled sizes g.account → InCalls sizes i v g → withheld v.pool.plan ≤ 5 * sizes.length
+pub withholds_five : (sizes : Sizes) (i : ℕ) (v : ProcessView) (g : Ledger) → Scheduled sizes g.account → InCalls sizes i v g
+    → withheld v.pool.plan ≤ 5 * sizes.length
 withholds_five sizes i v g s h =
     let length = (reached_sizes sizes.length (transfer_bound sizes) sizes.quantum g.account s.reached).0 in
     rw (sym h.plan) (within g.account.plan (stands_withholds g.account (stands sizes g.account s)) length)

@@ -37,7 +37,8 @@ use Rattle.call_invariant.proofs.Begun.{due_may_begin, due_rests}
 use Rattle.call_invariant.proofs.Alone.{kept_in_table, withholds_three}
 
 -- whichever way a process uses its pool
-pub keeps_pool : (sizes : Sizes) (i : ℕ) (v : ProcessView) (g : Ledger) (way : Way) → UsesPoolBy way sizes i v g → Scheduled sizes g.account → PoolKeeps sizes v
+pub keeps_pool : (sizes : Sizes) (i : ℕ) (v : ProcessView) (g : Ledger) (way : Way) → UsesPoolBy way sizes i v g → Scheduled sizes g.account
+    → PoolKeeps sizes v
 keeps_pool sizes i v g Fresh h s = record { runs = h.runs; heads = h.heads; table = in_table sizes i v g s h }
 keeps_pool sizes i v g Alone h s = record { runs = h.pool.runs; heads = h.pool.alone.spares.heads; table = kept_in_table sizes i v h.pool }
 keeps_pool sizes i v g Calls h s = record { runs = h.runs; heads = h.heads; table = in_table sizes i v g s h }
@@ -50,7 +51,8 @@ withholds_few sizes i v g Alone h s = withholds_three sizes i v.pool h.pool.runs
 withholds_few sizes i v g Calls h s = withholds_five sizes i v g s h
 
 -- the pool can count each step of the transfer, and end it with the own reply
-pub steps_can_count : (sizes : Sizes) (v : ProcessView) → 1 ≤ sizes.quantum → PoolKeeps sizes v → OverlayIsFew sizes v.transfer → v.transfer.next ≢ Rest → CanCount v.pool
+pub steps_can_count : (sizes : Sizes) (v : ProcessView) → 1 ≤ sizes.quantum → PoolKeeps sizes v → OverlayIsFew sizes v.transfer
+    → v.transfer.next ≢ Rest → CanCount v.pool
 steps_can_count sizes v some h few busy =
     let moving = moving_unless_rest v.transfer.next busy in
     let left = step_left sizes v.transfer v.transfer.next h.runs.index few in
@@ -64,7 +66,8 @@ steps_can_count sizes v some h few busy =
     wish_pends : (wish : Wish) → pending_of wish ≡ Idle → ⊥
     wish_pends wish e = grind arith
 
-reply_ends : (pool : PoolView) (wish : Wish) (reply : Reply) → pool.plan.pending ≡ pending_of wish → InTable pool.plan → length pool.heads ≡ pool.plan.spares → Answers wish reply → CanEnd reply pool
+reply_ends : (pool : PoolView) (wish : Wish) (reply : Reply) → pool.plan.pending ≡ pending_of wish → InTable pool.plan
+    → length pool.heads ≡ pool.plan.spares → Answers wish reply → CanEnd reply pool
 reply_ends pool Take Nothing pending table heads a = λ e. grind (arith, sym pending ∙ e)
 reply_ends pool Take (Took head) pending table heads a = let two = table.take pending in omega arith
 reply_ends pool Take Gave pending table heads a = absurd a
@@ -72,12 +75,15 @@ reply_ends pool (Give head) Nothing pending table heads a = absurd a
 reply_ends pool (Give head) (Took batch) pending table heads a = absurd a
 reply_ends pool (Give head) Gave pending table heads a = tt
 
-pub replies_can_end : (sizes : Sizes) (v : ProcessView) (word : ℕ) → PoolKeeps sizes v → (v.transfer.next ≡ LoadReply → Answers v.transfer.wish (reply_of (value_of word)))
+pub replies_can_end : (sizes : Sizes) (v : ProcessView) (word : ℕ) → PoolKeeps sizes v
+    → (v.transfer.next ≡ LoadReply → Answers v.transfer.wish (reply_of (value_of word)))
     → CanMeetPool word v.pool v.transfer.next
-replies_can_end sizes v word h answers e = reply_ends v.pool v.transfer.wish (reply_of (value_of word)) (h.runs.kept.pending (rw e refl)) h.table h.heads (answers e)
+replies_can_end sizes v word h answers e =
+    reply_ends v.pool v.transfer.wish (reply_of (value_of word)) (h.runs.kept.pending (rw e refl)) h.table h.heads (answers e)
 
 -- so a call can make its next transfer step
-pub moves_can_be_made : (sizes : Sizes) (i : ℕ) (v : ProcessView) (word : ℕ) (g : Ledger) → InCalls sizes i v g → Scheduled sizes g.account → v.calls.stage ≡ Moving
+pub moves_can_be_made : (sizes : Sizes) (i : ℕ) (v : ProcessView) (word : ℕ) (g : Ledger) → InCalls sizes i v g → Scheduled sizes g.account
+    → v.calls.stage ≡ Moving
     → GivenToPool sizes v.transfer word → CanAct sizes v.transfer → CanMeet sizes v.transfer word
     → CanMove sizes v × CanMeetMoving sizes v word
 moves_can_be_made sizes i v word g h s moving given act meet =
@@ -91,37 +97,46 @@ moves_can_be_made sizes i v word g h s moving given act meet =
     )
 
 -- the transfer that is due with a call may begin
-pub due_begins : (sizes : Sizes) (v : ProcessView) (wish : Wish) → PoolKeeps sizes v → due v.pool ≡ Some wish → (v.transfer.next ≡ Rest) × MayBegin wish v.pool
+pub due_begins : (sizes : Sizes) (v : ProcessView) (wish : Wish) → PoolKeeps sizes v → due v.pool ≡ Some wish
+    → (v.transfer.next ≡ Rest) × MayBegin wish v.pool
 due_begins sizes v wish h e = (due_rests sizes v wish h.runs.kept e, due_may_begin v.pool wish h.heads e)
 
-pub calls_can_begin : (sizes : Sizes) (v : ProcessView) → PoolKeeps sizes v → (v.pool.plan.spares ≡ 3 → newest v.pool < most_blocks) → CanBegin v
+pub calls_can_begin : (sizes : Sizes) (v : ProcessView) → PoolKeeps sizes v → (v.pool.plan.spares ≡ 3 → newest v.pool < most_blocks)
+    → CanBegin v
 calls_can_begin sizes v h fits = record { rest = idle_rests sizes v h.runs.kept; heads = h.heads; fits = fits }
 
 pub idle_pool_rests : (sizes : Sizes) (v : ProcessView) → PoolKeeps sizes v → v.pool.plan.pending ≡ Idle → v.transfer.next ≡ Rest
 idle_pool_rests sizes v h idle = idle_rests sizes v h.runs.kept idle
 
 -- which of the two ways it is
-pub uses_calls : (sizes : Sizes) (i : ℕ) (v : ProcessView) (g : Ledger) (way : Way) → way ≢ Alone → InCalls sizes i v g → UsesPoolBy way sizes i v g
+pub uses_calls : (sizes : Sizes) (i : ℕ) (v : ProcessView) (g : Ledger) (way : Way) → way ≢ Alone → InCalls sizes i v g
+    → UsesPoolBy way sizes i v g
 uses_calls sizes i v g Fresh ne h = h
 uses_calls sizes i v g Alone ne h = absurd (ne refl)
 uses_calls sizes i v g Calls ne h = h
 
-pub calls_used : (sizes : Sizes) (i : ℕ) (v : ProcessView) (g : Ledger) (way : Way) → way ≢ Alone → UsesPoolBy way sizes i v g → InCalls sizes i v g
+pub calls_used : (sizes : Sizes) (i : ℕ) (v : ProcessView) (g : Ledger) (way : Way) → way ≢ Alone → UsesPoolBy way sizes i v g
+    → InCalls sizes i v g
 calls_used sizes i v g Fresh ne h = h
 calls_used sizes i v g Alone ne h = absurd (ne refl)
 calls_used sizes i v g Calls ne h = h
 
-pub transfers_used : (sizes : Sizes) (i : ℕ) (v : ProcessView) (g : Ledger) (way : Way) → way ≡ Alone → UsesPoolBy way sizes i v g → InTransfers sizes i v g
+pub transfers_used : (sizes : Sizes) (i : ℕ) (v : ProcessView) (g : Ledger) (way : Way) → way ≡ Alone → UsesPoolBy way sizes i v g
+    → InTransfers sizes i v g
 transfers_used sizes i v g way e h = rw e at h
 
-pub uses_transfers : (sizes : Sizes) (i : ℕ) (v : ProcessView) (g : Ledger) (way : Way) → way ≡ Alone → InTransfers sizes i v g → UsesPoolBy way sizes i v g
+pub uses_transfers : (sizes : Sizes) (i : ℕ) (v : ProcessView) (g : Ledger) (way : Way) → way ≡ Alone → InTransfers sizes i v g
+    → UsesPoolBy way sizes i v g
 uses_transfers sizes i v g way e h = rw e h
 
 -- what a process sees of the others' entries, and what its take is known to have found, leave that
-fresh_stays : (sizes : Sizes) (i : ℕ) (v : ProcessView) (old new : Ledger) → new.account ≡ old.account → new.entries ≡ old.entries → IsFresh sizes i v old → IsFresh sizes i v new
-fresh_stays sizes i v old new account entries h = record { view = h.view; nothing = record { account = account ∙ h.nothing.account; none = entries ∙ h.nothing.none } }
+fresh_stays : (sizes : Sizes) (i : ℕ) (v : ProcessView) (old new : Ledger) → new.account ≡ old.account → new.entries ≡ old.entries
+    → IsFresh sizes i v old → IsFresh sizes i v new
+fresh_stays sizes i v old new account entries h =
+    record { view = h.view; nothing = record { account = account ∙ h.nothing.account; none = entries ∙ h.nothing.none } }
 
-pub calls_stay : (sizes : Sizes) (i : ℕ) (v : ProcessView) (old new : Ledger) → new.account ≡ old.account → new.entries ≡ old.entries → InCalls sizes i v old → InCalls sizes i v new
+pub calls_stay : (sizes : Sizes) (i : ℕ) (v : ProcessView) (old new : Ledger) → new.account ≡ old.account → new.entries ≡ old.entries
+    → InCalls sizes i v old → InCalls sizes i v new
 calls_stay sizes i v old new account entries h = record {
   way = h.way;
   plan = ap (λ a. a.plan) account ∙ h.plan;
@@ -134,10 +149,17 @@ calls_stay sizes i v old new account entries h = record {
   fresh = λ e. fresh_stays sizes i v old new account entries (h.fresh e);
 }
 
-pub uses_stay : (sizes : Sizes) (i : ℕ) (v : ProcessView) (old new : Ledger) (way : Way) → new.account ≡ old.account → new.entries ≡ old.entries → UsesPoolBy way sizes i v old
+pub uses_stay : (sizes : Sizes) (i : ℕ) (v : ProcessView) (old new : Ledger) (way : Way) → new.account ≡ old.account
+    → new.entries ≡ old.entries → UsesPoolBy way sizes i v old
     → UsesPoolBy way sizes i v new
 uses_stay sizes i v old new Fresh account entries h = calls_stay sizes i v old new account entries h
-uses_stay sizes i v old new Alone account entries h = record { way = h.way; stage = h.stage; none = h.none; pool = h.pool; nothing = record { account = account ∙ h.nothing.account; none = entries ∙ h.nothing.none } }
+uses_stay sizes i v old new Alone account entries h = record {
+  way = h.way;
+  stage = h.stage;
+  none = h.none;
+  pool = h.pool;
+  nothing = record { account = account ∙ h.nothing.account; none = entries ∙ h.nothing.none };
+}
 uses_stay sizes i v old new Calls account entries h = calls_stay sizes i v old new account entries h
 
 -- where each block is held or withheld by a process, few are unheld

@@ -45,10 +45,10 @@ pub record StageFits (quantum : ℕ) (calls : CallView) (next : NextStep) : Type
   pub searches : calls.stage ≡ Choosing → calls.call ≡ Some Search
   pub rests : calls.stage ≡ Choosing → next ≡ Rest
 
--- a call that may still begin a transfer has the age for it, which stays: what is pending is announced
+-- a call that may still begin a transfer has the age for it, which stays as it is: what is pending was announced
 pub record MayChoose (sizes : Sizes) (v : ProcessView) : Type 0 where
   pub young : v.transfer.age < most_age sizes
-  pub sent : v.transfer.next ≢ Announce
+  pub announced : v.transfer.next ≢ Announce
 
 -- the ledger has the plan of the pool and the phase of the process; each spare has its head; an announced transfer has made a step; a
 -- process that has begun no call is as it was

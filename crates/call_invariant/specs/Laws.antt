@@ -48,7 +48,8 @@ ShapesFitSchedules = (sizes : Sizes) → IsShape sizes → AreSizes sizes.length
 
 -- it holds at the opening
 abbrev pub OpeningMeetsCalls : Type 0
-OpeningMeetsCalls = (sizes : Sizes) (i : ℕ) → InCalls sizes i (opening_view sizes i) (opening_ledger sizes.length (transfer_bound sizes) sizes.quantum)
+OpeningMeetsCalls =
+    (sizes : Sizes) (i : ℕ) → InCalls sizes i (opening_view sizes i) (opening_ledger sizes.length (transfer_bound sizes) sizes.quantum)
 
 -- an allocate or a free begins, and the ledger goes on
 abbrev pub ChangingCallsBegin : Type 0
@@ -97,19 +98,25 @@ OwnStepsAreDue = (sizes : Sizes) (i : ℕ) (v : ProcessView) (ledger : Ledger) �
 
 -- the own step of an allocate, which is given a block
 abbrev pub GotsEndCalls : Type 0
-GotsEndCalls = (sizes : Sizes) (i : ℕ) (v : ProcessView) (ledger : Ledger) (word : ℕ) (history : List Entry) (entry : Entry) → InCalls sizes i v ledger → v.calls.stage ≡ Own
+GotsEndCalls =
+    (sizes : Sizes) (i : ℕ) (v : ProcessView) (ledger : Ledger) (word : ℕ) (history : List Entry) (entry : Entry) → InCalls sizes i v ledger
+    → v.calls.stage ≡ Own
     → is_getting v.calls.call ≡ true
     → InCalls sizes i (call_met sizes v word) (entered history entry (got_one ledger.account) ledger)
 
 -- or refused
 abbrev pub RefusalsEndCalls : Type 0
-RefusalsEndCalls = (sizes : Sizes) (i : ℕ) (v : ProcessView) (ledger : Ledger) (word : ℕ) (history : List Entry) (entry : Entry) → InCalls sizes i v ledger → v.calls.stage ≡ Own
+RefusalsEndCalls =
+    (sizes : Sizes) (i : ℕ) (v : ProcessView) (ledger : Ledger) (word : ℕ) (history : List Entry) (entry : Entry) → InCalls sizes i v ledger
+    → v.calls.stage ≡ Own
     → is_getting v.calls.call ≡ true
     → InCalls sizes i (call_met sizes v word) (entered history entry (got_none ledger.account) ledger)
 
 -- the own step of a free
 abbrev pub BacksEndCalls : Type 0
-BacksEndCalls = (sizes : Sizes) (i : ℕ) (v : ProcessView) (ledger : Ledger) (word block : ℕ) (history : List Entry) (entry : Entry) → InCalls sizes i v ledger
+BacksEndCalls =
+    (sizes : Sizes) (i : ℕ) (v : ProcessView) (ledger : Ledger) (word block : ℕ) (history : List Entry) (entry : Entry)
+    → InCalls sizes i v ledger
     → Scheduled sizes ledger.account
     → v.calls.stage ≡ Own
     → v.calls.call ≡ Some (Free block)
@@ -117,16 +124,22 @@ BacksEndCalls = (sizes : Sizes) (i : ℕ) (v : ProcessView) (ledger : Ledger) (w
 
 -- the own step of a read or a write enters nothing
 abbrev pub KeepingStepsEndCalls : Type 0
-KeepingStepsEndCalls = (sizes : Sizes) (i : ℕ) (v : ProcessView) (ledger : Ledger) (word : ℕ) → InCalls sizes i v ledger → v.calls.stage ≡ Own → changes_pool v.calls.call ≡ false
+KeepingStepsEndCalls =
+    (sizes : Sizes) (i : ℕ) (v : ProcessView) (ledger : Ledger) (word : ℕ) → InCalls sizes i v ledger → v.calls.stage ≡ Own
+    → changes_pool v.calls.call ≡ false
     → InCalls sizes i (call_met sizes v word) ledger
 
 -- an allocate is given a block exactly where its plan has one
 abbrev pub BlocksAreThePlans : Type 0
-BlocksAreThePlans = (pool : PoolView) → ((block : ℕ) → next_block pool ≡ Some block → source_of pool.plan ≢ source.Nothing) × (next_block pool ≡ None → source_of pool.plan ≡ source.Nothing)
+BlocksAreThePlans =
+    (pool : PoolView) → ((block : ℕ) → next_block pool ≡ Some block → source_of pool.plan ≢ source.Nothing) ×
+    (next_block pool ≡ None → source_of pool.plan ≡ source.Nothing)
 
 -- a spare that an allocate opens has its head
 abbrev pub AllocatesHaveSpares : Type 0
-AllocatesHaveSpares = (sizes : Sizes) (i : ℕ) (v : ProcessView) (ledger : Ledger) → InCalls sizes i v ledger → source_of v.pool.plan ≡ source.Spare → 1 ≤ length v.pool.heads
+AllocatesHaveSpares =
+    (sizes : Sizes) (i : ℕ) (v : ProcessView) (ledger : Ledger) → InCalls sizes i v ledger → source_of v.pool.plan ≡ source.Spare
+    → 1 ≤ length v.pool.heads
 
 -- a free of a held block that starts a new current list has room for one more spare
 abbrev pub FreesHaveRoom : Type 0
@@ -140,7 +153,9 @@ FreesHaveRoom = (sizes : Sizes) (i : ℕ) (v : ProcessView) (ledger : Ledger) �
 
 -- a process that holds a block was given more than it gave back
 abbrev pub HoldersMayFree : Type 0
-HoldersMayFree = (account : Account) (entries : List Entry) (block : ℕ) → CountsEntries account entries → Balances entries → Contains (grip entries) block → account.backs < account.gots
+HoldersMayFree =
+    (account : Account) (entries : List Entry) (block : ℕ) → CountsEntries account entries → Balances entries
+    → Contains (grip entries) block → account.backs < account.gots
 
 -- a process that has begun no call begins a transfer alone
 abbrev pub TransfersBegin : Type 0
@@ -160,7 +175,8 @@ TransfersStep = (sizes : Sizes) (i : ℕ) (v : ProcessView) (ledger : Ledger) (w
 
 -- a process that has begun no transfer alone uses its pool by calls
 abbrev pub CallsAreOneWay : Type 0
-CallsAreOneWay = (sizes : Sizes) (i : ℕ) (v : ProcessView) (ledger : Ledger) → v.calls.way ≢ Alone → UsesPool sizes i v ledger → InCalls sizes i v ledger
+CallsAreOneWay =
+    (sizes : Sizes) (i : ℕ) (v : ProcessView) (ledger : Ledger) → v.calls.way ≢ Alone → UsesPool sizes i v ledger → InCalls sizes i v ledger
 
 -- and one that does so uses it in one of the ways
 abbrev pub InCallsIsAUse : Type 0
@@ -168,7 +184,9 @@ InCallsIsAUse = (sizes : Sizes) (i : ℕ) (v : ProcessView) (ledger : Ledger) �
 
 -- one that has, by transfers alone
 abbrev pub TransfersAreOneWay : Type 0
-TransfersAreOneWay = (sizes : Sizes) (i : ℕ) (v : ProcessView) (ledger : Ledger) → v.calls.way ≡ Alone → UsesPool sizes i v ledger → InTransfers sizes i v ledger
+TransfersAreOneWay =
+    (sizes : Sizes) (i : ℕ) (v : ProcessView) (ledger : Ledger) → v.calls.way ≡ Alone → UsesPool sizes i v ledger
+    → InTransfers sizes i v ledger
 
 -- and one that does so uses it in one of the ways
 abbrev pub InTransfersIsAUse : Type 0
@@ -176,24 +194,34 @@ InTransfersIsAUse = (sizes : Sizes) (i : ℕ) (v : ProcessView) (ledger : Ledger
 
 -- either way the same holds with a ledger that has the same account and entries
 abbrev pub SameAccountsKeep : Type 0
-SameAccountsKeep = (sizes : Sizes) (i : ℕ) (v : ProcessView) (old new : Ledger) → new.account ≡ old.account → new.entries ≡ old.entries → UsesPool sizes i v old → UsesPool sizes i v new
+SameAccountsKeep =
+    (sizes : Sizes) (i : ℕ) (v : ProcessView) (old new : Ledger) → new.account ≡ old.account → new.entries ≡ old.entries
+    → UsesPool sizes i v old → UsesPool sizes i v new
 
 -- what a process keeps either way
 abbrev pub UsesKeepPools : Type 0
-UsesKeepPools = (sizes : Sizes) (i : ℕ) (v : ProcessView) (ledger : Ledger) → UsesPool sizes i v ledger → Scheduled sizes ledger.account → PoolKeeps sizes v
+UsesKeepPools =
+    (sizes : Sizes) (i : ℕ) (v : ProcessView) (ledger : Ledger) → UsesPool sizes i v ledger → Scheduled sizes ledger.account
+    → PoolKeeps sizes v
 
 -- so its pool can count each step of its transfer
 abbrev pub StepsCanCount : Type 0
-StepsCanCount = (sizes : Sizes) (v : ProcessView) → IsShape sizes → PoolKeeps sizes v → OverlayIsFew sizes v.transfer → v.transfer.next ≢ Rest → CanCount v.pool
+StepsCanCount =
+    (sizes : Sizes) (v : ProcessView) → IsShape sizes → PoolKeeps sizes v → OverlayIsFew sizes v.transfer → v.transfer.next ≢ Rest
+    → CanCount v.pool
 
 -- and the own reply may end the transfer
 abbrev pub RepliesCanEnd : Type 0
-RepliesCanEnd = (sizes : Sizes) (v : ProcessView) (word : ℕ) → PoolKeeps sizes v → (v.transfer.next ≡ LoadReply → Answers v.transfer.wish (reply_of (value_of word)))
+RepliesCanEnd =
+    (sizes : Sizes) (v : ProcessView) (word : ℕ) → PoolKeeps sizes v
+    → (v.transfer.next ≡ LoadReply → Answers v.transfer.wish (reply_of (value_of word)))
     → CanMeetPool word v.pool v.transfer.next
 
 -- the transfer that is due with a call may begin
 abbrev pub DueTransfersMayBegin : Type 0
-DueTransfersMayBegin = (sizes : Sizes) (v : ProcessView) (wish : Wish) → PoolKeeps sizes v → due v.pool ≡ Some wish → (v.transfer.next ≡ Rest) × MayBegin wish v.pool
+DueTransfersMayBegin =
+    (sizes : Sizes) (v : ProcessView) (wish : Wish) → PoolKeeps sizes v → due v.pool ≡ Some wish
+    → (v.transfer.next ≡ Rest) × MayBegin wish v.pool
 
 -- while nothing is pending no transfer is begun
 abbrev pub IdlePoolsRest : Type 0

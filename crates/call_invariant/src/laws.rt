@@ -1,5 +1,11 @@
 //! Each law is the contract of a call that does nothing.
-ghost use Rattle.call_invariant.specs.Laws.{ShapesFitSchedules, OpeningMeetsCalls, ChangingCallsBegin, KeepingCallsBegin, SearchesChoose, TransferStepsCarryOn, TransferStepsEnterNothing, OwnStepsAreDue, GotsEndCalls, RefusalsEndCalls, BacksEndCalls, KeepingStepsEndCalls, BlocksAreThePlans, AllocatesHaveSpares, FreesHaveRoom, HoldersMayFree, TransfersBegin, TransfersStep, CallsAreOneWay, InCallsIsAUse, TransfersAreOneWay, InTransfersIsAUse, SameAccountsKeep, UsesKeepPools, UsesWithholdFew, StepsCanCount, RepliesCanEnd, DueTransfersMayBegin, IdlePoolsRest, CallsCanBegin, MovesCanBeMade, EmptyStackLeavesFew};
+ghost use Rattle.call_invariant.specs.Laws.{ShapesFitSchedules, OpeningMeetsCalls, ChangingCallsBegin, KeepingCallsBegin, SearchesChoose};
+ghost use Rattle.call_invariant.specs.Laws.{TransferStepsCarryOn, TransferStepsEnterNothing, OwnStepsAreDue, GotsEndCalls};
+ghost use Rattle.call_invariant.specs.Laws.{RefusalsEndCalls, BacksEndCalls, KeepingStepsEndCalls, BlocksAreThePlans, AllocatesHaveSpares};
+ghost use Rattle.call_invariant.specs.Laws.{FreesHaveRoom, HoldersMayFree, TransfersBegin, TransfersStep, CallsAreOneWay, InCallsIsAUse};
+ghost use Rattle.call_invariant.specs.Laws.{TransfersAreOneWay, InTransfersIsAUse, SameAccountsKeep, UsesKeepPools, UsesWithholdFew};
+ghost use Rattle.call_invariant.specs.Laws.{StepsCanCount, RepliesCanEnd, DueTransfersMayBegin, IdlePoolsRest, CallsCanBegin};
+ghost use Rattle.call_invariant.specs.Laws.{MovesCanBeMade, EmptyStackLeavesFew};
 
 /// The sizes of a shape are those of a schedule.
 pub fn shapes()

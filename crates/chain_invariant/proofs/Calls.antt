@@ -283,7 +283,8 @@ module _ (sizes : Sizes) (words : Words) (s : StackState) (views after : Process
     heads = ap (λ p. p.heads) same.pool;
   }) moved (λ b lt. refl)
 
-  pub due_begun : (wish : Option Wish) → due (views i).pool ≡ wish → SameParts x (begun_if_due wish (views i)) → Chains sizes words s after held
+  pub due_begun : (wish : Option Wish) → due (views i).pool ≡ wish → SameParts x (begun_if_due wish (views i))
+      → Chains sizes words s after held
   due_begun None e same = as_it_was same
   due_begun (Some wish) e same =
       let begins = due_begins (views i) wish can e in
@@ -295,7 +296,8 @@ module _ (sizes : Sizes) (words : Words) (s : StackState) (views after : Process
       }
 
   -- a transfer that is due is begun, or none
-  pub begun_so : (wish : Option Wish) → ((w : Wish) → wish ≡ Some w → due (views i).pool ≡ Some w) → SameParts x (begun_if_due wish (views i))
+  pub begun_so : (wish : Option Wish) → ((w : Wish) → wish ≡ Some w → due (views i).pool ≡ Some w)
+      → SameParts x (begun_if_due wish (views i))
       → Chains sizes words s after held
   begun_so None e same = as_it_was same
   begun_so (Some wish) e same = due_begun (Some wish) (e wish refl) same

@@ -25,7 +25,8 @@ use Rattle.transfer_invariant.specs.Laws.{WishIsBlock}
 use Rattle.chain_invariant.proofs.Weights.{counts_itself, has_weighs, weighs_none, weight_each}
 use Rattle.chain_invariant.proofs.Pool.{pool_same, pool_each, content_pooled, spare_pooled, moving_pooled}
 use Rattle.chain_invariant.proofs.Lists.{begins, code_first, empty_code}
-use Rattle.chain_invariant.proofs.Places.{begin_weighs, batch_begins, current_low, batch_low, held_low, held_by_one, current_not_held, batch_not_held, head_low, head_weighs}
+use Rattle.chain_invariant.proofs.Places.{begin_weighs, batch_begins, current_low, batch_low, held_low, held_by_one, current_not_held}
+use Rattle.chain_invariant.proofs.Places.{batch_not_held, head_low, head_weighs}
 
 -- each element of a list meets a fact that all that weigh meet
 all_low : (bound : ℕ) (xs : List ℕ) → ((b : ℕ) → 1 ≤ weight (is_head b) xs → b < bound) → All (λ b. b < bound) xs

@@ -21,7 +21,8 @@ use Rattle.chain_invariant.specs.Laws.{IsFree}
 use Rattle.chain_invariant.proofs.Moves.{installs_carry}
 use Rattle.chain_invariant.proofs.Pool.{spare_pooled}
 use Rattle.chain_invariant.proofs.Places.{head_once}
-use Rattle.chain_invariant.proofs.Counts.{content_low, spare_low, transit_low, begun_low, pending_low, current_is_free, current_code, current_next, head_is_free, head_next, held_apart, room}
+use Rattle.chain_invariant.proofs.Counts.{content_low, spare_low, transit_low, begun_low, pending_low, current_is_free, current_code}
+use Rattle.chain_invariant.proofs.Counts.{current_next, head_is_free, head_next, held_apart, room}
 
 -- the drafted overlay stands above the drafted base
 drafted_height : (s : StackState) (v : TransferView) → (drafted_state s v).height ≡ v.draft.base + v.draft.overlay

@@ -10,12 +10,14 @@ use Rattle.pool_machine.specs.declared.view.ProcessView.{ProcessView}
 use Rattle.transfer_invariant.specs.Memory.{Words}
 use Rattle.batch_invariant.specs.Batches.{ProcessViews, MovedProcess, weight}
 use Rattle.batch_invariant.proofs.Steps.{spares_parted}
-use Rattle.chain_invariant.specs.Chains.{BlockLists, ChainsHold, IsChainOf, MovedList, NextsStay, OtherNextsStay, pool_weight, times_pooled, blocks_weight, without, is_head}
+use Rattle.chain_invariant.specs.Chains.{BlockLists, ChainsHold, IsChainOf, MovedList, NextsStay, OtherNextsStay, pool_weight, times_pooled}
+use Rattle.chain_invariant.specs.Chains.{blocks_weight, without, is_head}
 use Rattle.chain_invariant.specs.Steps.{FirstLeaves, SpareOpens, FirstComes, ListStarts, KeepsLists}
 use Rattle.chain_invariant.proofs.Weights.{counts_no_other, has_weighs, weight_without}
 use Rattle.chain_invariant.proofs.Pool.{spare_pooled, pool_same}
 use Rattle.chain_invariant.proofs.Lists.{Begins, begins, rest_chain, longer_chain, chain_stays, empty_chain, no_chain}
-use Rattle.chain_invariant.proofs.Places.{batch_stays, current_stays, batch_stays_but, current_stays_but, held_once, begin_weighs, head_weighs, current_in_no_batch}
+use Rattle.chain_invariant.proofs.Places.{batch_stays, current_stays, batch_stays_but, current_stays_but, held_once, begin_weighs}
+use Rattle.chain_invariant.proofs.Places.{head_weighs, current_in_no_batch}
 use Rattle.chain_invariant.proofs.OwnStep.{put_list, put_list_moved, spares_moved, own_step}
 
 module _ (sizes : Sizes) (words new : Words) (s : StackState) (views after : ProcessViews) (batches currents holds holds_after : BlockLists)

@@ -25,7 +25,8 @@ use Rattle.transfer_invariant.specs.Laws.{DraftFits, WishIsBlock}
 use Rattle.batch_invariant.specs.Places.{moving}
 use Rattle.batch_invariant.specs.Batches.{ProcessViews, MovedProcess}
 use Rattle.batch_invariant.specs.Premises.{InStep, PendingIsPresent, InstallsNext, SameStack}
-use Rattle.chain_invariant.specs.Chains.{BlockLists, ChainsHold, Chains, MovedList, NextsStay, OtherNextsStay, times_pooled, blocks_weight, without, is_head}
+use Rattle.chain_invariant.specs.Chains.{BlockLists, ChainsHold, Chains, MovedList, NextsStay, OtherNextsStay, times_pooled, blocks_weight}
+use Rattle.chain_invariant.specs.Chains.{without, is_head}
 use Rattle.chain_invariant.specs.Steps.{SameParts, KeepsLists, FirstLeaves, SpareOpens, FirstComes, ListStarts}
 
 -- at the opening each block is at one place, and none is held

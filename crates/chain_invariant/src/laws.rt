@@ -1,6 +1,12 @@
 //! Each block is at one place. Each law is the contract of a call that does nothing.
-ghost use Rattle.chain_invariant.specs.Calls.{CallsBeginWithChains, OwnStepsKeepChains, GotBlocksAreFree, OwnStepsCanBeMade, SameHeldKeepChains};
-ghost use Rattle.chain_invariant.specs.Laws.{OpeningHasChains, BeginningsKeepChains, StepsKeepChains, NextStatesKeepChains, SameStatesKeepChains, TransfersKeepChains, QuietStepsKeepChains, LeavingKeepsChains, OpeningASpareKeepsChains, ComingKeepsChains, StartingKeepsChains, CurrentListsAreFree, SparesAreFree, HeldAreApart, BlocksAreOnce, StackHasRoom, HeadsAreBlocks, HeadsAreApart, GivesAreBlocks, DraftsHaveRoom, EndsAnswerWishes, BlocksAreCounted, KeptIsWithheld, FewAreFree, EmptyTakesFindFew};
+ghost use Rattle.chain_invariant.specs.Calls.{CallsBeginWithChains, OwnStepsKeepChains, GotBlocksAreFree, OwnStepsCanBeMade};
+ghost use Rattle.chain_invariant.specs.Calls.{SameHeldKeepChains};
+ghost use Rattle.chain_invariant.specs.Laws.{OpeningHasChains, BeginningsKeepChains, StepsKeepChains, NextStatesKeepChains};
+ghost use Rattle.chain_invariant.specs.Laws.{SameStatesKeepChains, TransfersKeepChains, QuietStepsKeepChains, LeavingKeepsChains};
+ghost use Rattle.chain_invariant.specs.Laws.{OpeningASpareKeepsChains, ComingKeepsChains, StartingKeepsChains, CurrentListsAreFree};
+ghost use Rattle.chain_invariant.specs.Laws.{SparesAreFree, HeldAreApart, BlocksAreOnce, StackHasRoom, HeadsAreBlocks, HeadsAreApart};
+ghost use Rattle.chain_invariant.specs.Laws.{GivesAreBlocks, DraftsHaveRoom, EndsAnswerWishes, BlocksAreCounted, KeptIsWithheld};
+ghost use Rattle.chain_invariant.specs.Laws.{FewAreFree, EmptyTakesFindFew};
 
 /// At the opening each block is at one place.
 pub fn opening()

@@ -15,7 +15,8 @@ use Rattle.transfer_machine.specs.declared.transfer.TransferView.{TransferView}
 use Rattle.transfer_machine.specs.declared.stage.NextStep.{NextStep}
 use Rattle.transfer_machine.specs.declared.stage.NextStep.TheVariants.{Rest, Announce, Try, LoadFinalState, LoadReply}
 use Rattle.transfer_machine.specs.declared.stage.TryStep.{TryStep}
-use Rattle.transfer_machine.specs.declared.stage.TryStep.TheVariants.{LoadState, LoadRecordWord, LoadCoveredSlot, ExchangeSlot, LoadAnnouncement, LoadPoppedSlot, StoreRecordWord, ExchangeState}
+use Rattle.transfer_machine.specs.declared.stage.TryStep.TheVariants.{LoadState, LoadRecordWord, LoadCoveredSlot, ExchangeSlot}
+use Rattle.transfer_machine.specs.declared.stage.TryStep.TheVariants.{LoadAnnouncement, LoadPoppedSlot, StoreRecordWord, ExchangeState}
 use Rattle.transfer_invariant.specs.Memory.{Words, States, Acted, state_tag}
 use Rattle.transfer_invariant.specs.Progress.{has_record}
 use Rattle.transfer_invariant.specs.Records.{OwnRecord}
@@ -26,12 +27,15 @@ use Rattle.draft_invariant.specs.Heads.{AnnouncementsAreBlocks}
 use Rattle.draft_invariant.specs.Pops.{PopsHold}
 
 -- an action on another word
-misses_announcements : (sizes : Sizes) (action : Action) (m n : Words) → Acted sizes action m n → ((o : ℕ) → Announcement o ≢ name_of action) → AnnouncementsAreBlocks sizes m
+misses_announcements : (sizes : Sizes) (action : Action) (m n : Words) → Acted sizes action m n
+    → ((o : ℕ) → Announcement o ≢ name_of action)
+    → AnnouncementsAreBlocks sizes m
     → AnnouncementsAreBlocks sizes n
 misses_announcements sizes action m n a other h o lo = rw (a.elsewhere (Announcement o) lo (other o)) (h o lo)
 
 -- an action on an announcement
-on_announcement : (sizes : Sizes) (action : Action) (process : ℕ) (m n : Words) → Acted sizes action m n → name_of action ≡ Announcement process
+on_announcement : (sizes : Sizes) (action : Action) (process : ℕ) (m n : Words) → Acted sizes action m n
+    → name_of action ≡ Announcement process
     → value_of (n (Announcement process)) ≤ blocks sizes → AnnouncementsAreBlocks sizes m → AnnouncementsAreBlocks sizes n
 on_announcement sizes action process m n a name here h o lo = elim (cases_eq o process) [
   | inl e ↦ rw e here
@@ -52,7 +56,9 @@ try_announcements_kept sizes v m n second (LoadPoppedSlot process) e a among h =
 try_announcements_kept sizes v m n second (StoreRecordWord index) e a among h = misses_announcements sizes _ m n a (λ o d. cc) h
 try_announcements_kept sizes v m n second ExchangeState e a among h = misses_announcements sizes _ m n a (λ o d. cc) h
 
-pub announcements_kept : (sizes : Sizes) (v : TransferView) (m n : Words) (s : NextStep) → v.next ≡ s → Acted sizes (action_at sizes v s) m n
+-- a step keeps the heads in all announcements blocks, where the announcement that it stores names one
+pub announcements_kept : (sizes : Sizes) (v : TransferView) (m n : Words) (s : NextStep) → v.next ≡ s
+    → Acted sizes (action_at sizes v s) m n
     → (v.next ≡ Announce → value_of (own_announcement v) ≤ blocks sizes)
     → ((second : Bool) (process : ℕ) → v.next ≡ Try second (LoadAnnouncement process) → process < sizes.processes)
     → AnnouncementsAreBlocks sizes m → AnnouncementsAreBlocks sizes n
@@ -68,25 +74,32 @@ unfolding state_tag
 misses_state sizes action m n a other = ap tag_of (a.elsewhere State tt other)
 
 -- what a view knows of slots as long as the state stays, and once there is another one
-pub pops_stay : (processes : ℕ) (m n : Words) (states : States) (w : TransferView) → state_tag n ≡ state_tag m → PopsHold processes m states w → PopsHold processes n states w
+pub pops_stay : (processes : ℕ) (m n : Words) (states : States) (w : TransferView) → state_tag n ≡ state_tag m
+    → PopsHold processes m states w
+    → PopsHold processes n states w
 pops_stay processes m n states w e h = record { popping = h.popping; popped = λ has now j lt pop. rw e (h.popped has (now ∙ e) j lt pop) }
 
 pops_past : (processes : ℕ) (m n : Words) (states later : States) (w : TransferView) → state_tag n ≡ state_tag m + 1
     → (has_record w.next ≡ true → loaded_tag w.loaded ≤ state_tag m) → PopsHold processes m states w → PopsHold processes n later w
-pops_past processes m n states later w e past h = record { popping = h.popping; popped = λ has now j lt pop. let low = past has in absurd (omega arith) }
+pops_past processes m n states later w e past h =
+    record { popping = h.popping; popped = λ has now j lt pop. let low = past has in absurd (omega arith) }
 
 same_words : (a b : ℕ) → (a == b) ≡ true → a ≡ b
 same_words a b h = grind (arith, nat_tests)
 
-exchange_pops : (sizes : Sizes) (m n : Words) (states : States) (i : ℕ) (v w : TransferView) (t : Bool) → sizes.processes ≤ 32 → i < sizes.processes → OwnRecord sizes m i v
+exchange_pops : (sizes : Sizes) (m n : Words) (states : States) (i : ℕ) (v w : TransferView) (t : Bool) → sizes.processes ≤ 32
+    → i < sizes.processes
+    → OwnRecord sizes m i v
     → (m State == v.loaded.state) ≡ t → Acted sizes (Exchange State v.loaded.state (next_state v)) m n
     → (has_record w.next ≡ true → loaded_tag w.loaded ≤ state_tag m) → PopsHold sizes.processes m states w
     → PopsHold sizes.processes n (if t then states_with_drafted m v states else states) w
 unfolding state_tag
 exchange_pops sizes m n states i v w true few li own test a past h =
-    let state = (exchanges_state sizes v.loaded.state (loaded_tag v.loaded + 1) v.next_record m n (row_fits sizes m i v few li own) test a).state in
+    let state =
+    (exchanges_state sizes v.loaded.state (loaded_tag v.loaded + 1) v.next_record m n (row_fits sizes m i v few li own) test a).state in
     pops_past sizes.processes m n states _ w (state ∙ ap (λ x. tag_of x + 1) (sym (same_words (m State) v.loaded.state test))) past h
-exchange_pops sizes m n states i v w false few li own test a past h = pops_stay sizes.processes m n states w (keeps_state sizes v.loaded.state (next_state v) m n test a).state h
+exchange_pops sizes m n states i v w false few li own test a past h =
+    pops_stay sizes.processes m n states w (keeps_state sizes v.loaded.state (next_state v) m n test a).state h
 
 try_pops_kept : (sizes : Sizes) (m n : Words) (states : States) (i : ℕ) (v w : TransferView) (s : TryStep) → sizes.processes ≤ 32
     → i < sizes.processes → OwnRecord sizes m i v → Acted sizes (try_action sizes v s) m n
@@ -109,6 +122,7 @@ try_pops_kept sizes m n states i v w (StoreRecordWord index) few li own a past h
 try_pops_kept sizes m n states i v w ExchangeState few li own a past h =
     exchange_pops sizes m n states i v w (m State == v.loaded.state) few li own refl a (past refl) h
 
+-- a step keeps what another view knows of the slots that it popped, also where it installs a later state
 pub pops_kept : (sizes : Sizes) (m n : Words) (states : States) (i : ℕ) (v w : TransferView) (s : NextStep) → sizes.processes ≤ 32
     → i < sizes.processes → OwnRecord sizes m i v → Acted sizes (action_at sizes v s) m n
     → ((second : Bool) → s ≡ Try second ExchangeState → has_record w.next ≡ true → loaded_tag w.loaded ≤ state_tag m)

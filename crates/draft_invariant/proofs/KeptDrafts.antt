@@ -12,24 +12,32 @@ use Rattle.transfer_machine.specs.declared.transfer.TransferView.{TransferView}
 use Rattle.transfer_machine.specs.declared.stage.NextStep.{NextStep}
 use Rattle.transfer_machine.specs.declared.stage.NextStep.TheVariants.{Rest, Announce, Try, LoadFinalState, LoadReply}
 use Rattle.transfer_machine.specs.declared.stage.TryStep.{TryStep}
-use Rattle.transfer_machine.specs.declared.stage.TryStep.TheVariants.{LoadState, LoadRecordWord, LoadCoveredSlot, ExchangeSlot, LoadAnnouncement, LoadPoppedSlot, StoreRecordWord, ExchangeState}
-use Rattle.transfer_machine.proofs.Drafts.{steps_keep_draft, drafted_reads, kept_after_slot, kept_at_slot, kept_after_try, kept_after_stored}
+use Rattle.transfer_machine.specs.declared.stage.TryStep.TheVariants.{LoadState, LoadRecordWord, LoadCoveredSlot, ExchangeSlot}
+use Rattle.transfer_machine.specs.declared.stage.TryStep.TheVariants.{LoadAnnouncement, LoadPoppedSlot, StoreRecordWord, ExchangeState}
+use Rattle.transfer_machine.proofs.Drafts.{steps_keep_draft, drafted_reads, kept_after_slot}
+use Rattle.transfer_machine.proofs.Drafts.{kept_at_slot, kept_after_try, kept_after_stored}
 use Rattle.draft_invariant.proofs.Lists.{either}
 
 -- the draft reads the loaded record, announcements and popped slots
-pub drafted_stays : (processes : ℕ) (loaded other : Loaded) (k : ℕ) → loaded.record_words ≡ other.record_words → loaded.announcements ≡ other.announcements
+pub drafted_stays : (processes : ℕ) (loaded other : Loaded) (k : ℕ) → loaded.record_words ≡ other.record_words
+    → loaded.announcements ≡ other.announcements
     → loaded.popped ≡ other.popped → drafted processes loaded k ≡ drafted processes other k
 drafted_stays processes loaded other k e a b = drafted_reads processes loaded other k e (λ j lt. rw a refl) (λ j lt. rw b refl)
 
 -- what a step that may be made keeps
-kept_here : (sizes : Sizes) (v : TransferView) (word : ℕ) (s : NextStep) → v.next ≡ s → HasRoom v → CanActAt sizes v s → CanMeetAt sizes v word s → DraftsLoadedAt sizes v s
+kept_here : (sizes : Sizes) (v : TransferView) (word : ℕ) (s : NextStep) → v.next ≡ s → HasRoom v → CanActAt sizes v s
+    → CanMeetAt sizes v word s
+    → DraftsLoadedAt sizes v s
     → DraftsLoaded sizes (met_at sizes v word s)
 kept_here sizes v word s e room =
-    subst (λ (t : NextStep). CanActAt sizes v t → CanMeetAt sizes v word t → DraftsLoadedAt sizes v t → DraftsLoaded sizes (met_at sizes v word t)) e
+    subst (λ (t : NextStep). CanActAt sizes v t → CanMeetAt sizes v word t → DraftsLoadedAt sizes v t
+    → DraftsLoaded sizes (met_at sizes v word t)) e
     (λ act can h. steps_keep_draft sizes v word room act can h)
 
-same_none : (processes : ℕ) (v : TransferView) (loaded : Loaded) → v.loaded.record_words ≡ loaded.record_words → v.loaded.announcements ≡ loaded.announcements
-    → v.loaded.popped ≡ loaded.popped → SameDraft 0 v.draft (drafted processes v.loaded 0) → SameDraft 0 v.draft (drafted processes loaded 0)
+same_none : (processes : ℕ) (v : TransferView) (loaded : Loaded) → v.loaded.record_words ≡ loaded.record_words
+    → v.loaded.announcements ≡ loaded.announcements
+    → v.loaded.popped ≡ loaded.popped → SameDraft 0 v.draft (drafted processes v.loaded 0)
+    → SameDraft 0 v.draft (drafted processes loaded 0)
 same_none processes v loaded e a b h = subst (SameDraft 0 v.draft) (drafted_stays processes v.loaded loaded 0 e a b) h
 
 -- the numbers of the steps that change the draft are in range

@@ -29,11 +29,14 @@ pub wish_reply_stays : (wish : Wish) (s : StackState) → (with_wish wish s).rep
 wish_reply_stays Take s = refl
 wish_reply_stays (Give head) s = refl
 
-pub either_reply : (b : Bool) (process x o : ℕ) (s t : StackState) → t.reply ≡ put process x s.reply → o ≢ process → (if b then t else s).reply o ≡ s.reply o
+-- an announcement, applied or not, leaves the replies of all other processes
+pub either_reply : (b : Bool) (process x o : ℕ) (s t : StackState) → t.reply ≡ put process x s.reply → o ≢ process
+    → (if b then t else s).reply o ≡ s.reply o
 either_reply true process x o s t e ne = ap (λ f. f o) e ∙ put_away process x o s.reply ne
 either_reply false process x o s t e ne = refl
 
-either_applied : (b : Bool) (process x o : ℕ) (s t : StackState) → t.applied ≡ put process x s.applied → o ≢ process → (if b then t else s).applied o ≡ s.applied o
+either_applied : (b : Bool) (process x o : ℕ) (s t : StackState) → t.applied ≡ put process x s.applied → o ≢ process
+    → (if b then t else s).applied o ≡ s.applied o
 either_applied true process x o s t e ne = ap (λ f. f o) e ∙ put_away process x o s.applied ne
 either_applied false process x o s t e ne = refl
 
@@ -48,14 +51,17 @@ unfolding next_of
 later_reply zero announcements s o le = refl
 later_reply (suc k) announcements s o le =
     let t = next_of k announcements s in
-    either_reply (is_pending (announcements k) (t.reply k)) k _ o t (with_transfer k (announcements k) t) refl (λ e. absurd (omega arith)) ∙ later_reply k announcements s o (omega arith)
+    either_reply (is_pending (announcements k) (t.reply k)) k _ o t (with_transfer k (announcements k) t) refl (λ e. absurd (omega arith))
+    ∙ later_reply k announcements s o (omega arith)
 
-later_applied : (heard : ℕ) (announcements : ℕ → ℕ) (s : StackState) (o : ℕ) → heard ≤ o → (next_of heard announcements s).applied o ≡ s.applied o
+later_applied : (heard : ℕ) (announcements : ℕ → ℕ) (s : StackState) (o : ℕ) → heard ≤ o
+    → (next_of heard announcements s).applied o ≡ s.applied o
 unfolding next_of
 later_applied zero announcements s o le = refl
 later_applied (suc k) announcements s o le =
     let t = next_of k announcements s in
-    either_applied (is_pending (announcements k) (t.reply k)) k _ o t (with_transfer k (announcements k) t) refl (λ e. absurd (omega arith)) ∙ later_applied k announcements s o (omega arith)
+    either_applied (is_pending (announcements k) (t.reply k)) k _ o t (with_transfer k (announcements k) t) refl (λ e. absurd (omega arith))
+    ∙ later_applied k announcements s o (omega arith)
 
 -- of the others, one more transfer is applied where the announcement is pending
 pub next_applied : (heard : ℕ) (announcements : ℕ → ℕ) (s : StackState) (o : ℕ) → o < heard
@@ -65,23 +71,30 @@ next_applied zero announcements s o lt = absurd (omega arith)
 next_applied (suc k) announcements s o lt =
     let t = next_of k announcements s in
     elim (cases_eq o k) [
-      | inl e ↦ rw e (own_applied (is_pending (announcements k) (t.reply k)) k t (with_transfer k (announcements k) t) refl ∙ rw (later_reply k announcements s k (omega arith), later_applied k announcements s k (omega arith)) refl)
-      | inr ne ↦ either_applied (is_pending (announcements k) (t.reply k)) k _ o t (with_transfer k (announcements k) t) refl ne ∙ next_applied k announcements s o (omega arith)
+      | inl e ↦
+          rw e (own_applied (is_pending (announcements k) (t.reply k)) k t (with_transfer k (announcements k) t) refl
+          ∙ rw (later_reply k announcements s k (omega arith), later_applied k announcements s k (omega arith)) refl)
+      | inr ne ↦
+          either_applied (is_pending (announcements k) (t.reply k)) k _ o t (with_transfer k (announcements k) t) refl ne
+          ∙ next_applied k announcements s o (omega arith)
     ]
 
 -- the draft's state
 drafted_content : (s t : StackState) (v : TransferView) (processes heard : ℕ) → SameDraft heard v.draft (drafted processes v.loaded heard)
-    → HasContent (drafted processes v.loaded heard) s t → (place : ℕ) → place < t.height → (drafted_state s v).content place ≡ t.content place
+    → HasContent (drafted processes v.loaded heard) s t → (place : ℕ) → place < t.height
+    → (drafted_state s v).content place ≡ t.content place
 unfolding drafted_state
 drafted_content s t v processes heard same h place lt = elim (cases_lt place v.draft.base) [
-  | inl low ↦ (let test : nat_lt place v.draft.base ≡ true = grind (arith, nat_tests) in rw test (sym (h.below place (omega (arith, same.base)))))
+  | inl low ↦
+      (let test : nat_lt place v.draft.base ≡ true = grind (arith, nat_tests) in rw test (sym (h.below place (omega (arith, same.base)))))
   | inr high ↦ (let test : nat_lt place v.draft.base ≡ false = grind (arith, nat_tests) in
       let over : place - v.draft.base < (drafted processes v.loaded heard).overlay = omega (arith, same.base, h.height) in
       let at : (drafted processes v.loaded heard).base + (place - v.draft.base) ≡ place = omega (arith, same.base) in
       rw test (same.heads (place - v.draft.base) over ∙ sym (h.above (place - v.draft.base) over) ∙ ap t.content at))
 ]
 
-drafted_same : (s : StackState) (v : TransferView) (processes : ℕ) → processes ≤ 32 → SameDraft processes v.draft (drafted processes v.loaded processes)
+drafted_same : (s : StackState) (v : TransferView) (processes : ℕ) → processes ≤ 32
+    → SameDraft processes v.draft (drafted processes v.loaded processes)
     → IsLoaded processes v.loaded s → PopsContent processes v.loaded s
     → SameState processes (drafted_state s v) (next_of processes (λ o. get_or v.loaded.announcements o 0) s)
 unfolding drafted_state
@@ -97,9 +110,12 @@ drafted_same s v processes few same is pops =
     }
 
 -- at the exchange
-pub installed_is_next : (sizes : Sizes) (words : Words) (views : Views) (states : States) (i : ℕ) (second : Bool) → IsShape sizes → i < sizes.processes → Invariant sizes words views states
+pub installed_is_next : (sizes : Sizes) (words : Words) (views : Views) (states : States) (i : ℕ) (second : Bool) → IsShape sizes
+    → i < sizes.processes
+    → Invariant sizes words views states
     → DraftsHold sizes words views states → (views i).next ≡ Try second ExchangeState → words State ≡ (views i).loaded.state
-    → SameState sizes.processes (drafted_state (states (state_tag words)) (views i)) (next_of sizes.processes (λ o. get_or (views i).loaded.announcements o 0) (states (state_tag words)))
+    → SameState sizes.processes (drafted_state (states (state_tag words)) (views i))
+    (next_of sizes.processes (λ o. get_or (views i).loaded.announcements o 0) (states (state_tag words)))
 unfolding state_tag
 installed_is_next sizes words views states i second shape li inv drafts e same =
     let now : loaded_tag (views i).loaded ≡ tag_of (words State) = ap tag_of (sym same) in

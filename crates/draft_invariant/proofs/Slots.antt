@@ -1,5 +1,6 @@
 -- every step of a view keeps what it knows of the slots that it loads for takes
-use Rattle.std.proofs.Common.{◌≡◌, ℕ, ◌+◌, ◌-◌, ◌<◌, ◌≤◌, ◌==◌, Bool, true, false, refl, sym, ◌∙◌, inl, inr, arith, length, get_or, set, get_or-set_same, get_or-set_other}
+use Rattle.std.proofs.Common.{◌≡◌, ℕ, ◌+◌, ◌-◌, ◌<◌, ◌≤◌, ◌==◌, Bool, true, false, refl, sym, ◌∙◌, inl}
+use Rattle.std.proofs.Common.{inr, arith, length, get_or, set, get_or-set_same, get_or-set_other}
 use Rattle.std.specs.Prelude.{if◌then◌else◌, nat_lt}
 use Rattle.std.proofs.lemmas.Bool.{cases_eq}
 use Rattle.std.proofs.lemmas.Bool.Decides.{nat_tests}
@@ -16,7 +17,8 @@ use Rattle.transfer_machine.specs.declared.transfer.TransferView.{TransferView}
 use Rattle.transfer_machine.specs.declared.stage.NextStep.{NextStep}
 use Rattle.transfer_machine.specs.declared.stage.NextStep.TheVariants.{Rest, Announce, Try, LoadFinalState, LoadReply}
 use Rattle.transfer_machine.specs.declared.stage.TryStep.{TryStep}
-use Rattle.transfer_machine.specs.declared.stage.TryStep.TheVariants.{LoadState, LoadRecordWord, LoadCoveredSlot, ExchangeSlot, LoadAnnouncement, LoadPoppedSlot, StoreRecordWord, ExchangeState}
+use Rattle.transfer_machine.specs.declared.stage.TryStep.TheVariants.{LoadState, LoadRecordWord, LoadCoveredSlot, ExchangeSlot}
+use Rattle.transfer_machine.specs.declared.stage.TryStep.TheVariants.{LoadAnnouncement, LoadPoppedSlot, StoreRecordWord, ExchangeState}
 use Rattle.transfer_invariant.specs.Memory.{Words, States, state_tag}
 use Rattle.transfer_invariant.specs.Progress.{has_record, drafted_announcements, heard_process, loads_popped, popped_in_try}
 use Rattle.draft_invariant.specs.Pops.{PopsHold}
@@ -36,7 +38,9 @@ outside processes m states x e = record {
   popped = λ h. absurd (not_both (has_record x.next) e h);
 }
 
-pub none_met : (processes : ℕ) (m : Words) (states : States) (x : TransferView) → loads_popped x.next ≡ false → drafted_announcements processes x.next ≡ 0
+-- before its draft has met an announcement a view has popped no slot, unless it is about to load one
+pub none_met : (processes : ℕ) (m : Words) (states : States) (x : TransferView) → loads_popped x.next ≡ false
+    → drafted_announcements processes x.next ≡ 0
     → PopsHold processes m states x
 none_met processes m states x e f = record {
   popping = λ h. absurd (not_both (loads_popped x.next) e h);
@@ -50,29 +54,39 @@ pub record ReadsAlike (v x : TransferView) (k : ℕ) : Type 0 where
   pub announcements : (j : ℕ) → j < k → get_or x.loaded.announcements j 0 ≡ get_or v.loaded.announcements j 0
   pub popped : (j : ℕ) → j < k → get_or x.loaded.popped j 0 ≡ get_or v.loaded.popped j 0
 
-same_draft : (processes : ℕ) (v x : TransferView) (k j : ℕ) → ReadsAlike v x k → j ≤ k → drafted processes x.loaded j ≡ drafted processes v.loaded j
-same_draft processes v x k j r le = drafted_reads processes x.loaded v.loaded j r.record_words (λ o lt. r.announcements o (omega arith)) (λ o lt. r.popped o (omega arith))
+same_draft : (processes : ℕ) (v x : TransferView) (k j : ℕ) → ReadsAlike v x k → j ≤ k
+    → drafted processes x.loaded j ≡ drafted processes v.loaded j
+same_draft processes v x k j r le =
+    drafted_reads processes x.loaded v.loaded j r.record_words (λ o lt. r.announcements o (omega arith)) (λ o lt. r.popped o (omega arith))
 
-popped_stays : (processes : ℕ) (m : Words) (states : States) (v x : TransferView) (k : ℕ) → PopsHold processes m states v → ReadsAlike v x k → has_record v.next ≡ true
+popped_stays : (processes : ℕ) (m : Words) (states : States) (v x : TransferView) (k : ℕ) → PopsHold processes m states v → ReadsAlike v x k
+    → has_record v.next ≡ true
     → k ≤ drafted_announcements processes v.next
-    → loaded_tag x.loaded ≡ state_tag m → (j : ℕ) → j < k → pops_slot processes x.loaded j (get_or x.loaded.announcements j 0) (drafted processes x.loaded j) ≡ true
+    → loaded_tag x.loaded ≡ state_tag m → (j : ℕ) → j < k
+    → pops_slot processes x.loaded j (get_or x.loaded.announcements j 0) (drafted processes x.loaded j) ≡ true
     → popped_head x.loaded j ≡ (states (state_tag m)).content ((drafted processes x.loaded j).base - 1)
 popped_stays processes m states v x k h r has le now j lt pop =
     let e = same_draft processes v x k j r (omega arith) in
     rw (e, r.popped j lt) (h.popped has (rw r.state at now) j (omega arith) (rw (e, r.announcements j lt, r.record_words) at pop))
 
-pub goes_on_pops : (processes : ℕ) (m : Words) (states : States) (v x : TransferView) → PopsHold processes m states v → ReadsAlike v x (drafted_announcements processes x.next)
+-- it keeps what it knows of its popped slots, as long as it pops no new one
+pub goes_on_pops : (processes : ℕ) (m : Words) (states : States) (v x : TransferView) → PopsHold processes m states v
+    → ReadsAlike v x (drafted_announcements processes x.next)
     → has_record v.next ≡ true
-    → drafted_announcements processes x.next ≤ drafted_announcements processes v.next → loads_popped x.next ≡ false → PopsHold processes m states x
+    → drafted_announcements processes x.next ≤ drafted_announcements processes v.next → loads_popped x.next ≡ false
+    → PopsHold processes m states x
 goes_on_pops processes m states v x h r has le none = record {
   popping = λ e. absurd (not_both (loads_popped x.next) none e);
   popped = λ e now j lt pop. popped_stays processes m states v x (drafted_announcements processes x.next) h r has le now j lt pop;
 }
 
 -- a view that meets one more announcement
-meets_one_pops : (processes : ℕ) (m : Words) (states : States) (v x : TransferView) (k : ℕ) → PopsHold processes m states v → ReadsAlike v x k → has_record v.next ≡ true
+meets_one_pops : (processes : ℕ) (m : Words) (states : States) (v x : TransferView) (k : ℕ) → PopsHold processes m states v
+    → ReadsAlike v x k
+    → has_record v.next ≡ true
     → drafted_announcements processes v.next ≡ k → drafted_announcements processes x.next ≡ k + 1 → loads_popped x.next ≡ false
-    → (loaded_tag x.loaded ≡ state_tag m → pops_slot processes x.loaded k (get_or x.loaded.announcements k 0) (drafted processes x.loaded k) ≡ true → popped_head x.loaded k ≡ (states (state_tag m)).content ((drafted processes x.loaded k).base - 1))
+    → (loaded_tag x.loaded ≡ state_tag m → pops_slot processes x.loaded k (get_or x.loaded.announcements k 0) (drafted processes x.loaded k)
+    ≡ true → popped_head x.loaded k ≡ (states (state_tag m)).content ((drafted processes x.loaded k).base - 1))
     → PopsHold processes m states x
 meets_one_pops processes m states v x k h r has before after none here = record {
   popping = λ e. absurd (not_both (loads_popped x.next) none e);
@@ -83,19 +97,36 @@ meets_one_pops processes m states v x k h r has before after none here = record 
 }
 
 -- a view that waits for a slot
-waits_pops : (processes : ℕ) (m : Words) (states : States) (v : TransferView) (second : Bool) (process word : ℕ) → PopsHold processes m states v → v.next ≡ Try second (LoadAnnouncement process)
+waits_pops : (processes : ℕ) (m : Words) (states : States) (v : TransferView) (second : Bool) (process word : ℕ)
+    → PopsHold processes m states v
+    → v.next ≡ Try second (LoadAnnouncement process)
     → process < length v.loaded.announcements → pops_slot processes v.loaded process word v.draft ≡ true
-    → PopsHold processes m states (record v { loaded = record v.loaded { announcements = set v.loaded.announcements process word }; next = Try second (LoadPoppedSlot process) })
+    → PopsHold processes m states (record v {
+      loaded = record v.loaded { announcements = set v.loaded.announcements process word };
+      next = Try second (LoadPoppedSlot process);
+    })
 waits_pops processes m states v second process word h e lt pop =
-    let x : TransferView = record v { loaded = record v.loaded { announcements = set v.loaded.announcements process word }; next = Try second (LoadPoppedSlot process) } in
-    let r : ReadsAlike v x process = record { state = refl; record_words = refl; announcements = λ j low. get_or-set_other v.loaded.announcements process j word 0 (below_apart j process low); popped = λ j low. refl } in
+    let x : TransferView =
+    record v {
+      loaded = record v.loaded { announcements = set v.loaded.announcements process word };
+      next = Try second (LoadPoppedSlot process);
+    } in
+    let r : ReadsAlike v x process =
+    record {
+      state = refl;
+      record_words = refl;
+      announcements = λ j low. get_or-set_other v.loaded.announcements process j word 0
+          (below_apart j process low);
+      popped = λ j low. refl;
+    } in
     record {
       popping = λ now. rw (get_or-set_same v.loaded.announcements process word 0 lt) pop;
       popped = λ now tag j low slot. popped_stays processes m states v x process h r (rw e refl) (rw e (omega arith)) tag j low slot;
     }
 
 -- two drafts that take from the same slot
-pops_alike : (processes : ℕ) (loaded : Loaded) (process word : ℕ) (kept draft : TryDraft) → kept.base ≡ draft.base → kept.overlay ≡ draft.overlay
+pops_alike : (processes : ℕ) (loaded : Loaded) (process word : ℕ) (kept draft : TryDraft) → kept.base ≡ draft.base
+    → kept.overlay ≡ draft.overlay
     → pops_slot processes loaded process word kept ≡ pops_slot processes loaded process word draft
 pops_alike processes loaded process word kept draft base over = rw (base, over) refl
 
@@ -103,33 +134,79 @@ after_waits_not : (sizes : Sizes) (process : ℕ) → popped_in_try (after_heard
 after_waits_not sizes process = grind (arith, nat_tests)
 
 -- a view that applies an announcement that needs no slot
-heard_pops : (sizes : Sizes) (m : Words) (states : States) (v : TransferView) (second : Bool) (process word : ℕ) (draft : TryDraft) → PopsHold sizes.processes m states v
+heard_pops : (sizes : Sizes) (m : Words) (states : States) (v : TransferView) (second : Bool) (process word : ℕ) (draft : TryDraft)
+    → PopsHold sizes.processes m states v
     → v.next ≡ Try second (LoadAnnouncement process) → process < length v.loaded.announcements
     → SameDraft process v.draft (drafted sizes.processes v.loaded process) → pops_slot sizes.processes v.loaded process word v.draft ≡ false
-    → PopsHold sizes.processes m states (record v { loaded = record v.loaded { announcements = set v.loaded.announcements process word }; next = Try second (after_heard sizes process); draft = draft })
+    → PopsHold sizes.processes m states (record v {
+      loaded = record v.loaded { announcements = set v.loaded.announcements process word };
+      next = Try second (after_heard sizes process);
+      draft = draft;
+    })
 heard_pops sizes m states v second process word draft h e lt same none =
-    let x : TransferView = record v { loaded = record v.loaded { announcements = set v.loaded.announcements process word }; next = Try second (after_heard sizes process); draft = draft } in
-    let r : ReadsAlike v x process = record { state = refl; record_words = refl; announcements = λ j low. get_or-set_other v.loaded.announcements process j word 0 (below_apart j process low); popped = λ j low. refl } in
-    let alike = pops_alike sizes.processes v.loaded process word v.draft (drafted sizes.processes v.loaded process) same.base same.overlay in
-    meets_one_pops sizes.processes m states v x process h r (rw e refl) (rw e refl) (after_drafted sizes process) (after_waits_not sizes process)
-    (λ now pop. absurd (not_both (pops_slot sizes.processes v.loaded process word v.draft) none (alike ∙ rw (same_draft sizes.processes v x process process r (omega arith), get_or-set_same v.loaded.announcements process word 0 lt) at pop)))
+    let x : TransferView =
+    record v {
+      loaded = record v.loaded { announcements = set v.loaded.announcements process word };
+      next = Try second (after_heard sizes process);
+      draft = draft;
+    } in
+    let r : ReadsAlike v x process =
+    record {
+      state = refl;
+      record_words = refl;
+      announcements = λ j low. get_or-set_other v.loaded.announcements process j word 0
+          (below_apart j process low);
+      popped = λ j low. refl;
+    } in
+    let alike =
+    pops_alike sizes.processes v.loaded process word v.draft (drafted sizes.processes v.loaded process) same.base same.overlay in
+    meets_one_pops sizes.processes m states v x process h r (rw e refl) (rw e refl) (after_drafted sizes process)
+    (after_waits_not sizes process)
+    (λ now pop. absurd (not_both (pops_slot sizes.processes v.loaded process word v.draft) none
+    (alike ∙ rw (
+      same_draft sizes.processes v x process process r (omega arith),
+      get_or-set_same v.loaded.announcements process word 0 lt,
+    ) at pop)))
 
 -- a view that applies one with the slot that it loaded
-slot_pops : (sizes : Sizes) (m : Words) (states : States) (v : TransferView) (second : Bool) (process word : ℕ) (draft : TryDraft) → PopsHold sizes.processes m states v
+slot_pops : (sizes : Sizes) (m : Words) (states : States) (v : TransferView) (second : Bool) (process word : ℕ) (draft : TryDraft)
+    → PopsHold sizes.processes m states v
     → v.next ≡ Try second (LoadPoppedSlot process) → process < length v.loaded.popped
-    → SameDraft process v.draft (drafted sizes.processes v.loaded process) → (loaded_tag v.loaded ≡ state_tag m → value_of word ≡ (states (state_tag m)).content (v.draft.base - 1))
-    → PopsHold sizes.processes m states (record v { loaded = record v.loaded { popped = set v.loaded.popped process word }; next = Try second (after_heard sizes process); draft = draft })
+    → SameDraft process v.draft (drafted sizes.processes v.loaded process)
+    → (loaded_tag v.loaded ≡ state_tag m → value_of word ≡ (states (state_tag m)).content (v.draft.base - 1))
+    → PopsHold sizes.processes m states (record v {
+      loaded = record v.loaded { popped = set v.loaded.popped process word };
+      next = Try second (after_heard sizes process);
+      draft = draft;
+    })
 slot_pops sizes m states v second process word draft h e lt same value =
-    let x : TransferView = record v { loaded = record v.loaded { popped = set v.loaded.popped process word }; next = Try second (after_heard sizes process); draft = draft } in
-    let r : ReadsAlike v x process = record { state = refl; record_words = refl; announcements = λ j low. refl; popped = λ j low. get_or-set_other v.loaded.popped process j word 0 (below_apart j process low) } in
-    meets_one_pops sizes.processes m states v x process h r (rw e refl) (rw e refl) (after_drafted sizes process) (after_waits_not sizes process)
-    (λ now pop. rw (get_or-set_same v.loaded.popped process word 0 lt, same_draft sizes.processes v x process process r (omega arith), sym same.base) (value now))
+    let x : TransferView =
+    record v {
+      loaded = record v.loaded { popped = set v.loaded.popped process word };
+      next = Try second (after_heard sizes process);
+      draft = draft;
+    } in
+    let r : ReadsAlike v x process =
+    record {
+      state = refl;
+      record_words = refl;
+      announcements = λ j low. refl;
+      popped = λ j low. get_or-set_other v.loaded.popped process j word 0 (below_apart j process low);
+    } in
+    meets_one_pops sizes.processes m states v x process h r (rw e refl) (rw e refl) (after_drafted sizes process)
+    (after_waits_not sizes process)
+    (λ now pop. rw (
+      get_or-set_same v.loaded.popped process word 0 lt,
+      same_draft sizes.processes v x process process r (omega arith),
+      sym same.base,
+    ) (value now))
 
 -- what follows loads no slot for a take
 record_waits_not : (loaded : Loaded) → popped_in_try (after_record loaded) ≡ false
 record_waits_not loaded = grind (arith, nat_tests)
 
-slot_waits_not : (t : Bool) (loaded : Loaded) (offset : ℕ) → popped_in_try (if t then ExchangeSlot offset else after_slot loaded offset) ≡ false
+slot_waits_not : (t : Bool) (loaded : Loaded) (offset : ℕ)
+    → popped_in_try (if t then ExchangeSlot offset else after_slot loaded offset) ≡ false
 slot_waits_not t loaded offset = grind (arith, nat_tests)
 
 exchanged_waits_not : (loaded : Loaded) (offset : ℕ) → popped_in_try (after_slot loaded offset) ≡ false
@@ -139,17 +216,28 @@ stored_waits_not : (sizes : Sizes) (index : ℕ) → popped_in_try (after_stored
 stored_waits_not sizes index = grind (arith, nat_tests)
 
 -- an announcement is loaded
-either_heard : (sizes : Sizes) (m : Words) (states : States) (v : TransferView) (second : Bool) (process word : ℕ) (b : Bool) → pops_slot sizes.processes v.loaded process word v.draft ≡ b
+either_heard : (sizes : Sizes) (m : Words) (states : States) (v : TransferView) (second : Bool) (process word : ℕ) (b : Bool)
+    → pops_slot sizes.processes v.loaded process word v.draft ≡ b
     → PopsHold sizes.processes m states v → v.next ≡ Try second (LoadAnnouncement process) → process < length v.loaded.announcements
     → SameDraft process v.draft (drafted sizes.processes v.loaded process)
     → PopsHold sizes.processes m states (if b
-    then record v { loaded = record v.loaded { announcements = set v.loaded.announcements process word }; next = Try second (LoadPoppedSlot process) }
-    else record v { loaded = record v.loaded { announcements = set v.loaded.announcements process word }; next = Try second (after_heard sizes process); draft = after_announcement sizes.processes v.loaded process word 0 v.draft })
-either_heard sizes m states v second process word true test h e lt same = waits_pops sizes.processes m states v second process word h e lt test
-either_heard sizes m states v second process word false test h e lt same = heard_pops sizes m states v second process word _ h e lt same test
+    then record v {
+      loaded = record v.loaded { announcements = set v.loaded.announcements process word };
+      next = Try second (LoadPoppedSlot process);
+    }
+    else record v {
+      loaded = record v.loaded { announcements = set v.loaded.announcements process word };
+      next = Try second (after_heard sizes process);
+      draft = after_announcement sizes.processes v.loaded process word 0 v.draft;
+    })
+either_heard sizes m states v second process word true test h e lt same =
+    waits_pops sizes.processes m states v second process word h e lt test
+either_heard sizes m states v second process word false test h e lt same =
+    heard_pops sizes m states v second process word _ h e lt same test
 
 -- the view after each step of a try
-pops_met_in_try : (sizes : Sizes) (m : Words) (states : States) (v : TransferView) (word : ℕ) (second : Bool) (s : TryStep) → v.next ≡ Try second s
+pops_met_in_try : (sizes : Sizes) (m : Words) (states : States) (v : TransferView) (word : ℕ) (second : Bool) (s : TryStep)
+    → v.next ≡ Try second s
     → sizes.processes ≤ 32 → HasRoom v → heard_process v.next < sizes.processes → DraftsLoadedInTry sizes v s
     → ((second : Bool) (process : ℕ) → v.next ≡ Try second (LoadPoppedSlot process) → loaded_tag v.loaded ≡ state_tag m
     → value_of word ≡ (states (state_tag m)).content (v.draft.base - 1))
@@ -187,7 +275,8 @@ pops_met_in_try sizes m states v word second ExchangeState e few room among same
     (outside sizes.processes m states (installed v) refl) (outside sizes.processes m states (try_ended second v) (ended_has_none second))
 
 -- the view after each step
-pub pops_met : (sizes : Sizes) (m : Words) (states : States) (v : TransferView) (word : ℕ) (s : NextStep) → v.next ≡ s → sizes.processes ≤ 32
+pub pops_met : (sizes : Sizes) (m : Words) (states : States) (v : TransferView) (word : ℕ) (s : NextStep) → v.next ≡ s
+    → sizes.processes ≤ 32
     → HasRoom v → heard_process v.next < sizes.processes → DraftsLoadedAt sizes v s
     → ((second : Bool) (process : ℕ) → v.next ≡ Try second (LoadPoppedSlot process) → loaded_tag v.loaded ≡ state_tag m
     → value_of word ≡ (states (state_tag m)).content (v.draft.base - 1))

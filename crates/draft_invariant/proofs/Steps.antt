@@ -13,7 +13,8 @@ use Rattle.transfer_machine.specs.Words.{name_of}
 use Rattle.transfer_machine.specs.declared.stage.NextStep.{NextStep}
 use Rattle.transfer_machine.specs.declared.stage.NextStep.TheVariants.{Rest, Announce, Try, LoadFinalState, LoadReply}
 use Rattle.transfer_machine.specs.declared.stage.TryStep.{TryStep}
-use Rattle.transfer_machine.specs.declared.stage.TryStep.TheVariants.{LoadState, LoadRecordWord, LoadCoveredSlot, ExchangeSlot, LoadAnnouncement, LoadPoppedSlot, StoreRecordWord, ExchangeState}
+use Rattle.transfer_machine.specs.declared.stage.TryStep.TheVariants.{LoadState, LoadRecordWord, LoadCoveredSlot, ExchangeSlot}
+use Rattle.transfer_machine.specs.declared.stage.TryStep.TheVariants.{LoadAnnouncement, LoadPoppedSlot, StoreRecordWord, ExchangeState}
 use Rattle.transfer_invariant.specs.Memory.{Words, Views, States, state_tag, slot_value}
 use Rattle.transfer_invariant.specs.Progress.{has_record, has_loaded}
 use Rattle.transfer_invariant.specs.Invariant.{Invariant}
@@ -26,24 +27,30 @@ use Rattle.draft_invariant.proofs.Numbers.{IsSlotBelow, loaded_fits, popped_belo
 use Rattle.draft_invariant.proofs.Drafts.{Meets}
 use Rattle.draft_invariant.proofs.KeptDrafts.{DraftChanges}
 
-module _ (sizes : Sizes) (words : Words) (views : Views) (states : States) (i : ℕ) (shape : IsShape sizes) (li : i < sizes.processes) (inv : Invariant sizes words views states) (drafts : DraftsHold sizes words views states) where
+module _ (sizes : Sizes) (words : Words) (views : Views) (states : States) (i : ℕ) (shape : IsShape sizes) (li : i < sizes.processes)
+    (inv : Invariant sizes words views states) (drafts : DraftsHold sizes words views states) where
   -- the loaded record
   pub view_is : has_record (views i).next ≡ true → IsLoaded sizes.processes (views i).loaded (states (loaded_tag (views i).loaded))
   view_is has = loaded_is sizes words states (views i) inv.records.states_fit (inv.records.loaded i li) has
 
+  -- its numbers are in range
   pub view_fits : has_record (views i).next ≡ true → LoadedFits sizes (views i).loaded
   view_fits has = loaded_fits sizes words states (views i) inv.records.states_fit (inv.records.loaded i li) has
 
+  -- and the drafted base lies within the slots
   pub base_within : has_record (views i).next ≡ true → (views i).draft.base ≤ sizes.batches
   base_within has = let fits = view_fits has in let low = (drafts.each i li).fits has in omega (arith, fits.within)
 
   -- the slot of a taken batch
-  pub taken_slot : (second : Bool) (process : ℕ) → (views i).next ≡ Try second (LoadPoppedSlot process) → IsSlotBelow (views i).loaded (views i).draft
-  taken_slot second process e = popped_below sizes.processes (views i).loaded process (get_or (views i).loaded.announcements process 0) (views i).draft
+  pub taken_slot : (second : Bool) (process : ℕ) → (views i).next ≡ Try second (LoadPoppedSlot process)
+      → IsSlotBelow (views i).loaded (views i).draft
+  taken_slot second process e =
+      popped_below sizes.processes (views i).loaded process (get_or (views i).loaded.announcements process 0) (views i).draft
       (rw e at ((drafts.pops i li).popping (rw e refl)))
 
   -- what is stored
-  pub stored_fits : (second : Bool) (index : ℕ) → (views i).next ≡ Try second (StoreRecordWord index) → drafted_value sizes.processes (views i).draft index < value_limit
+  pub stored_fits : (second : Bool) (index : ℕ) → (views i).next ≡ Try second (StoreRecordWord index)
+      → drafted_value sizes.processes (views i).draft index < value_limit
   stored_fits second index e =
       let view = drafts.each i li in
       let over : (views i).draft.overlay ≤ sizes.processes = rw e at (inv.drafts i li) in
@@ -52,14 +59,16 @@ module _ (sizes : Sizes) (words : Words) (views : Views) (states : States) (i : 
 
   module _ (given : DraftPremises sizes words states (views i)) where
     -- the word that is met
-    popped_block : (second : Bool) (process : ℕ) → (views i).next ≡ Try second (LoadPoppedSlot process) → value_of (words (Slot ((views i).draft.base - 1))) < blocks sizes
+    popped_block : (second : Bool) (process : ℕ) → (views i).next ≡ Try second (LoadPoppedSlot process)
+        → value_of (words (Slot ((views i).draft.base - 1))) < blocks sizes
     unfolding slot_value
     popped_block second process e =
         let slot = taken_slot second process e in
         let low = base_within (rw e refl) in
         given.slots ((views i).draft.base - 1) (omega (arith, slot.some))
 
-    popped_content : (second : Bool) (process : ℕ) → (views i).next ≡ Try second (LoadPoppedSlot process) → loaded_tag (views i).loaded ≡ state_tag words
+    popped_content : (second : Bool) (process : ℕ) → (views i).next ≡ Try second (LoadPoppedSlot process)
+        → loaded_tag (views i).loaded ≡ state_tag words
         → value_of (words (Slot ((views i).draft.base - 1))) ≡ (states (state_tag words)).content ((views i).draft.base - 1)
     unfolding slot_value
     popped_content second process e now =
@@ -68,6 +77,7 @@ module _ (sizes : Sizes) (words : Words) (views : Views) (states : States) (i : 
         let here : loaded_base (views i).loaded ≡ (states (state_tag words)).base = rw now at base in
         given.below ((views i).draft.base - 1) (omega (arith, slot.below))
 
+    -- what a step needs of the shape, of the loaded record and of the word that it meets
     pub view_meets : Meets sizes (views i) (words (name_of (action_of sizes (views i))))
     view_meets = record {
       some = omega arith;
@@ -80,26 +90,34 @@ module _ (sizes : Sizes) (words : Words) (views : Views) (states : States) (i : 
       popped = λ second process e. rw e (popped_block second process e);
     }
 
-    pub view_pops : (second : Bool) (process : ℕ) → (views i).next ≡ Try second (LoadPoppedSlot process) → loaded_tag (views i).loaded ≡ state_tag words
+    -- the slot that a take loads holds the present state's content, where the loaded state is the present one
+    pub view_pops : (second : Bool) (process : ℕ) → (views i).next ≡ Try second (LoadPoppedSlot process)
+        → loaded_tag (views i).loaded ≡ state_tag words
         → value_of (words (name_of (action_of sizes (views i)))) ≡ (states (state_tag words)).content ((views i).draft.base - 1)
     view_pops second process e now = rw e (popped_content second process e now)
 
     -- an announcement can be applied
-    heard_can : (second : Bool) (process : ℕ) → (views i).next ≡ Try second (LoadAnnouncement process) → CanMeetInTry sizes (views i) (words (name_of (action_of sizes (views i)))) (LoadAnnouncement process)
+    heard_can : (second : Bool) (process : ℕ) → (views i).next ≡ Try second (LoadAnnouncement process)
+        → CanMeetInTry sizes (views i) (words (name_of (action_of sizes (views i)))) (LoadAnnouncement process)
     heard_can second process e =
         let over : (views i).draft.overlay ≤ process = rw e at (inv.drafts i li) in
-        can_apply sizes (views i).loaded process _ 0 (views i).draft shape.few_processes shape.few_blocks (rw e at (drafts.each i li).among) over
+        can_apply sizes (views i).loaded process _ 0 (views i).draft shape.few_processes shape.few_blocks
+        (rw e at (drafts.each i li).among) over
         (view_fits (rw e refl)) (some_block sizes shape) (drafts.each i li).heads.heads ((drafts.each i li).fits (rw e refl))
 
-    popped_act : (second : Bool) (process : ℕ) → (views i).next ≡ Try second (LoadPoppedSlot process) → CanActInTry sizes (views i) (LoadPoppedSlot process)
+    popped_act : (second : Bool) (process : ℕ) → (views i).next ≡ Try second (LoadPoppedSlot process)
+        → CanActInTry sizes (views i) (LoadPoppedSlot process)
     popped_act second process e = (rw e at (drafts.each i li).among, (taken_slot second process e).some, base_within (rw e refl))
 
-    popped_can : (second : Bool) (process : ℕ) → (views i).next ≡ Try second (LoadPoppedSlot process) → CanMeetInTry sizes (views i) (words (name_of (action_of sizes (views i)))) (LoadPoppedSlot process)
+    popped_can : (second : Bool) (process : ℕ) → (views i).next ≡ Try second (LoadPoppedSlot process)
+        → CanMeetInTry sizes (views i) (words (name_of (action_of sizes (views i)))) (LoadPoppedSlot process)
     popped_can second process e =
         let over : (views i).draft.overlay ≤ process = rw e at (inv.drafts i li) in
-        can_apply sizes (views i).loaded process _ _ (views i).draft shape.few_processes shape.few_blocks (rw e at (drafts.each i li).among) over
+        can_apply sizes (views i).loaded process _ _ (views i).draft shape.few_processes shape.few_blocks
+        (rw e at (drafts.each i li).among) over
         (view_fits (rw e refl)) (view_meets.popped second process e) (drafts.each i li).heads.heads ((drafts.each i li).fits (rw e refl))
 
+    -- the numbers that the next step names are in range, and an announcement that it meets can be applied
     pub view_changes : DraftChanges sizes (views i) (words (name_of (action_of sizes (views i))))
     view_changes = record {
       row = λ second index e. (inv.records.loaded i li).row (rw e refl);
@@ -121,6 +139,7 @@ module _ (sizes : Sizes) (words : Words) (views : Views) (states : States) (i : 
     can_meet_in_try second (StoreRecordWord index) e = tt
     can_meet_in_try second ExchangeState e = tt
 
+    -- whatever its next step is, a view can meet the word there
     pub can_meet : (s : NextStep) → (views i).next ≡ s → CanMeetAt sizes (views i) (words (name_of (action_of sizes (views i)))) s
     can_meet Rest e = tt
     can_meet Announce e = tt
@@ -154,9 +173,14 @@ module _ (sizes : Sizes) (words : Words) (views : Views) (states : States) (i : 
           (row_low, low, omega (arith, shape.few_processes), tag_low (rw e refl), stored_fits second index e)
       can_act_in_try second ExchangeState e = (row_low, tag_low (rw e refl))
 
+      -- and it can make that step
       pub can_act : (s : NextStep) → (views i).next ≡ s → CanActAt sizes (views i) s
       can_act Rest e = tt
-      can_act Announce e = (given.number, omega (arith, given.age e, age_is_tag sizes shape), wish_fits sizes (views i).wish shape.few_blocks (given.fits_wish e))
+      can_act Announce e = (
+        given.number,
+        omega (arith, given.age e, age_is_tag sizes shape),
+        wish_fits sizes (views i).wish shape.few_blocks (given.fits_wish e),
+      )
       can_act (Try second step) e = can_act_in_try second step e
       can_act LoadFinalState e = tt
       can_act LoadReply e = ((inv.records.loaded i li).row (rw e refl), given.number)

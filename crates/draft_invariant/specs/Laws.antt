@@ -60,7 +60,9 @@ StepsCanBeMade = (sizes : Sizes) (words : Words) (views : Views) (states : State
 
 -- what a view stores in its next record fits a value
 abbrev pub StoredWordsFit : Type 0
-StoredWordsFit = (sizes : Sizes) (words : Words) (views : Views) (states : States) (i : ℕ) (second : Bool) (index : ℕ) → IsShape sizes → i < sizes.processes
+StoredWordsFit =
+    (sizes : Sizes) (words : Words) (views : Views) (states : States) (i : ℕ) (second : Bool) (index : ℕ) → IsShape sizes
+    → i < sizes.processes
     → Invariant sizes words views states
     → DraftsHold sizes words views states
     → (views i).next ≡ Try second (StoreRecordWord index)
@@ -68,7 +70,8 @@ StoredWordsFit = (sizes : Sizes) (words : Words) (views : Views) (states : State
 
 -- the state that a view drafts is, where its exchange installs it, what the loaded announcements make of the present one
 abbrev pub DraftedIsNext : Type 0
-DraftedIsNext = (sizes : Sizes) (words : Words) (views : Views) (states : States) (i : ℕ) (second : Bool) → IsShape sizes → i < sizes.processes
+DraftedIsNext =
+    (sizes : Sizes) (words : Words) (views : Views) (states : States) (i : ℕ) (second : Bool) → IsShape sizes → i < sizes.processes
     → Invariant sizes words views states
     → DraftsHold sizes words views states
     → (views i).next ≡ Try second ExchangeState

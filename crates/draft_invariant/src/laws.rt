@@ -1,6 +1,7 @@
 //! The opening meets the part, each step keeps it, and what it gives. Each law is the contract of a call that does
 //! nothing.
-ghost use Rattle.draft_invariant.specs.Laws.{OpeningMeetsDrafts, StepsKeepDrafts, BeginningsKeepDrafts, StepsCanBeMade, StoredWordsFit, DraftedIsNext, DraftedHeadsAreBlocks, DraftedBaseIsLow, DraftsGiveWrites};
+ghost use Rattle.draft_invariant.specs.Laws.{OpeningMeetsDrafts, StepsKeepDrafts, BeginningsKeepDrafts, StepsCanBeMade};
+ghost use Rattle.draft_invariant.specs.Laws.{StoredWordsFit, DraftedIsNext, DraftedHeadsAreBlocks, DraftedBaseIsLow, DraftsGiveWrites};
 
 /// The words and views of the opening meet the part.
 pub fn opening()

@@ -53,6 +53,7 @@ pub record HeardOn (v x : TransferView) : Type 0 where
   pub announced : has_announced x.next ≡ true → has_announced v.next ≡ true
   pub begun : has_begun_try x.next ≡ true → has_begun_try v.next ≡ true
 
+-- what was heard of a process stays its present announcement while that process goes on so
 pub heard_on : (processes : ℕ) (m : Words) (states : States) (o : ℕ) (w v x : TransferView) → HearsPresent processes m states o w v
     → HeardOn v x → HearsPresent processes m states o w x
 heard_on processes m states o w v x h g = grind arith

@@ -24,6 +24,7 @@ applied_count sizes words views states o lo h =
     let a = h.announced o lo in
     record { idle = a.idle; most = a.most; least = a.least }
 
+-- once both its tries are over, a process's transfer is applied
 pub applied_after_two_tries : TwoTriesApply
 applied_after_two_tries sizes words views states i li h e = (h.tries i li).ended e
 
@@ -44,6 +45,7 @@ present_pends words states o w v h e ne =
     pending true a b e h = refl
     pending false a b e h = absurd (let same = h refl in omega arith)
 
+-- whoever installs a state applies present announcements only
 pub installs_present : InstallsPresent
 unfolding state_tag
 installs_present sizes words views states i o second li lo h e same pends =
@@ -94,6 +96,7 @@ loaded_reply_present sizes words views states i li inv h e =
     (λ t. l.values has index (omega arith) t ∙ value_reply sizes.processes i (states m) ∙ settled)
     (λ some applied. (h.settled i li).in_records pends row (l.row has) some (applied ∙ ended)))
 
+-- the reply that a transfer loads in the end is that of the present state, which has applied it
 pub answered : TransfersAreAnswered
 answered sizes words views states i li inv h e =
     (loaded_reply_present sizes words views states i li inv h e, (h.tries i li).ended (rw e refl))

@@ -27,6 +27,7 @@ pub grow_announced : (processes : ℕ) (m n : Words) (states later : States) (ne
     → AnnouncementHolds n later o w
 grow_announced processes m n states later next o second v w lo h p e now same g a = grind arith
 
+-- an installed state keeps the part two tries of every process
 pub grow_tries : (processes : ℕ) (m n : Words) (states later : States) (next : StackState) (o : ℕ) (second : Bool) (v w : TransferView)
     → o < processes → AnnouncementHolds m states o w → TwoTries m states o w → HearsPresent processes m states o v w
     → v.next ≡ Try second ExchangeState → loaded_tag v.loaded ≡ state_tag m
@@ -34,6 +35,7 @@ pub grow_tries : (processes : ℕ) (m n : Words) (states later : States) (next :
     → AppliesHeard processes (states (state_tag m)) next v → TwoTries n later o w
 grow_tries processes m n states later next o second v w lo h t p e now past made g a = grind arith
 
+-- and the part settled reply: a state that has applied the pending transfer of a process keeps its reply
 pub grow_settled : (sizes : Sizes) (m n : Words) (states later : States) (next : StackState) (o row : ℕ) (second : Bool)
     (v w : TransferView) → o < sizes.processes → TagsBelow sizes m → AppliedRises sizes m states → AnnouncementHolds m states o w
     → SettledReply sizes m states o w → HearsPresent sizes.processes m states o v w → v.next ≡ Try second ExchangeState

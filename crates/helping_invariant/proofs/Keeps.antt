@@ -120,6 +120,7 @@ step_helps sizes m n views after states i LoadReply few li inv h w drafts wish e
     loads sizes name m n after states a
     (view_idle sizes m views after states i (met_at sizes v (m name) LoadReply) li h moved applied refl refl refl refl refl)
 
+-- a step of a process keeps the parts of helping, whatever its stage
 pub steps_keep_helping : StepsKeepHelping
 steps_keep_helping sizes words new views after states i shape li inv h fits drafts wish acted moved =
     step_helps sizes words new views after states i (views i).next shape.few_processes li inv h fits drafts wish refl acted moved

@@ -78,6 +78,7 @@ moved_on sizes m states v index c l has low higher = grind arith
 same_parts : (a b : ℕ) → tag_of a ≡ tag_of b → value_of a ≡ value_of b → a ≡ b
 same_parts a b e f = sym (tagged-parts a) ∙ (rw (e, f) (tagged-parts b))
 
+-- where the state isn't the loaded one at the exchange, a later state was installed meanwhile
 pub exchange_failed : (sizes : Sizes) (m : Words) (states : States) (v : TransferView) → LoadedState sizes m states v
     → has_loaded v.next ≡ true → m State ≢ v.loaded.state → loaded_tag v.loaded < state_tag m
 unfolding state_tag current_record
@@ -91,13 +92,16 @@ exchange_failed sizes m states v l has ne = later (loaded_tag v.loaded) (state_t
 record_deaf : (processes : ℕ) (loaded : Loaded) → heard_in_try processes (after_record loaded) ≡ 0
 record_deaf processes loaded = grind (arith, nat_tests)
 
+-- after a covered slot is loaded, a try has heard no announcement yet
 pub slot_deaf : (processes : ℕ) (t : Bool) (loaded : Loaded) (offset : ℕ)
     → heard_in_try processes (if t then ExchangeSlot offset else after_slot loaded offset) ≡ 0
 slot_deaf processes t loaded offset = grind (arith, nat_tests)
 
+-- after an announcement a try has heard at most that one and those of the processes before
 pub heard_more : (sizes : Sizes) (process : ℕ) → heard_in_try sizes.processes (after_heard sizes process) ≤ process + 1
 heard_more sizes process = grind (arith, nat_tests)
 
+-- while it stores its record, a try has heard at most the announcements of all processes
 pub stored_heard : (sizes : Sizes) (processes index : ℕ) → heard_in_try processes (after_stored sizes index) ≤ processes
 stored_heard sizes processes index = grind (arith, nat_tests)
 
@@ -126,6 +130,7 @@ word_goes_on sizes m views after states i second index loaded li h past e es ea 
     let stays = going second (LoadRecordWord index) next v x e refl refl refl refl refl refl refl es (ap length ea) in
     view_same sizes m views after states i x li h past moved stays (omega arith) ea
 
+-- the load of a record word, of the loaded state or, which ends the try, of a later one, keeps the parts of helping
 pub word_step : (sizes : Sizes) (m : Words) (views after : Views) (states : States) (i : ℕ) (second : Bool) (index word : ℕ)
     → i < sizes.processes → RecordsHold sizes m views states → HelpingHolds sizes m views states
     → (in_try (views i).next ≡ true → (views i).installed ≤ (views i).first_loaded)

@@ -30,6 +30,7 @@ pub record Owed (sizes : Sizes) (n : Words) (views : Views) (states : States) (i
   pub rest : (a o : ℕ) → a < sizes.processes → o < sizes.processes → a ≢ i → o ≢ i
       → HearsPresent sizes.processes n states o (views a) (views o)
 
+-- the parts of helping hold after a step of process i, where it and all others meet what the step owes
 pub assemble : (sizes : Sizes) (n : Words) (views after : Views) (states : States) (i : ℕ) (x : TransferView) → Moved i x views after
     → Owed sizes n views states i x → HelpingHolds sizes n after states
 assemble sizes n views after states i x moved owed = record {
@@ -80,6 +81,7 @@ pub record ViewOwes (sizes : Sizes) (m : Words) (views : Views) (states : States
   pub into : (w : TransferView) → (in_try w.next ≡ true → loaded_tag w.loaded ≤ state_tag m)
       → HearsPresent sizes.processes m states i w (views i) → HearsPresent sizes.processes m states i w x
 
+-- a step that changes no word keeps them, where the view of its process meets what it owes
 pub view_moves : (sizes : Sizes) (m : Words) (views after : Views) (states : States) (i : ℕ) (x : TransferView) → i < sizes.processes
     → HelpingHolds sizes m views states → LoadedPast sizes m views → Moved i x views after → ViewOwes sizes m views states i x
     → HelpingHolds sizes m after states

@@ -32,6 +32,7 @@ opened_announced sizes words i e = record {
   idle = λ k. refl;
 }
 
+-- the opening meets the parts of helping
 pub opening_meets_helping : OpeningMeetsHelping
 opening_meets_helping sizes words views shape opened seats = record {
   counts = opened_counts sizes words;

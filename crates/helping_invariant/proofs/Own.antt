@@ -27,6 +27,7 @@ pub record Pends (v x : TransferView) : Type 0 where
   pub wish : x.wish ≡ v.wish
   pub room : length x.loaded.announcements ≡ length v.loaded.announcements
 
+-- while a transfer pends on, its process's announcement says what it must
 pub pends_announced : (m : Words) (states : States) (i : ℕ) (v x : TransferView) → AnnouncementHolds m states i v → Pends v x
     → AnnouncementHolds m states i x
 pends_announced m states i v x h g = record {
@@ -39,6 +40,7 @@ pends_announced m states i v x h g = record {
   idle = λ k. absurd (grind (arith, g.pends, k));
 }
 
+-- and its reply stays settled
 pub pends_settled : (sizes : Sizes) (m : Words) (states : States) (i : ℕ) (v x : TransferView) → SettledReply sizes m states i v → Pends v x
     → SettledReply sizes m states i x
 pends_settled sizes m states i v x h g = record {
@@ -59,6 +61,7 @@ pub record StaysInTry (v x : TransferView) : Type 0 where
   pub loaded : loaded_tag x.loaded ≡ loaded_tag v.loaded
   pub room : length x.loaded.announcements ≡ length v.loaded.announcements
 
+-- while a view stays in its try, the part two tries holds of its process
 pub stays_tries : (m : Words) (states : States) (i : ℕ) (v x : TransferView) → TwoTries m states i v → StaysInTry v x
     → TwoTries m states i x
 stays_tries m states i v x h g = grind arith
@@ -85,10 +88,12 @@ tries_final m states i v x h e en ea ei ef el = grind arith
 pub tries_idle : (m : Words) (states : States) (i : ℕ) (x : TransferView) → has_announced x.next ≡ false → TwoTries m states i x
 tries_idle m states i x e = grind arith
 
+-- a process that has announced no transfer has no reply to be settled
 pub settled_idle : (sizes : Sizes) (m : Words) (states : States) (i : ℕ) (x : TransferView) → has_announced x.next ≡ false
     → SettledReply sizes m states i x
 settled_idle sizes m states i x e = grind arith
 
+-- once its last transfer is applied, a process without an announced one still has the announcement of its age
 pub announced_idle : (m : Words) (states : States) (i : ℕ) (v x : TransferView) → AnnouncementHolds m states i v
     → has_announced x.next ≡ false → (states (state_tag m)).applied i ≡ v.age → x.number ≡ v.number → x.age ≡ v.age
     → length x.loaded.announcements ≡ length v.loaded.announcements → AnnouncementHolds m states i x
@@ -110,10 +115,12 @@ announced_own sizes m n states i v h e fits same s =
       idle = λ k. absurd (grind arith);
     }
 
+-- a transfer that has just been announced has begun no try
 pub announced_tries : (m : Words) (states : States) (i : ℕ) (v : TransferView)
     → TwoTries m states i (record v { next = Try false LoadState; age = v.age + 1 })
 announced_tries m states i v = grind (arith, nat_tests)
 
+-- no state and no record has applied a transfer that has just been announced
 pub announced_settled : (sizes : Sizes) (m : Words) (states : States) (i : ℕ) (v : TransferView) → i < sizes.processes
     → TagsBelow sizes m → AppliedRises sizes m states → (states (state_tag m)).applied i ≡ v.age
     → SettledReply sizes m states i (record v { next = Try false LoadState; age = v.age + 1 })

@@ -34,18 +34,21 @@ pends_where : (word reply applied : ℕ) → is_odd_reply reply ≡ (applied % 2
     → is_pending word reply ≡ not (tag_of word % 2 == applied % 2)
 pends_where word reply applied e = rw e (pends_test (tag_of word) applied)
 
+-- where the parities agree, the announcement is not pending
 pub pends_not : (word reply applied : ℕ) → is_odd_reply reply ≡ (applied % 2 == 1) → tag_of word % 2 ≡ applied % 2
     → is_pending word reply ≡ false
 pends_not word reply applied e same =
     let test : (tag_of word % 2 == applied % 2) ≡ true = grind (arith, nat_tests) in
     rw (pends_where word reply applied e, test) refl
 
+-- where they differ, it is
 pub pends_so : (word reply applied : ℕ) → is_odd_reply reply ≡ (applied % 2 == 1) → tag_of word % 2 ≢ applied % 2
     → is_pending word reply ≡ true
 pends_so word reply applied e ne =
     let test : (tag_of word % 2 == applied % 2) ≡ false = grind (arith, nat_tests) in
     rw (pends_where word reply applied e, test) refl
 
+-- and where it is pending, they differ
 pub pends_differs : (word reply applied : ℕ) → is_odd_reply reply ≡ (applied % 2 == 1) → is_pending word reply ≡ true
     → tag_of word % 2 ≢ applied % 2
 pends_differs word reply applied e p = λ same. false≢true (sym (pends_not word reply applied e same) ∙ p)

@@ -13,6 +13,7 @@ pub stay_counts : (sizes : Sizes) (m n : Words) (states : States) → AppliedRis
     → AppliedRises sizes n states
 stay_counts sizes m n states h e = grind arith
 
+-- the part two tries of a process stays
 pub stay_tries : (m n : Words) (states : States) (o : ℕ) (w : TransferView) → TwoTries m states o w → state_tag n ≡ state_tag m
     → TwoTries n states o w
 stay_tries m n states o w h e = grind arith
@@ -22,6 +23,7 @@ pub stay_announced : (m n : Words) (states : States) (o : ℕ) (w : TransferView
     → n (Announcement o) ≡ m (Announcement o) → AnnouncementHolds n states o w
 stay_announced m n states o w h e a = grind arith
 
+-- what a view heard of a process stays its present announcement
 pub stay_hears : (processes : ℕ) (m n : Words) (states : States) (o : ℕ) (w v : TransferView) → HearsPresent processes m states o w v
     → state_tag n ≡ state_tag m → n (Announcement o) ≡ m (Announcement o) → HearsPresent processes n states o w v
 stay_hears processes m n states o w v h e a = grind arith

@@ -26,6 +26,7 @@ loaded_stays : (sizes : Sizes) (name : WordName) (m n : Words) (o : ℕ) → Act
 loaded_stays sizes name m n o a lo (inl e) = rw e a.here
 loaded_stays sizes name m n o a lo (inr ne) = a.elsewhere (Announcement o) lo ne
 
+-- so a load changes no announcement
 pub loads_leave : (sizes : Sizes) (name : WordName) (m n : Words) → Acted sizes (Load name) m n → AnnouncementsStay sizes m n
 loads_leave sizes name m n a = record { each = λ o lo. loaded_stays sizes name m n o a lo (is_or_not_announcement o name) }
 

@@ -30,6 +30,7 @@ stays_pending v x g = record {
   room = g.room;
 }
 
+-- a process that goes on in its try with the same age and the same first load can be heard as before
 pub heard_in_try : (v x : TransferView) → in_try v.next ≡ true → x.age ≡ v.age → x.first_loaded ≡ v.first_loaded → HeardOn v x
 heard_in_try v x was ea ef = record {
   age = ea;
@@ -81,6 +82,7 @@ ended_out second = grind arith
 ended_deaf : (processes : ℕ) (second : Bool) → heard_announcements processes (after_try second) ≡ 0
 ended_deaf processes second = grind arith
 
+-- the end of a try that installed nothing keeps the parts of helping, since a later state is there by then
 pub view_ends_try : (sizes : Sizes) (m : Words) (views after : Views) (states : States) (i : ℕ) (second : Bool) (step : TryStep)
     → i < sizes.processes → HelpingHolds sizes m views states → LoadedPast sizes m views → (views i).next ≡ Try second step
     → has_loaded_state step ≡ true → (views i).installed ≤ (views i).first_loaded → loaded_tag (views i).loaded < state_tag m

@@ -9,7 +9,8 @@ use Rattle.transfer_machine.specs.declared.transfer.TransferView.{TransferView}
 use Rattle.transfer_machine.specs.declared.stage.NextStep.TheVariants.{Try, LoadReply}
 use Rattle.transfer_machine.specs.declared.stage.TryStep.TheVariants.{LoadState}
 use Rattle.transfer_invariant.specs.Memory.{Words, States, state_tag, word_tag, word_value}
-use Rattle.transfer_invariant.specs.Progress.{in_try, in_first_try, in_second_try, has_announced, has_begun_try, has_tried, heard_announcements}
+use Rattle.transfer_invariant.specs.Progress.{in_try, in_first_try, in_second_try, has_announced}
+use Rattle.transfer_invariant.specs.Progress.{has_begun_try, has_tried, heard_announcements}
 
 -- the announcement of a process that a view loaded
 abbrev pub heard : TransferView → ℕ → ℕ

@@ -7,7 +7,7 @@ use Rattle.pool_model.specs.Limits.{Limits}
 use Rattle.pool_model.specs.History.{held, grip, is_got, is_back}
 use Rattle.transfer_schedule.specs.declared.own_step.Source.TheVariants.{Nothing}
 use Rattle.transfer_schedule.specs.Numbers.{AreSizes, source_of}
-use Rattle.transfer_schedule.specs.Account.{Account, Own, owns_in, gets, refuses, frees, follows}
+use Rattle.transfer_schedule.specs.Account.{Account, Own, asks_in, gets, refuses, frees, follows}
 use Rattle.transfer_schedule.proofs.Operations.{took_same, gave_same}
 use Rattle.history_invariant.specs.Ledger.{Ledger}
 use Rattle.history_invariant.specs.Fits.{CountsEntries, LedgerFits}
@@ -61,7 +61,7 @@ back_counts a entries by block c = record {
 pub got_owes : (limits : Limits) (bound quantum : ℕ) (history : List Entry) (i block : ℕ) (ledger : Ledger)
     → i < limits.processes
     → LedgerFits limits bound quantum history i ledger
-    → owns_in ledger.account.phase ≡ true
+    → asks_in ledger.account.phase ≡ true
     → source_of ledger.account.plan ≢ Nothing
     → block < limits.blocks
     → ¬ Contains (held history) block
@@ -102,7 +102,7 @@ back_owes limits bound quantum history i block ledger lt shared f phase mine =
 pub refusal_owes : (limits : Limits) (bound quantum : ℕ) (history : List Entry) (i : ℕ) (ledger : Ledger)
     → AreSizes limits.batch_length bound quantum
     → i < limits.processes → LedgerFits limits bound quantum history i ledger
-    → owns_in ledger.account.phase ≡ true
+    → asks_in ledger.account.phase ≡ true
     → source_of ledger.account.plan ≡ Nothing
     → Owes limits bound quantum history (Dry i) (got_none ledger.account) ledger
 refusal_owes limits bound quantum history i ledger sizes lt f phase none = record {

@@ -7,7 +7,7 @@ use Rattle.pool_model.specs.History.{own, held, grip, grip_after}
 use Rattle.pool_model.specs.Legal.{MayFollow, IsLegal}
 use Rattle.history_invariant.proofs.Times.{length_without, times_contained}
 use Rattle.history_invariant.proofs.Grips.{grip_once}
-use Rattle.history_invariant.proofs.Shared.{Shared, grips_of, legal_shared}
+use Rattle.history_invariant.proofs.Shared.{grips_of, legal_shared}
 
 pub freed_one : (limits : Limits) (past : List Entry) (by block : ℕ) → IsLegal limits past → MayFollow limits past (Back by block)
     → length (grip_after (grip (own past by)) (Back by block)) + 1 ≡ length (grip (own past by))

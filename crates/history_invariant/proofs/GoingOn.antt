@@ -7,10 +7,13 @@ use Rattle.pool_model.specs.declared.entry.Entry.{Entry}
 use Rattle.pool_model.specs.Limits.{Limits}
 use Rattle.pool_model.specs.History.{own}
 use Rattle.transfer_schedule.specs.declared.pending.Pending.TheVariants.{Taking, Giving}
-use Rattle.transfer_schedule.specs.Numbers.{Numbers, AreSizes, is_idle, is_taking, is_giving, after_begin, after_choice, after_steps, after_end}
-use Rattle.transfer_schedule.specs.Account.{CallPhase, Account, Between, Moving, Own, Seeking, Sought, Leaving, Clearing, Shedding, Returning}
-use Rattle.transfer_schedule.specs.Account.{moves_in, sought_by, after_seek, after_shelved, Follows, begins, continues, rests, moves, ends}
-use Rattle.transfer_schedule.specs.Account.{gets, refuses, frees, meets, seeks, quits, clears, gives, shelves, leaves, returns, retakes}
+use Rattle.transfer_schedule.specs.Numbers.{Numbers, AreSizes, is_idle, is_taking, is_giving, after_begin, after_choice, after_steps}
+use Rattle.transfer_schedule.specs.Numbers.{after_end}
+use Rattle.transfer_schedule.specs.Numbers.{after_shelved}
+use Rattle.transfer_schedule.specs.Account.{CallPhase, Account, Moving, Own, Seeking, Sought, Leaving, Clearing, Shedding}
+use Rattle.transfer_schedule.specs.Account.{Returning}
+use Rattle.transfer_schedule.specs.Account.{moves_in, sought_by, Follows, begins, continues, idles, moves, ends}
+use Rattle.transfer_schedule.specs.Account.{gets, refuses, frees, meets, seeks, quits, clears, gives, shelves, retires, enlists, retakes}
 use Rattle.transfer_schedule.specs.Account.{Reached, follows}
 use Rattle.transfer_schedule.proofs.Reaching.{reached_stands, stands_begun}
 use Rattle.history_invariant.specs.Ledger.{Ledger, IsAnnounced}
@@ -126,7 +129,7 @@ call_begins : (a b : Account) → moves_in a.phase ≡ false → b.entries ≡ a
 call_begins a b still same (begins e idle busy) =
     choice_made a (Moving 0) a.entries (λ some. absurd (let none = choice_begins a.plan idle busy in omega arith))
 call_begins a b still same (continues e busy) = choice_made a (Moving 0) a.begun (λ some. refl)
-call_begins a b still same (rests e idle) = choice_made a Own a.begun (λ some. refl)
+call_begins a b still same (idles e idle) = choice_made a Own a.begun (λ some. refl)
 call_begins a b still same (moves moving low) = absurd (false≢true (sym still ∙ moving))
 call_begins a b still same (ends found moving low giving) = absurd (false≢true (sym still ∙ moving))
 call_begins a b still same (gets owns some) = more a.entries same
@@ -138,8 +141,8 @@ call_begins a b still same (quits e busy) = plan_stays a Leaving
 call_begins a b still same (clears e idle) = plan_stays a Clearing
 call_begins a b still same (gives e some) = gives_made a
 call_begins a b still same (shelves e none full) = shelves_made a
-call_begins a b still same (leaves e none few) = more a.entries same
-call_begins a b still same (returns e) = more a.entries same
+call_begins a b still same (retires e none few) = more a.entries same
+call_begins a b still same (enlists e) = more a.entries same
 call_begins a b still same (retakes e) = retakes_made a
 
 begins_fits : (limits : Limits) (bound quantum : ℕ) (history : List Entry) (i : ℕ) (ledger : Ledger) (account : Account)

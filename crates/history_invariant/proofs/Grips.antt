@@ -1,5 +1,6 @@
 -- How the held blocks stay shared out among grips, while a block comes to one of them or leaves it.
-use Rattle.std.proofs.Common.{◌≡◌, ◌≢◌, ℕ, ◌+◌, ◌<◌, ◌≤◌, ◌==◌, Bool, true, false, not, cond, refl, sym, ◌∙◌, ap, inl, inr, arith, List, [], ◌∷◌, length, filter}
+use Rattle.std.proofs.Common.{◌≡◌, ◌≢◌, ℕ, ◌+◌, ◌<◌, ◌≤◌, ◌==◌, Bool, true, false, not, cond, refl, sym, ◌∙◌, ap, inl, inr, arith, List, []}
+use Rattle.std.proofs.Common.{◌∷◌, length, filter}
 use Rattle.std.specs.List.{Contains}
 use Rattle.std.proofs.lemmas.Bool.Decides.{nat_tests}
 use Rattle.pool_model.specs.Limits.{Limits}

@@ -8,10 +8,10 @@ use Rattle.pool_model.specs.History.{own}
 use Rattle.pool_model.specs.Legal.{IsInWindow, HasNet, MayFollow}
 use Rattle.transfer_schedule.specs.declared.own_step.Source.TheVariants.{Nothing}
 use Rattle.transfer_schedule.specs.Numbers.{AreSizes, source_of}
-use Rattle.transfer_schedule.specs.Account.{Account, owns_in, Sought}
+use Rattle.transfer_schedule.specs.Account.{Account, asks_in, Sought}
 use Rattle.transfer_schedule.specs.Laws.{IsSound, FoundNothing}
 use Rattle.transfer_schedule.proofs.Stock.{nothing_stock}
-use Rattle.transfer_schedule.proofs.Reaching.{reached_stands, reached_sizes, stands_sound, stands_refused, stands_misses, owns_serves}
+use Rattle.transfer_schedule.proofs.Reaching.{reached_stands, reached_sizes, stands_sound, stands_refused, stands_misses, asks_serves}
 use Rattle.history_invariant.specs.Ledger.{Ledger}
 use Rattle.history_invariant.specs.Fits.{LedgerFits, HadFewNow}
 use Rattle.history_invariant.proofs.Fitting.{own_since}
@@ -35,13 +35,13 @@ has_net a sound unbroken none = let net = sound.net unbroken in grind (arith, na
 pub refusal_may_follow : (limits : Limits) (bound quantum : ℕ) (history : List Entry) (i : ℕ) (ledger : Ledger)
     → AreSizes limits.batch_length bound quantum
     → i < limits.processes → LedgerFits limits bound quantum history i ledger
-    → owns_in ledger.account.phase ≡ true
+    → asks_in ledger.account.phase ≡ true
     → source_of ledger.account.plan ≡ Nothing
     → MayFollow limits history (Dry i)
 refusal_may_follow limits bound quantum history i ledger sizes lt f phase none =
     let stands = reached_stands limits.batch_length bound quantum ledger.account sizes f.reached in
     let soon : FoundNothing (2 * ledger.account.plan.length - 2) ledger.account =
-        stands_refused ledger.account stands ledger.account.phase refl phase none in
+    stands_refused ledger.account stands ledger.account.phase refl phase none in
     let same = (reached_sizes limits.batch_length bound quantum ledger.account f.reached).0 in
     let few = f.found.dry soon.dry in
     let all : length (own history i) ≡ ledger.account.entries = ap length f.sees.own_entries ∙ sym f.counts.entries in (
@@ -59,12 +59,12 @@ refusal_may_follow limits bound quantum history i ledger sizes lt f phase none =
 pub refusal_has_net : (limits : Limits) (bound quantum : ℕ) (history : List Entry) (i : ℕ) (ledger : Ledger)
     → AreSizes limits.batch_length bound quantum
     → LedgerFits limits bound quantum history i ledger
-    → owns_in ledger.account.phase ≡ true
+    → asks_in ledger.account.phase ≡ true
     → source_of ledger.account.plan ≡ Nothing
     → HasNet limits history (Dry i)
 refusal_has_net limits bound quantum history i ledger sizes f phase none =
     let stands = reached_stands limits.batch_length bound quantum ledger.account sizes f.reached in
-    let sound = stands_sound ledger.account stands (owns_serves ledger.account.phase phase) in
+    let sound = stands_sound ledger.account stands (asks_serves ledger.account.phase phase) in
     let enough = has_net ledger.account sound f.counts.unbroken none in
     let same = (reached_sizes limits.batch_length bound quantum ledger.account f.reached).0 in
     rw f.sees.own_entries (omega (arith, enough, same, f.counts.gots, f.counts.backs))

@@ -1,5 +1,6 @@
 -- how often a block stands in a list
-use Rattle.std.proofs.Common.{◌≡◌, ◌≢◌, ℕ, ◌+◌, ◌<◌, ◌==◌, Bool, true, false, not, cond, refl, sym, inl, inr, arith, List, [], ◌∷◌, length, filter}
+use Rattle.std.proofs.Common.{◌≡◌, ◌≢◌, ℕ, ◌+◌, ◌<◌, ◌==◌, Bool, true, false, not, cond, refl, sym, inl, inr, arith, List, [], ◌∷◌, length}
+use Rattle.std.proofs.Common.{filter}
 use Rattle.std.specs.List.{Contains}
 use Rattle.std.proofs.lemmas.Bool.{cases_eq}
 use Rattle.std.proofs.lemmas.List.Sums.{sum_by-cons}

@@ -7,7 +7,7 @@ use Rattle.pool_model.specs.History.{held, HasFewUnheld, grip}
 use Rattle.pool_model.specs.Legal.{IsLegal}
 use Rattle.transfer_schedule.specs.declared.own_step.Source.TheVariants.{Nothing}
 use Rattle.transfer_schedule.specs.Numbers.{AreSizes, source_of, withheld}
-use Rattle.transfer_schedule.specs.Account.{Own, owns_in}
+use Rattle.transfer_schedule.specs.Account.{Own, asks_in}
 use Rattle.process_sums.specs.Sums.{total}
 use Rattle.history_invariant.specs.Ledger.{Ledger, Ledgers, opening_ledger}
 use Rattle.history_invariant.specs.Holds.{HistoryHolds}
@@ -43,7 +43,7 @@ abbrev pub GotsKeepHistory : Type 0
 GotsKeepHistory = (limits : Limits) (bound quantum : ℕ) (history : List Entry) (ledgers after : Ledgers) (i block : ℕ)
     → i < limits.processes
     → HistoryHolds limits bound quantum history ledgers
-    → owns_in (ledgers i).account.phase ≡ true
+    → asks_in (ledgers i).account.phase ≡ true
     → source_of (ledgers i).account.plan ≢ Nothing
     → block < limits.blocks
     → ¬ Contains (held history) block
@@ -66,7 +66,7 @@ RefusalsKeepHistory = (limits : Limits) (bound quantum : ℕ) (history : List En
     → AreSizes limits.batch_length bound quantum
     → i < limits.processes
     → HistoryHolds limits bound quantum history ledgers
-    → owns_in (ledgers i).account.phase ≡ true
+    → asks_in (ledgers i).account.phase ≡ true
     → source_of (ledgers i).account.plan ≡ Nothing
     → Replaced i (entered history (Dry i) (got_none (ledgers i).account) (ledgers i)) ledgers after
     → HistoryHolds limits bound quantum (history ++ Dry i ∷ []) after

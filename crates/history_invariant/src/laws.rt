@@ -1,5 +1,7 @@
 //! Each law is the contract of a call that does nothing.
-ghost use Rattle.history_invariant.specs.Laws.{OpeningHasHistory, StepsKeepHistory, ExchangesKeepHistory, GotsKeepHistory, BacksKeepHistory, RefusalsKeepHistory, JoinsKeepHistory, EmptyStackLeavesFew, HistoryIsLongest, HeldBlocksAreShared, BeginningsAreLegal, SeenIsLegal};
+ghost use Rattle.history_invariant.specs.Laws.{OpeningHasHistory, StepsKeepHistory, ExchangesKeepHistory, GotsKeepHistory};
+ghost use Rattle.history_invariant.specs.Laws.{BacksKeepHistory, RefusalsKeepHistory, JoinsKeepHistory, EmptyStackLeavesFew};
+ghost use Rattle.history_invariant.specs.Laws.{HistoryIsLongest, HeldBlocksAreShared, BeginningsAreLegal, SeenIsLegal};
 
 /// At the opening the history is empty.
 pub fn opening()

@@ -4,7 +4,7 @@ use Rattle.std.specs.Prelude.{if◌then◌else◌}
 use Rattle.word_layout.specs.declared.announced.Wish.{Wish}
 use Rattle.transfer_schedule.specs.Numbers.{is_idle}
 use Rattle.transfer_machine.specs.Stages.{is_rest}
-use Rattle.pool_machine.specs.Beginning.{alone_begun, search_begun_by, search_chosen, call_begun, before_call}
+use Rattle.pool_machine.specs.Beginning.{alone_begun, search_begun_by, call_begun, before_call}
 use Rattle.pool_machine.specs.declared.call.CallStage.{CallStage}
 use Rattle.interleaving_core.specs.Moves.{started_at, started}
 use Rattle.pool_machine.specs.Conditions.{may_use_transfers}

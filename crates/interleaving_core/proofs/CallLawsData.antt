@@ -89,7 +89,7 @@ names_written : (sizes : Sizes) (held : List ℕ) (call : Option Call) (block in
 names_written sizes held call block index value names e = (rw e at names).0
 
 -- the step of a turn acts on the words by their names
-turn_acts : (s : CoreState) (history : List Entry) (turn : Turn) → RunFits s history → is_made turn s ≡ true
+pub turn_acts : (s : CoreState) (history : List Entry) (turn : Turn) → RunFits s history → is_made turn s ≡ true
     → Acted s.sizes (next_action s.sizes (turning_view turn s)) (word_at s.sizes s.words)
     (word_at s.sizes (acted s.sizes s.words (next_action s.sizes (turning_view turn s))))
 turn_acts s history turn fits made =

@@ -28,7 +28,6 @@ use Rattle.pool_machine.specs.Beginning.{before_call, search_begun_by, search_ch
 use Rattle.pool_machine.specs.Laws.{most_moves}
 use Rattle.pool_machine.specs.Steps.{is_paced, stage_after, steps_after, call_met_at, call_answer_at}
 use Rattle.call_invariant.specs.Phases.{changes_pool}
-use Rattle.call_invariant.proofs.Standing.{shape_fits, some_quantum}
 use Rattle.call_invariant.proofs.Uses.{calls_used, idle_pool_rests}
 use Rattle.interleaving_core.specs.CallLaws.{moving_left, left_at, steps_left, is_within, GoesOnWith, starts, steps, others, ignored, CallsAreShort}
 use Rattle.interleaving_core.specs.Moves.{CoreState, view_at, holds_for, may_start_at, started_at, started, calling_view, with_step}
@@ -337,9 +336,9 @@ later_left history s fits i call li within =
     let (ghosts, h) = fits.meets in
     let (rests, none) = none_done s history i fits li in
     let chosen = λ (e : v.calls.stage ≡ Choosing). (
-      let rest = (choosing_in_calls s.sizes i v (ghosts.ledgers i) e (h.pools i li)).stage.rests e in
-      let zero = none (ap is_rest rest) in
-      started_steps Search v Choosing (λ w due. zero) ∙ zero
+    let rest = (choosing_in_calls s.sizes i v (ghosts.ledgers i) e (h.pools i li)).stage.rests e in
+    let zero = none (ap is_rest rest) in
+    started_steps Search v Choosing (λ w due. zero) ∙ zero
     ) in
     both (made_left s history i call fits made) (inside_left s.sizes call v v.calls.stage refl within chosen)
 

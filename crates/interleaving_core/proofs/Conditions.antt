@@ -52,9 +52,8 @@ in_call_conditions sizes held v None e changes moving way named few = absurd (fa
 in_call_conditions sizes held v (Some call) e changes moving way named few = record {
   changes = changes;
   way = way;
-  goes = rw moving refl;
+  may = (rw moving refl, block_is_held sizes held call named);
   own = λ inside. e;
-  block = block_is_held sizes held call named;
   few = λ paced. rw moving (few paced);
 }
 

@@ -17,7 +17,7 @@ use Rattle.transfer_schedule.specs.Numbers.{Numbers, is_taking, after_take}
 use Rattle.transfer_schedule.specs.declared.pending.Pending.TheVariants.{Idle}
 use Rattle.transfer_machine.specs.declared.stage.NextStep.{NextStep}
 use Rattle.transfer_machine.specs.declared.stage.NextStep.TheVariants.{Rest, Announce, Try, LoadFinalState, LoadReply}
-use Rattle.pool_machine.specs.Beginning.{due, begun_if_due, search_begun_by, search_chosen, call_begun}
+use Rattle.pool_machine.specs.Beginning.{due, begun_if_due, search_begun_by, call_begun}
 use Rattle.transfer_schedule.specs.Numbers as schedule
 use Rattle.pool_machine.specs.OwnSteps.{next_block, pool_own_met}
 use Rattle.pool_machine.specs.Pools.{view_begun, pool_met_at, pool_ended, step_counted}

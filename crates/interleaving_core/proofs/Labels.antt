@@ -4,7 +4,7 @@ use Rattle.std.specs.Prelude.{if◌then◌else◌}
 use Rattle.word_layout.specs.Sizes.{Sizes}
 use Rattle.word_layout.specs.Names.{word_at}
 use Rattle.pool_model.specs.declared.entry.Entry.{Entry}
-use Rattle.transfer_machine.specs.Machine.{try_action, action_at}
+use Rattle.transfer_machine.specs.Machine.{try_action, action_at, met_at}
 use Rattle.transfer_machine.specs.Stages.{is_rest}
 use Rattle.pool_machine.specs.Phases.{phase_at, phase_of, waiting_in}
 use Rattle.transfer_machine.specs.Stages.{try_kind, kind_of, try_index, index_of, turn_of}
@@ -22,38 +22,41 @@ use Rattle.transfer_machine.specs.declared.stage.TryStep.TheVariants.{LoadAnnoun
 use Rattle.pool_machine.specs.declared.phase.Phase.{Phase}
 use Rattle.pool_machine.specs.declared.phase.Phase.TheVariants as phase
 use Rattle.transfer_machine.specs.declared.transfer.TransferView.{TransferView}
-use Rattle.pool_machine.specs.declared.view.PoolView.{PoolView}
 use Rattle.pool_machine.specs.declared.view.ProcessView.{ProcessView}
 use Rattle.pool_machine.specs.OwnSteps.{next_block, allocate_action, allocate_answer, allocate_kind}
-use Rattle.pool_machine.specs.OwnSteps.{own_action_for, own_answer_for, own_kind_for}
-use Rattle.pool_machine.specs.Steps.{call_action_at, call_answer_at, call_answer, happened}
+use Rattle.pool_machine.specs.OwnSteps.{own_action_for, own_answer, own_answer_for, own_kind_for}
+use Rattle.pool_machine.specs.Steps.{call_answer_at, call_answer, happened}
 use Rattle.pool_machine.specs.declared.event.Happened.TheVariants.{Step}
-use Rattle.interleaving_core.specs.LabelLaws.{KindFits, TransferKindsFit, NextKindsFit, TurnFits, TurnsFit}
+use Rattle.interleaving_core.specs.LabelLaws.{KindFits, TransferKindsFit, OwnKindFits, NextKindsFit, TurnFits, TurnsFit}
+use Rattle.interleaving_core.specs.TransferLaws.{moves_transfer}
+use Rattle.std.proofs.lemmas.Bool.{false≢true}
 use Rattle.interleaving_core.specs.LabelLaws.{AnswerFits, AnswersFit, PhaseFits, PhasesFit}
 use Rattle.interleaving_core.specs.LabelLaws.{is_moving, WaitingFits, WaitingsFit}
 use Rattle.interleaving_core.specs.Moves.{CoreState, view_at}
-use Rattle.interleaving_core.specs.Steps.{is_alone, is_busy, is_in_call, call_kind_at, next_action, next_answer, next_kind}
+use Rattle.interleaving_core.specs.Steps.{is_alone, is_busy, is_in_call, next_action, next_answer, next_kind}
 use Rattle.interleaving_core.proofs.Standing.{fresh_rests, alone_stage}
 use Rattle.interleaving_core.proofs.Runs.{RunFits}
 use Rattle.interleaving_core.proofs.CallLaws.{every_run}
 
 -- the step of a transfer
-try_fits : (sizes : Sizes) (v : TransferView) (step : TryStep) → KindFits sizes v (try_kind step) (try_index step) (try_action sizes v step)
-try_fits sizes v LoadState = refl
-try_fits sizes v (LoadRecordWord index) = refl
-try_fits sizes v (LoadCoveredSlot offset) = refl
-try_fits sizes v (ExchangeSlot offset) = (_, (_, refl))
-try_fits sizes v (LoadAnnouncement process) = refl
-try_fits sizes v (LoadPoppedSlot process) = (_, refl)
-try_fits sizes v (StoreRecordWord index) = (_, refl)
-try_fits sizes v ExchangeState = (_, (_, refl))
+try_fits : (sizes : Sizes) (v : TransferView) (second : Bool) (step : TryStep) → v.next ≡ Try second step
+    → KindFits sizes v (try_kind step) (try_index step) (try_action sizes v step)
+try_fits sizes v second LoadState e = (refl, refl)
+try_fits sizes v second (LoadRecordWord index) e = refl
+try_fits sizes v second (LoadCoveredSlot offset) e = refl
+try_fits sizes v second (ExchangeSlot offset) e = (_, (_, refl))
+try_fits sizes v second (LoadAnnouncement process) e = refl
+try_fits sizes v second (LoadPoppedSlot process) e = (refl, λ word. ap (λ (next : NextStep). (met_at sizes v word next).loaded.popped) e)
+try_fits sizes v second (StoreRecordWord index) e = (_, refl)
+try_fits sizes v second ExchangeState e = (refl, (_, (_, refl)))
 
-step_fits : (sizes : Sizes) (v : TransferView) (step : NextStep) → KindFits sizes v (kind_of step) (index_of step) (action_at sizes v step)
-step_fits sizes v Rest = refl
-step_fits sizes v Announce = (_, refl)
-step_fits sizes v (Try second step) = try_fits sizes v step
-step_fits sizes v LoadFinalState = refl
-step_fits sizes v LoadReply = refl
+step_fits : (sizes : Sizes) (v : TransferView) (step : NextStep) → v.next ≡ step
+    → KindFits sizes v (kind_of step) (index_of step) (action_at sizes v step)
+step_fits sizes v Rest e = (refl, refl)
+step_fits sizes v Announce e = (refl, (_, refl))
+step_fits sizes v (Try second step) e = try_fits sizes v second step e
+step_fits sizes v LoadFinalState e = (refl, refl)
+step_fits sizes v LoadReply e = (refl, refl)
 
 -- the turn of a transfer that it is in
 tries_in_turn : (step : TryStep) (turn : ℕ) → (turn ≡ 1) ⊎ (turn ≡ 2) → TurnFits (try_kind step) turn
@@ -81,39 +84,46 @@ pub turns_fit : TurnsFit
 turns_fit v = turn_fits v.next
 
 pub transfer_kinds_fit : TransferKindsFit
-transfer_kinds_fit sizes v = step_fits sizes v v.next
+transfer_kinds_fit sizes v = step_fits sizes v v.next refl
 
 -- the own step of a call
-allocate_fits : (sizes : Sizes) (v : TransferView) (index : ℕ) (block : Option ℕ)
-    → KindFits sizes v (allocate_kind block) index (allocate_action block)
-allocate_fits sizes v index None = refl
-allocate_fits sizes v index (Some block) = (block, refl)
+allocate_fits : (v : ProcessView) (block : Option ℕ) → ((word : ℕ) → own_answer v word ≡ allocate_answer v.transfer.number block)
+    → OwnKindFits v (allocate_kind block) (allocate_action block)
+allocate_fits v None told = (told, refl)
+allocate_fits v (Some block) told = (block, told, refl)
 
-own_fits : (sizes : Sizes) (v : TransferView) (index : ℕ) (pool : PoolView) (call : Option Call)
-    → KindFits sizes v (own_kind_for pool call) index (own_action_for pool call)
-own_fits sizes v index pool None = refl
-own_fits sizes v index pool (Some Allocate) = allocate_fits sizes v index (next_block pool)
-own_fits sizes v index pool (Some (Free block)) = (block, (_, refl))
-own_fits sizes v index pool (Some (Read block place)) = (block, (place, refl))
-own_fits sizes v index pool (Some (Write block place value)) = (block, (place, (value, refl)))
-own_fits sizes v index pool (Some Search) = allocate_fits sizes v index (next_block pool)
+own_fits : (v : ProcessView) (call : Option Call) → v.calls.call ≡ call
+    → OwnKindFits v (own_kind_for v.pool call) (own_action_for v.pool call)
+own_fits v None e = (e, refl)
+own_fits v (Some Allocate) e = allocate_fits v (next_block v.pool) (λ word. ap (own_answer_for v.transfer.number v.pool word) e)
+own_fits v (Some (Free block)) e = (block, e, (_, refl))
+own_fits v (Some (Read block place)) e = (block, (place, e, refl))
+own_fits v (Some (Write block place value)) e = (block, (place, (value, e, refl)))
+own_fits v (Some Search) e = allocate_fits v (next_block v.pool) (λ word. ap (own_answer_for v.transfer.number v.pool word) e)
 
--- the step of a call, at each stage
-call_fits : (sizes : Sizes) (v : ProcessView) (stage : CallStage) → is_in_call stage ≡ true
-    → KindFits sizes v.transfer (call_kind_at v stage) (index_of v.transfer.next) (call_action_at sizes v stage)
-call_fits sizes v Between inside = absurd (grind arith)
-call_fits sizes v Choosing inside = absurd (grind arith)
-call_fits sizes v Moving inside = step_fits sizes v.transfer v.transfer.next
-call_fits sizes v Own inside = own_fits sizes v.transfer (index_of v.transfer.next) v.pool v.calls.call
-
-next_fits : (sizes : Sizes) (v : ProcessView) (t : Bool) → is_alone v.calls.way ≡ t → is_busy v ≡ true
+-- the step of a process, by its way and the stage of its call
+transfer_fits : (sizes : Sizes) (v : ProcessView) (alone : Bool) (stage : CallStage) → is_alone v.calls.way ≡ alone → v.calls.stage ≡ stage
+    → is_busy v ≡ true → moves_transfer v ≡ true
     → KindFits sizes v.transfer (next_kind v) (index_of v.transfer.next) (next_action sizes v)
-next_fits sizes v true alone busy = rw alone (step_fits sizes v.transfer v.transfer.next)
-next_fits sizes v false alone busy =
-    let inside : is_in_call v.calls.stage ≡ true = rw alone at busy in rw alone (call_fits sizes v v.calls.stage inside)
+transfer_fits sizes v true stage way here busy moves = rw way (step_fits sizes v.transfer v.transfer.next refl)
+transfer_fits sizes v false Between way here busy moves = absurd (false≢true (rw (way, here) at moves))
+transfer_fits sizes v false Choosing way here busy moves = absurd (false≢true (rw (way, here) at moves))
+transfer_fits sizes v false Moving way here busy moves = rw (way, here) (step_fits sizes v.transfer v.transfer.next refl)
+transfer_fits sizes v false Own way here busy moves = absurd (false≢true (rw (way, here) at moves))
+
+own_step_fits : (sizes : Sizes) (v : ProcessView) (alone : Bool) (stage : CallStage) → is_alone v.calls.way ≡ alone → v.calls.stage ≡ stage
+    → is_busy v ≡ true → moves_transfer v ≡ false → OwnKindFits v (next_kind v) (next_action sizes v)
+own_step_fits sizes v true stage way here busy not = absurd (false≢true (sym (rw way at not)))
+own_step_fits sizes v false Between way here busy not = absurd (false≢true (rw (way, here) at busy))
+own_step_fits sizes v false Choosing way here busy not = absurd (false≢true (rw (way, here) at busy))
+own_step_fits sizes v false Moving way here busy not = absurd (false≢true (sym (rw (way, here) at not)))
+own_step_fits sizes v false Own way here busy not = rw (way, here) (own_fits v v.calls.call refl)
 
 pub next_kinds_fit : NextKindsFit
-next_kinds_fit sizes v busy = next_fits sizes v (is_alone v.calls.way) refl busy
+next_kinds_fit sizes v busy = (
+  transfer_fits sizes v (is_alone v.calls.way) v.calls.stage refl refl busy,
+  own_step_fits sizes v (is_alone v.calls.way) v.calls.stage refl refl busy,
+)
 
 -- the answer of a step
 allocate_answers : (v : ProcessView) (by : ℕ) (block : Option ℕ) → next_kind v ≡ allocate_kind block

@@ -42,6 +42,9 @@ pub mod CallLawsData
 pub mod MovingBegins
 pub mod MovingAnswers
 pub mod Labels
+pub mod TurnLaws
+pub mod KeptFollows
+pub mod MovesEnd
 pub mod DataSteps
 pub mod Due
 pub mod Conditions

@@ -10,7 +10,6 @@ use Rattle.transfer_machine.specs.Stages.{is_rest}
 use Rattle.pool_machine.specs.Pools.{view_met}
 use Rattle.transfer_machine.specs.Words.{met_word}
 use Rattle.pool_machine.specs.declared.call.Call.{Call}
-use Rattle.pool_machine.specs.declared.call.Call.TheVariants.{Allocate}
 use Rattle.pool_machine.specs.declared.call.CallStage.{CallStage}
 use Rattle.pool_machine.specs.declared.call.CallStage.TheVariants.{Between, Choosing, Moving, Own}
 use Rattle.pool_machine.specs.declared.call.Way.TheVariants.{Fresh, Alone, Calls}
@@ -27,7 +26,8 @@ use Rattle.pool_machine.specs.declared.answer.OwnAnswer.{OwnAnswer}
 use Rattle.pool_machine.specs.declared.answer.OwnAnswer.TheVariants as answer
 use Rattle.interleaving_core.specs.CallLaws.{left_at, steps_left, is_within}
 use Rattle.interleaving_core.specs.Moves.{CoreState, view_at}
-use Rattle.interleaving_core.specs.MovingLaws.{is_event_of, events_of, answers_call, is_answered, CallsAreAnswered}
+use Rattle.interleaving_core.specs.MovingLaws.{is_event_of, events_of, is_answered, CallsAreAnswered}
+use Rattle.interleaving_core.specs.CallLaws.{answers_call}
 use Rattle.interleaving_core.specs.Runs.{Turn, Moves, Events, IsRun, turns, is_made, turning_view, after_turn, turn_answer}
 use Rattle.interleaving_core.specs.Steps.{is_in_call, next_action}
 use Rattle.pool_machine.specs.Steps.{is_paced, stage_after}
@@ -92,21 +92,21 @@ way_within Alone stage alone fresh within = absurd (none stage (alone refl) with
     none Own e within = cc
 way_within Calls stage alone fresh within = refl
 
-inside_calls : (s : CoreState) (history : List Entry) (i : ℕ) → RunFits s history → i < s.sizes.processes
+pub inside_calls : (s : CoreState) (history : List Entry) (i : ℕ) → RunFits s history → i < s.sizes.processes
     → is_within (view_at s i).calls.stage ≡ true → (view_at s i).calls.way ≡ Calls
 inside_calls s history i fits li within =
     let v = view_at s i in
     let (ghosts, h) = fits.meets in
     let fresh = λ (e : v.calls.way ≡ Fresh). (
-      let ne : v.calls.way ≢ Alone = λ alone. apart (sym e ∙ alone) in
-      ap (λ x. x.calls.stage) ((calls_used s.sizes i v (ghosts.ledgers i) v.calls.way ne (h.pools i li)).fresh e).view
+    let ne : v.calls.way ≢ Alone = λ alone. apart (sym e ∙ alone) in
+    ap (λ x. x.calls.stage) ((calls_used s.sizes i v (ghosts.ledgers i) v.calls.way ne (h.pools i li)).fresh e).view
     ) in
     way_within v.calls.way v.calls.stage (alone_stage s.sizes (word_at s.sizes s.words) (view_at s) history i li fits.meets) fresh within
   where
     apart : Fresh ≡ Alone → ⊥
     apart e = cc
 
-no_move : (s : CoreState) (i : ℕ) (wish : Wish) → (view_at s i).calls.way ≡ Calls → is_made (Moves i wish) s ≡ false
+pub no_move : (s : CoreState) (i : ℕ) (wish : Wish) → (view_at s i).calls.way ≡ Calls → is_made (Moves i wish) s ≡ false
 no_move s i wish e = rw e (none_second (nat_lt i s.sizes.processes))
   where
     none_second : (a : Bool) → (a && false) ≡ false

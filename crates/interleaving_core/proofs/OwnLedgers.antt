@@ -30,7 +30,7 @@ use Rattle.history_invariant.proofs.Replacing.{replaced_with}
 use Rattle.history_invariant.proofs.Shared.{legal_shared}
 use Rattle.call_invariant.specs.InCalls.{Scheduled, InCalls}
 use Rattle.call_invariant.specs.Phases.{is_getting, own_phase}
-use Rattle.call_invariant.proofs.Owned.{phase_own, getting_owns, gets_leave, refusals_leave, frees_leave, keeping_steps_leave, block_has_source}
+use Rattle.call_invariant.proofs.Owned.{phase_own, getting_asks, gets_leave, refusals_leave, frees_leave, keeping_steps_leave, block_has_source}
 use Rattle.call_invariant.proofs.Owned.{no_block_has_none}
 use Rattle.call_invariant.proofs.Uses.{calls_used}
 use Rattle.interleaving_core.specs.Invariant.{Ghosts, held_in, Holds}
@@ -88,8 +88,8 @@ module _ (sizes : Sizes) (words : Words) (views : ProcessViews) (history : List 
   is_own call e = phase_own sizes i (views i) (ghosts.ledgers i) d.goes d.own ∙ ap own_phase e
 
   owns : (call : Option Call) → (views i).calls.call ≡ call → is_getting call ≡ true
-      → schedule.owns_in (ghosts.ledgers i).account.phase ≡ true
-  owns call e gets = rw (is_own call e) (getting_owns call gets)
+      → schedule.asks_in (ghosts.ledgers i).account.phase ≡ true
+  owns call e gets = rw (is_own call e) (getting_asks call gets)
 
   pub shares : SharesOut (limits_of sizes) history ghosts.ledgers
   shares = held_shared (limits_of sizes) (transfer_bound sizes) sizes.quantum history ghosts.ledgers d.holds.entries

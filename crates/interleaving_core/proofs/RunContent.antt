@@ -139,7 +139,7 @@ moves_met sizes v word false Choosing alone here moves = absurd (false≢true (r
 moves_met sizes v word false Moving alone here moves = rw (alone, here) refl
 moves_met sizes v word false Own alone here moves = absurd (false≢true (rw (alone, here) at moves))
 
-own_acts : (sizes : Sizes) (v : ProcessView) (t : Bool) (stage : CallStage) → is_alone v.calls.way ≡ t → v.calls.stage ≡ stage
+pub own_acts : (sizes : Sizes) (v : ProcessView) (t : Bool) (stage : CallStage) → is_alone v.calls.way ≡ t → v.calls.stage ≡ stage
     → is_busy v ≡ true → moves_transfer v ≡ false → next_action sizes v ≡ own_action v
 own_acts sizes v true stage alone here busy not = absurd (false≢true (sym (rw alone at not)))
 own_acts sizes v false Between alone here busy not = absurd (false≢true (rw (alone, here) at busy))
@@ -197,8 +197,7 @@ module _
         let new_shown = holds_show now (transfers (view_at now)) (states_after words v.transfer ghosts.states) kept (λ o lo. refl) in
         step_content s now refl by (transfers views) (transfers (view_at now)) ghosts.states shape li h.stack kept acts old_shown new_shown
 
-    own_content : is_busy (views by) ≡ true → moves_transfer (views by) ≡ false → MoveContent s by (views by)
-    unfolding MoveContent
+    own_content : is_busy (views by) ≡ true → moves_transfer (views by) ≡ false → LeavesContent s (with_step by (views by) s)
     own_content busy not =
         let v = views by in
         let now = with_step by v s in
@@ -213,16 +212,21 @@ module _
         let tag : state_tag new ≡ state_tag words = (records_stay s.sizes words new stay).state in
         let old_shown = holds_show s (transfers views) ghosts.states h.stack (λ o lo. ages o) in
         let new_shown = holds_show now (transfers (view_at now)) ghosts.states kept (λ o lo. refl) in
-        inl (both_shown s now (present words ghosts.states) refl old_shown
-        (subst (λ (n : ℕ). ShowsState now (ghosts.states n)) tag new_shown))
+        both_shown s now (present words ghosts.states) refl old_shown (subst (λ (n : ℕ). ShowsState now (ghosts.states n)) tag new_shown)
 
     either_content : is_busy (views by) ≡ true → (t : Bool) → moves_transfer (views by) ≡ t → MoveContent s by (views by)
+    unfolding MoveContent
     either_content busy true moves = transfer_content moves
-    either_content busy false moves = own_content busy moves
+    either_content busy false moves = inl (own_content busy moves)
+
+-- the own step of a call leaves it
+OwnLeaves : CoreState → ℕ → ProcessView → Type 0
+OwnLeaves s by v = moves_transfer v ≡ false → LeavesContent s (with_step by v s)
 
 -- of a turn that is made
 made_content : (s : CoreState) (history : List Entry) (turn : Turn) → RunFits s history → is_made turn s ≡ true
-    → MoveContent s (by_of turn) (turning_view turn s)
+    → MoveContent s (by_of turn) (turning_view turn s) × OwnLeaves s (by_of turn) (turning_view turn s)
+unfolding OwnLeaves
 made_content s history turn fits made =
     let by = by_of turn in
     let v = turning_view turn s in
@@ -240,9 +244,16 @@ made_content s history turn fits made =
     let allowed = step_allowed s.sizes words views history by fits.shape li meets busy in
     let does = table_acted s.sizes s.words (next_action s.sizes (views by)) fits.whole
     (next_in_range s.sizes words (views by) (is_alone (views by).calls.way) refl allowed) in
-    subst (MoveContent s by) here
-    (either_content s by views history ghosts fits.shape li h does moved (λ o. ages_of s.sizes s.views by v low (turning_age turn s) o)
-    busy (moves_transfer (views by)) refl)
+    let ages = λ (o : ℕ). ages_of s.sizes s.views by v low (turning_age turn s) o in
+    subst (λ (w : ProcessView). MoveContent s by w × OwnLeaves s by w) here (
+      either_content s by views history ghosts fits.shape li h does moved ages busy (moves_transfer (views by)) refl,
+      own_content s by views history ghosts fits.shape li h does moved ages busy,
+    )
+
+pub own_step_leaves : (s : CoreState) (history : List Entry) (turn : Turn) → RunFits s history → is_made turn s ≡ true
+    → moves_transfer (turning_view turn s) ≡ false → LeavesContent s (with_step (by_of turn) (turning_view turn s) s)
+unfolding OwnLeaves
+own_step_leaves s history turn fits made own = (made_content s history turn fits made).1 own
 
 -- a turn that isn't made changes nothing
 content_of_turn : (s : CoreState) (history : List Entry) (turn : Turn) (t : Bool) → RunFits s history → is_made turn s ≡ t
@@ -252,7 +263,7 @@ content_of_turn : (s : CoreState) (history : List Entry) (turn : Turn) (t : Bool
     × ((u : StackState) × AppliesPending s (if t then with_step (by_of turn) (turning_view turn s) s else s) announcements u)))
 unfolding MoveContent
 content_of_turn s history turn true fits made =
-    elim (made_content s history turn fits made) [
+    elim ((made_content s history turn fits made).0) [
       | inl left ↦ inl left
       | inr applied ↦ inr (turning_exchanges turn s applied.0, applied.1)
     ]

@@ -4,7 +4,7 @@ use Rattle.std.specs.Prelude.{if◌then◌else◌, ◌||◌}
 use Rattle.std.proofs.lemmas.Bool.Decides.{nat_tests}
 use Rattle.word_layout.specs.Sizes.{Sizes, IsShape}
 use Rattle.word_layout.specs.Names.{InRange, table_words, word_at, set_word, place}
-use Rattle.word_layout.specs.Packing.{FitsWish, most_age}
+use Rattle.word_layout.specs.Packing.{FitsWish}
 use Rattle.word_layout.specs.declared.announced.Wish.{Wish}
 use Rattle.word_layout.proofs.Placed.{word_at-set_word_same, word_at-set_word_other}
 use Rattle.pool_model.specs.declared.entry.Entry.{Entry}
@@ -31,13 +31,12 @@ use Rattle.transfer_machine.specs.declared.stage.TryStep.TheVariants.{LoadState,
 use Rattle.transfer_machine.specs.declared.stage.TryStep.TheVariants.{LoadAnnouncement, LoadPoppedSlot, StoreRecordWord, ExchangeState}
 use Rattle.transfer_invariant.specs.Memory.{Words, Acted}
 use Rattle.batch_invariant.specs.Batches.{ProcessViews, MovedProcess}
-use Rattle.pool_machine.specs.Beginning.{alone_begun, search_begun_by, search_chosen, call_begun, begun_if_due, due}
-use Rattle.pool_machine.specs.Conditions.{may_call}
+use Rattle.pool_machine.specs.Beginning.{alone_begun, search_begun_by, call_begun, begun_if_due, due}
 use Rattle.pool_machine.specs.OwnSteps.{own_action_for, allocate_action, block_from}
 use Rattle.pool_machine.specs.Ready.{CanBegin, CanActCallAt, CanAllocate, CanOwnFor}
 use Rattle.pool_machine.specs.Steps.{call_action_at, call_met_at, call_action, call_met, call_answer}
 use Rattle.interleaving_core.specs.Invariant.{MeetsInvariant, IsAmong, IsAmongHolding, with_view}
-use Rattle.interleaving_core.specs.Moves.{may_wish, may_go_alone, moving_view, may_go, may_start_at, started_at, started, calling_view}
+use Rattle.interleaving_core.specs.Moves.{may_wish, may_go_alone, moving_view, may_go, started_at, started, calling_view}
 use Rattle.interleaving_core.specs.Runs.{entries_of}
 use Rattle.interleaving_core.specs.Steps.{is_alone, is_busy, is_in_call, next_action, next_met, next_answer}
 use Rattle.interleaving_core.proofs.Begins.{alone_begins, call_starts}

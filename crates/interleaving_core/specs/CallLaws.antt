@@ -1,5 +1,5 @@
 -- laws of calls over every run
-use Rattle.std.specs.Prelude.{◌≡◌, ◌≢◌, ℕ, ◌+◌, ◌*◌, ◌-◌, ◌<◌, ◌≤◌, ◌↔◌, Bool, true, false, Some, List, length, slice_get, take, Contains}
+use Rattle.std.specs.Prelude.{◌≡◌, ◌≢◌, ℕ, ◌+◌, ◌*◌, ◌-◌, ◌<◌, ◌≤◌, ◌↔◌, Bool, true, false, Some, List, ◌++◌, length, slice_get, take, Contains}
 use Rattle.word_layout.specs.Sizes.{Sizes, blocks, transfer_bound, limits_of}
 use Rattle.word_layout.specs.Names.{word_at}
 use Rattle.word_layout.specs.declared.announced.Wish.{Wish}
@@ -19,17 +19,24 @@ use Rattle.pool_machine.specs.declared.call.Call.{Call}
 use Rattle.pool_machine.specs.declared.call.Call.TheVariants.{Read, Write}
 use Rattle.pool_machine.specs.declared.call.CallStage.{CallStage}
 use Rattle.pool_machine.specs.declared.call.CallStage.TheVariants.{Between, Choosing, Moving, Own}
-use Rattle.pool_machine.specs.declared.call.CallView.{CallView}
 use Rattle.pool_machine.specs.declared.call.Way.TheVariants.{Alone}
 use Rattle.pool_machine.specs.declared.view.ProcessView.{ProcessView}
 use Rattle.pool_machine.specs.Laws.{most_moves}
 use Rattle.pool_machine.specs.Steps.{is_paced}
-use Rattle.pool_machine.specs.declared.event.Happened.TheVariants.{Loaded, Stored}
+use Rattle.pool_machine.specs.declared.event.Happened.{Happened}
+use Rattle.pool_machine.specs.declared.event.Happened.TheVariants.{Step, Ended, Loaded, Stored, Ignored}
 use Rattle.call_invariant.specs.Phases.{call_phase}
 use Rattle.interleaving_core.specs.Kept.{kept}
 use Rattle.interleaving_core.specs.Moves.{CoreState, view_at, holder_of, is_holder}
 use Rattle.interleaving_core.specs.Runs.{Turn, Moves, Events, by_of, is_made, turning_view, after_turn, turn_answer, entries_of, IsRun}
-use Rattle.interleaving_core.specs.Steps.{is_in_call}
+
+-- whether this is the answer of a call
+abbrev pub answers_call : Happened → Bool
+answers_call (Step kind) = false
+answers_call (Ended kind entry) = true
+answers_call (Loaded word) = true
+answers_call Stored = true
+answers_call Ignored = false
 
 -- a fact of the shape, the history and the state at the end of every run
 abbrev pub EveryRun : (Sizes → List Entry → CoreState → Type 0) → Type 0
@@ -73,6 +80,16 @@ EachKeepsFive = EveryRun (λ sizes history s. (i : ℕ) → i < sizes.processes 
 abbrev pub AllAreCounted : Type 0
 AllAreCounted = EveryRun (λ sizes history s.
     total sizes.processes (kept s) + length (held history) + sizes.length * length (stack sizes s.words) ≡ blocks sizes)
+
+-- between these states, with these histories, process i moved blocks between what it keeps and what is held, and no other process did
+pub record MovesBlocks (s after : CoreState) (i : ℕ) (before now : List Entry) : Type 0 where
+  pub own : kept after i + length (held now) ≡ kept s i + length (held before)
+  pub others : (o : ℕ) → o < s.sizes.processes → o ≢ i → kept after o ≡ kept s o
+
+-- what the answer of a call changes of the held blocks it changes of what its own process keeps
+abbrev pub KeptFollowsCalls : Type 0
+KeptFollowsCalls = EveryRun (λ sizes history s. (turn : Turn) → answers_call (turn_answer turn s) ≡ true
+    → MovesBlocks s (after_turn turn s) (by_of turn) history (history ++ entries_of (turn_answer turn s)))
 
 -- how many turns a call needs at most at the steps of its transfer: those left of its quantum and its own one; a search those left of the
 -- transfer, those of another one unless it has chosen, and its own one

@@ -12,6 +12,7 @@ pub mod InvariantLaws
 pub mod StateLaws
 pub mod MovingLaws
 pub mod LabelLaws
+pub mod TurnLaws
 pub mod DataWords
 pub mod CallConditions
 pub mod StepLaws

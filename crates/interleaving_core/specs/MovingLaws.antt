@@ -13,7 +13,7 @@ use Rattle.pool_machine.specs.Conditions.{IsYoungFor}
 use Rattle.pool_machine.specs.Laws.{most_moves}
 use Rattle.pool_machine.specs.declared.event.Happened.{Happened}
 use Rattle.pool_machine.specs.declared.event.Happened.TheVariants.{Step, Ended, Loaded, Stored, Ignored}
-use Rattle.interleaving_core.specs.CallLaws.{EveryRun}
+use Rattle.interleaving_core.specs.CallLaws.{answers_call, EveryRun}
 use Rattle.interleaving_core.specs.Moves.{CoreState, view_at, holder_of, is_holder}
 use Rattle.interleaving_core.specs.Runs.{Turn, Moves, Events, is_made, after_turn, turn_answer}
 
@@ -68,14 +68,6 @@ is_event_of i (Events by call) = by == i
 unfoldable pub events_of : ℕ → List Turn → ℕ
 events_of i [] = 0
 events_of i (turn ∷ more) = (if is_event_of i turn then 1 else 0) + events_of i more
-
--- whether this is the answer of a call
-abbrev pub answers_call : Happened → Bool
-answers_call (Step kind) = false
-answers_call (Ended kind entry) = true
-answers_call (Loaded word) = true
-answers_call Stored = true
-answers_call Ignored = false
 
 -- whether a call of process i is answered in one of these turns, made from that state on
 unfoldable pub is_answered : ℕ → List Turn → CoreState → Bool

@@ -7,3 +7,4 @@ pub mod moving;
 pub mod states;
 pub mod steps;
 pub mod transfers;
+pub mod turns;

@@ -3,6 +3,7 @@ mod calls;
 mod ignored;
 mod moves;
 mod random_events;
+mod searches;
 mod steps;
 
 use crate::{Call, CoreRun, Event, Happened};
@@ -22,7 +23,9 @@ fn holder(rt: &impl Abort, run: &CoreRun, block: u32) -> Option<u32> {
 
 /// One step of a call of a process.
 fn event(rt: &impl Abort, run: &mut CoreRun, by: u32, call: Call) -> Happened {
-    assert!(rt; by >= run.shape().processes() || run.view(by).transfer.age < run.shape().most_age());
+    assert!(rt;
+        by >= run.shape().processes() || run.view(by).transfer.age < run.shape().most_age()
+    );
     run.event(&Event { by, call })
 }
 

@@ -22,6 +22,7 @@ onto_first_has_first : (x : ℕ) (parts : List (List ℕ)) → HasFirst (onto_fi
 onto_first_has_first x [] = record { first = x ∷ []; others = []; is = refl }
 onto_first_has_first x (part ∷ parts) = record { first = x ∷ part; others = parts; is = refl }
 
+-- cutting a list leaves at least one part
 pub slice_split_has_first : (p : ℕ → Bool) (xs : List ℕ) → HasFirst (slice_split p xs)
 slice_split_has_first p [] = record { first = []; others = []; is = refl }
 slice_split_has_first p (x ∷ xs) =
@@ -46,6 +47,7 @@ slice_split-append p (x ∷ xs) y ys passes =
       | false ↦ onto_first-append x (slice_split p xs) (slice_split p ys) (slice_split_has_first p xs)
     ])
 
+-- the words of two texts with a space between are those of the one and then of the other
 pub words-append : (front : List ℕ) (back : List ℕ) → words (front ++ 32 ∷ back) ≡ words front ++ words back
 words-append front back =
     rw (slice_split-append is_space front 32 back refl) (filter-append has_bytes (slice_split is_space front) (slice_split is_space back))

@@ -24,6 +24,7 @@ no_end bytes none =
     in
     All-from_get_or (λ byte. is_end byte ≡ false) bytes 0 (λ k below. fails_before_first is_end bytes k 0 (omega arith))
 
+-- before the first end of a line no line ends
 pub no_end_before : (bytes : List ℕ) (end : ℕ) → position is_end bytes ≡ Some end → HasNoEnd (take end bytes)
 no_end_before bytes end found =
     let at = position-Some is_end bytes end 0 found in
@@ -31,6 +32,7 @@ no_end_before bytes end found =
     let before : k < end = omega (arith, length-take-le end bytes (omega (arith, at.0))) in
     rw (get_or-take end bytes k 0 before) (at.2 k before))
 
+-- bytes with an end of a line are those before it, that end, and those after it
 pub parts_at_end : (bytes : List ℕ) (end : ℕ) → position is_end bytes ≡ Some end → bytes ≡ take end bytes ++ 10 ∷ drop (end + 1) bytes
 parts_at_end bytes end found =
     let at = position-Some is_end bytes end 0 found in
@@ -119,9 +121,11 @@ module _ (bytes more : List ℕ) (open_end : HasNoEnd more) where
       slice_split_none is_end (last_piece bytes ++ more)
       (All-append (λ b. is_end b ≡ false) (last_piece bytes) more (is_cut bytes).open_end open_end)
 
+  -- so no line is added
   pub lines_with_more : lines (bytes ++ more) ≡ lines bytes
   lines_with_more = lines-append bytes more ∙ ap (λ parts. lines bytes ++ front parts) one_piece ∙ append-nil (lines bytes)
 
+  -- and the last piece goes on with them
   pub last_piece_with_more : last_piece (bytes ++ more) ≡ last_piece bytes ++ more
   last_piece_with_more = last_piece-append bytes more ∙ ap last one_piece
 
@@ -132,9 +136,11 @@ module _ (bytes more : List ℕ) (open_end : HasNoEnd more) where
       ∙ slice_split_at is_end (last_piece bytes ++ more) 10 []
       (All-append (λ b. is_end b ≡ false) (last_piece bytes) more (is_cut bytes).open_end open_end) refl
 
+  -- one line is added, the last piece and these bytes
   pub lines_with_line : lines (bytes ++ (more ++ 10 ∷ [])) ≡ lines bytes ++ (last_piece bytes ++ more) ∷ []
   lines_with_line = lines-append bytes (more ++ 10 ∷ []) ∙ ap (λ parts. lines bytes ++ front parts) two_pieces
 
+  -- and nothing stands after it
   pub last_piece_with_line : last_piece (bytes ++ (more ++ 10 ∷ [])) ≡ []
   last_piece_with_line = last_piece-append bytes (more ++ 10 ∷ []) ∙ ap last two_pieces
 

@@ -13,6 +13,7 @@ said-append (Skipped ∷ before) after = said-append before after
 said-append (Says thing ∷ before) after = ap (λ others. thing ∷ others) (said-append before after)
 said-append (Bad ∷ before) after = said-append before after
 
+-- the first bad line of two parts is that of the first part, or else that of the second
 pub first_bad-append : {T : Type 0} (number : ℕ) (before after : List (Meaning T))
     → first_bad number (before ++ after) ≡ option_or (first_bad number before) (first_bad (number + length before) after)
 first_bad-append number [] after = ap (λ n. first_bad n after) (omega arith)
@@ -30,6 +31,7 @@ said_by_one Skipped = omega arith
 said_by_one (Says thing) = omega arith
 said_by_one Bad = omega arith
 
+-- no more is said than there are lines
 pub few_said : {T : Type 0} (meanings : List (Meaning T)) → length (said meanings) ≤ length meanings
 few_said [] = omega arith
 few_said (Skipped ∷ meanings) = omega (arith, few_said meanings)

@@ -1,3 +1,4 @@
+-- The faults of a text by their numbers.
 use Rattle.std.specs.Prelude.{ℕ}
 use Rattle.line_text.specs.declared.fault.TextFault.{TextFault}
 use Rattle.line_text.specs.declared.fault.TextFault.TheVariants.{ReadFault, TooLong, BadLine, NoMemory}

@@ -20,6 +20,7 @@ front [] = []
 front (last ∷ []) = []
 front (piece ∷ next ∷ others) = piece ∷ front (next ∷ others)
 
+-- the last, or nothing where there are none
 abbrev pub last : List (List ℕ) → List ℕ
 last [] = []
 last (piece ∷ []) = piece

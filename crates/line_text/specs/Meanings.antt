@@ -15,6 +15,7 @@ said (Skipped ∷ others) = said others
 said (Says thing ∷ others) = thing ∷ said others
 said (Bad ∷ others) = said others
 
+-- whether a line has no meaning
 abbrev pub is_bad : {T : Type 0} → Meaning T → Bool
 is_bad Skipped = false
 is_bad (Says thing) = false

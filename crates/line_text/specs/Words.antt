@@ -6,6 +6,7 @@ use Rattle.std.specs.List.{slice_split}
 abbrev pub is_space : ℕ → Bool
 is_space byte = byte == 32
 
+-- whether a run of bytes is a word, since two spaces in a row have an empty one between them
 abbrev pub has_bytes : List ℕ → Bool
 has_bytes [] = false
 has_bytes (byte ∷ bytes) = true

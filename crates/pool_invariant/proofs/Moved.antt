@@ -12,7 +12,8 @@ use Rattle.transfer_machine.specs.declared.transfer.TransferView.{TransferView}
 use Rattle.transfer_machine.specs.declared.stage.NextStep.{NextStep}
 use Rattle.transfer_machine.specs.declared.stage.NextStep.TheVariants.{Rest, Announce, Try, LoadFinalState, LoadReply}
 use Rattle.transfer_machine.specs.declared.stage.TryStep.{TryStep}
-use Rattle.transfer_machine.specs.declared.stage.TryStep.TheVariants.{LoadState, LoadRecordWord, LoadCoveredSlot, ExchangeSlot, LoadAnnouncement, LoadPoppedSlot, StoreRecordWord, ExchangeState}
+use Rattle.transfer_machine.specs.declared.stage.TryStep.TheVariants.{LoadState, LoadRecordWord, LoadCoveredSlot, ExchangeSlot}
+use Rattle.transfer_machine.specs.declared.stage.TryStep.TheVariants.{LoadAnnouncement, LoadPoppedSlot, StoreRecordWord, ExchangeState}
 use Rattle.transfer_invariant.specs.Progress.{has_only_begun, is_moving, goes_on}
 use Rattle.pool_invariant.specs.Stages.{IndexFitsInTry, IndexFitsAt, IndexFits}
 
@@ -30,7 +31,8 @@ either_stays false v a b h k = k
 ended_stays : (v : TransferView) (second : Bool) → StaysIn v (try_ended second v)
 ended_stays v second = grind (arith, nat_tests)
 
-step_stays_in_try : (sizes : Sizes) (v : TransferView) (word : ℕ) (second : Bool) (s : TryStep) → StaysIn v (met_in_try sizes v word second s)
+step_stays_in_try : (sizes : Sizes) (v : TransferView) (word : ℕ) (second : Bool) (s : TryStep)
+    → StaysIn v (met_in_try sizes v word second s)
 step_stays_in_try sizes v word second LoadState = record { moving = refl; announced = refl; wish = refl; age = refl }
 step_stays_in_try sizes v word second (LoadRecordWord index) =
     either_stays (nat_lt (loaded_tag v.loaded) (tag_of word)) v (try_ended second v) _ (ended_stays v second)
@@ -40,13 +42,15 @@ step_stays_in_try sizes v word second (LoadCoveredSlot offset) = record { moving
 step_stays_in_try sizes v word second (ExchangeSlot offset) = record { moving = refl; announced = refl; wish = refl; age = refl }
 step_stays_in_try sizes v word second (LoadAnnouncement process) =
     either_stays (pops_slot sizes.processes v.loaded process word v.draft) v _ _
-    (record { moving = refl; announced = refl; wish = refl; age = refl }) (record { moving = refl; announced = refl; wish = refl; age = refl })
+    (record { moving = refl; announced = refl; wish = refl; age = refl })
+    (record { moving = refl; announced = refl; wish = refl; age = refl })
 step_stays_in_try sizes v word second (LoadPoppedSlot process) = record { moving = refl; announced = refl; wish = refl; age = refl }
 step_stays_in_try sizes v word second (StoreRecordWord index) = record { moving = refl; announced = refl; wish = refl; age = refl }
 step_stays_in_try sizes v word second ExchangeState =
     either_stays (word == v.loaded.state) v (installed v) (try_ended second v)
     (record { moving = refl; announced = refl; wish = refl; age = refl }) (ended_stays v second)
 
+-- a step between the announcement and the reply keeps the process in its transfer
 pub step_stays : (sizes : Sizes) (v : TransferView) (word : ℕ) (s : NextStep) → goes_on s ≡ true → StaysIn v (met_at sizes v word s)
 step_stays sizes v word Rest e = grind arith
 step_stays sizes v word Announce e = grind arith
@@ -55,7 +59,8 @@ step_stays sizes v word LoadFinalState e = record { moving = refl; announced = r
 step_stays sizes v word LoadReply e = grind arith
 
 -- the places that the steps name stay in range
-step_indexed_in_try : (sizes : Sizes) (v : TransferView) (word : ℕ) (second : Bool) (s : TryStep) → 1 ≤ sizes.processes → IndexFitsInTry sizes v.loaded s
+step_indexed_in_try : (sizes : Sizes) (v : TransferView) (word : ℕ) (second : Bool) (s : TryStep) → 1 ≤ sizes.processes
+    → IndexFitsInTry sizes v.loaded s
     → IndexFits sizes (met_in_try sizes v word second s)
 step_indexed_in_try sizes v word second LoadState some h = omega arith
 step_indexed_in_try sizes v word second (LoadRecordWord index) some h = grind (arith, nat_tests)
@@ -66,7 +71,9 @@ step_indexed_in_try sizes v word second (LoadPoppedSlot process) some h = grind 
 step_indexed_in_try sizes v word second (StoreRecordWord index) some h = grind (arith, nat_tests)
 step_indexed_in_try sizes v word second ExchangeState some h = grind (arith, nat_tests)
 
-pub step_indexed : (sizes : Sizes) (v : TransferView) (word : ℕ) (s : NextStep) → v.next ≡ s → 1 ≤ sizes.processes → IndexFitsAt sizes v.loaded s
+-- after any step the record word, slot or process that the next one names is one of them
+pub step_indexed : (sizes : Sizes) (v : TransferView) (word : ℕ) (s : NextStep) → v.next ≡ s → 1 ≤ sizes.processes
+    → IndexFitsAt sizes v.loaded s
     → IndexFits sizes (met_at sizes v word s)
 step_indexed sizes v word Rest e some h = rw e tt
 step_indexed sizes v word Announce e some h = tt

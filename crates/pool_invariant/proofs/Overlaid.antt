@@ -17,8 +17,12 @@ overlay_few sizes s fits = let most = fits.overlay in omega arith
 few_of : (n height base processes : ℕ) → n ≡ height - base → height - base ≤ processes → n ≤ processes
 few_of n height base processes e le = omega arith
 
-pub overlay_is_few : (sizes : Sizes) (words : Words) (states : States) (v : TransferView) → StatesFit sizes words states → LoadedState sizes words states v → OverlayIsFew sizes v
+-- a loaded overlay has at most one head for each process
+pub overlay_is_few : (sizes : Sizes) (words : Words) (states : States) (v : TransferView) → StatesFit sizes words states
+    → LoadedState sizes words states v
+    → OverlayIsFew sizes v
 overlay_is_few sizes words states v fit h e =
     let s = states (loaded_tag v.loaded) in
     let second : 1 < loaded_words (record_words sizes) v.next = rw (record_whole (record_words sizes) v.next e) (omega arith) in
-    few_of (overlay_length v.loaded) s.height s.base sizes.processes (h.loaded 1 second ∙ value_length sizes.processes s) (overlay_few sizes s (fit (loaded_tag v.loaded) (h.past (record_has v.next e))))
+    few_of (overlay_length v.loaded) s.height s.base sizes.processes (h.loaded 1 second ∙ value_length sizes.processes s)
+    (overlay_few sizes s (fit (loaded_tag v.loaded) (h.past (record_has v.next e))))

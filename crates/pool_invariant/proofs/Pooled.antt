@@ -20,10 +20,13 @@ pub step_kept : (sizes : Sizes) (v : ProcessView) (x : TransferView) (giving : �
     → PoolKept sizes (record v { transfer = x; pool = record (step_counted v.pool) { giving = giving } })
 step_kept sizes v x giving h moving after announced wish none = grind arith
 
+-- a step that doesn't end the transfer keeps what holds of the spares
 pub step_spares : (pool : PoolView) (giving : ℕ) → SparesKept pool → SparesKept (record (step_counted pool) { giving = giving })
 step_spares pool giving h = record { heads = h.heads; idle = h.idle; taking = h.taking; giving = h.giving }
 
-pub step_alone : (sizes : Sizes) (process : ℕ) (pool : PoolView) (giving : ℕ) → KeptAlone sizes process pool → KeptAlone sizes process (record (step_counted pool) { giving = giving })
+-- and what holds of a process that makes transfers alone
+pub step_alone : (sizes : Sizes) (process : ℕ) (pool : PoolView) (giving : ℕ) → KeptAlone sizes process pool
+    → KeptAlone sizes process (record (step_counted pool) { giving = giving })
 step_alone sizes process pool giving h = record { full = h.full; first = h.first; resting = h.resting; busy = h.busy }
 
 -- the end of the transfer
@@ -34,7 +37,9 @@ end_kept sizes v x Nothing h before after settled = grind (arith, nat_tests)
 end_kept sizes v x (Took head) h before after settled = grind (arith, nat_tests)
 end_kept sizes v x Gave h before after settled = grind (arith, nat_tests)
 
-pub end_spares : (pool : PoolView) (wish : Wish) (reply : Reply) → Answers wish reply → pool.plan.pending ≡ pending_of wish → SparesKept pool
+-- the end of the transfer keeps what holds of the spares: a taken batch is one more
+pub end_spares : (pool : PoolView) (wish : Wish) (reply : Reply) → Answers wish reply → pool.plan.pending ≡ pending_of wish
+    → SparesKept pool
     → SparesKept (pool_ended reply (step_counted pool))
 end_spares pool Take Nothing a e h = grind (arith, nat_tests)
 end_spares pool Take (Took head) a e h = grind (arith, nat_tests, one_more_few pool.plan.spares, length-append pool.heads (head ∷ []))
@@ -43,7 +48,9 @@ end_spares pool (Give head) Nothing a e h = absurd a
 end_spares pool (Give head) (Took batch) a e h = absurd a
 end_spares pool (Give head) Gave a e h = grind (arith, nat_tests)
 
-pub end_alone : (sizes : Sizes) (process : ℕ) (pool : PoolView) (wish : Wish) (reply : Reply) → pool.plan.pending ≡ pending_of wish → KeptAlone sizes process pool
+-- and what holds of a process that makes transfers alone
+pub end_alone : (sizes : Sizes) (process : ℕ) (pool : PoolView) (wish : Wish) (reply : Reply) → pool.plan.pending ≡ pending_of wish
+    → KeptAlone sizes process pool
     → KeptAlone sizes process (pool_ended reply (step_counted pool))
 end_alone sizes process pool Take Nothing e h = grind (arith, nat_tests)
 end_alone sizes process pool Take (Took head) e h = grind (arith, nat_tests, one_more_few pool.plan.spares)

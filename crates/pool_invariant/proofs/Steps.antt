@@ -30,13 +30,15 @@ going_moving s e = grind arith
 going_announced : (s : NextStep) → goes_on s ≡ true → has_only_begun s ≡ false
 going_announced s e = grind arith
 
+-- a step between the announcement and the reply only counts in the pool
 pub going_pool : (pool : PoolView) (word : ℕ) (s : NextStep) → goes_on s ≡ true → pool_met_at word pool s ≡ step_counted pool
 going_pool pool word s e = grind arith
 
 going_age : (sizes : Sizes) (v x : TransferView) → AgeFits sizes v → StaysIn v x → AgeFits sizes x
 going_age sizes v x h stays = grind arith
 
-going_runs : (sizes : Sizes) (v : ProcessView) (word : ℕ) (s : NextStep) → v.transfer.next ≡ s → goes_on s ≡ true → 1 ≤ sizes.processes → PoolRuns sizes v
+going_runs : (sizes : Sizes) (v : ProcessView) (word : ℕ) (s : NextStep) → v.transfer.next ≡ s → goes_on s ≡ true → 1 ≤ sizes.processes
+    → PoolRuns sizes v
     → (has_record s ≡ true → overlay_length v.transfer.loaded ≤ sizes.processes)
     → PoolRuns sizes (record v { transfer = met_at sizes v.transfer word s; pool = pool_met_at word v.pool s })
 going_runs sizes v word s e going some h few =
@@ -53,8 +55,13 @@ going_runs sizes v word s e going some h few =
       age = going_age sizes v.transfer x h.age stays;
     })
 
-going_alone : (sizes : Sizes) (i : ℕ) (pool : PoolView) (word : ℕ) (s : NextStep) → goes_on s ≡ true → PoolAlone sizes i pool → PoolAlone sizes i (pool_met_at word pool s)
-going_alone sizes i pool word s going h = rw (going_pool pool word s going) (record { spares = step_spares pool pool.giving h.spares; full = step_alone sizes i pool pool.giving h.full })
+going_alone : (sizes : Sizes) (i : ℕ) (pool : PoolView) (word : ℕ) (s : NextStep) → goes_on s ≡ true → PoolAlone sizes i pool
+    → PoolAlone sizes i (pool_met_at word pool s)
+going_alone sizes i pool word s going h =
+    rw (going_pool pool word s going) (record {
+      spares = step_spares pool pool.giving h.spares;
+      full = step_alone sizes i pool pool.giving h.full;
+    })
 
 -- the announcement
 announced_age : (sizes : Sizes) (v : TransferView) → AgeFits sizes v → v.next ≡ Announce → v.age + 1 ≤ most_age sizes
@@ -92,23 +99,31 @@ step_runs sizes v word LoadFinalState e some h few = going_runs sizes v word Loa
 step_runs sizes v word LoadReply e some h few = ended_runs sizes v word e h
 
 -- every step of a process that makes transfers alone
-ended_alone : (sizes : Sizes) (i : ℕ) (pool : PoolView) (wish : Wish) (word : ℕ) → pool.plan.pending ≡ pending_of wish → Answers wish (reply_of (value_of word)) → PoolAlone sizes i pool
+ended_alone : (sizes : Sizes) (i : ℕ) (pool : PoolView) (wish : Wish) (word : ℕ) → pool.plan.pending ≡ pending_of wish
+    → Answers wish (reply_of (value_of word))
+    → PoolAlone sizes i pool
     → PoolAlone sizes i (pool_met_at word pool LoadReply)
 ended_alone sizes i pool wish word pending answers h = record {
   spares = end_spares pool wish (reply_of (value_of word)) answers pending h.spares;
   full = end_alone sizes i pool wish (reply_of (value_of word)) pending h.full;
 }
 
-alone_at : (sizes : Sizes) (i : ℕ) (pool : PoolView) (wish : Wish) (word : ℕ) (s : NextStep) → (s ≡ LoadReply → pool.plan.pending ≡ pending_of wish) → (s ≡ LoadReply → Answers wish (reply_of (value_of word))) → PoolAlone sizes i pool
+alone_at : (sizes : Sizes) (i : ℕ) (pool : PoolView) (wish : Wish) (word : ℕ) (s : NextStep)
+    → (s ≡ LoadReply → pool.plan.pending ≡ pending_of wish) → (s ≡ LoadReply → Answers wish (reply_of (value_of word)))
+    → PoolAlone sizes i pool
     → PoolAlone sizes i (pool_met_at word pool s)
 alone_at sizes i pool wish word Rest pending answers h = h
-alone_at sizes i pool wish word Announce pending answers h = record { spares = step_spares pool 0 h.spares; full = step_alone sizes i pool 0 h.full }
+alone_at sizes i pool wish word Announce pending answers h =
+    record { spares = step_spares pool 0 h.spares; full = step_alone sizes i pool 0 h.full }
 alone_at sizes i pool wish word (Try second step) pending answers h = going_alone sizes i pool word (Try second step) refl h
 alone_at sizes i pool wish word LoadFinalState pending answers h = going_alone sizes i pool word LoadFinalState refl h
 alone_at sizes i pool wish word LoadReply pending answers h = ended_alone sizes i pool wish word (pending refl) (answers refl) h
 
-pub step_holds : (sizes : Sizes) (i : ℕ) (v : ProcessView) (word : ℕ) (s : NextStep) → v.transfer.next ≡ s → 1 ≤ sizes.processes → PoolHolds sizes i v
-    → (has_record s ≡ true → overlay_length v.transfer.loaded ≤ sizes.processes) → (s ≡ LoadReply → Answers v.transfer.wish (reply_of (value_of word)))
+-- whatever its next step, a process that makes transfers alone keeps what it must for its pool
+pub step_holds : (sizes : Sizes) (i : ℕ) (v : ProcessView) (word : ℕ) (s : NextStep) → v.transfer.next ≡ s → 1 ≤ sizes.processes
+    → PoolHolds sizes i v
+    → (has_record s ≡ true → overlay_length v.transfer.loaded ≤ sizes.processes)
+    → (s ≡ LoadReply → Answers v.transfer.wish (reply_of (value_of word)))
     → PoolHolds sizes i (record v { transfer = met_at sizes v.transfer word s; pool = pool_met_at word v.pool s })
 step_holds sizes i v word s e some h few answers = record {
   runs = step_runs sizes v word s e some h.runs few;

@@ -74,4 +74,6 @@ TransfersEnd = (sizes : Sizes) (n : ℕ) (views : ℕ → TransferView) (words :
 
 -- what the parts of the records give it: an overlay that a process loaded with its whole record has at most a head a process
 abbrev pub OverlaysAreFew : Type 0
-OverlaysAreFew = (sizes : Sizes) (words : Words) (views : Views) (states : States) (i : ℕ) → i < sizes.processes → RecordsHold sizes words views states → OverlayIsFew sizes (views i)
+OverlaysAreFew =
+    (sizes : Sizes) (words : Words) (views : Views) (states : States) (i : ℕ) → i < sizes.processes → RecordsHold sizes words views states
+    → OverlayIsFew sizes (views i)

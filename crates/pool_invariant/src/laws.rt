@@ -1,5 +1,6 @@
 //! Each law is the contract of a call that does nothing.
-ghost use Rattle.pool_invariant.specs.Laws.{OpeningMeetsPool, BeginningsKeepPool, StepsKeepPool, StepsCanCount, RepliesCanEnd, PlansWithinTable, StepsAreLeft, StepsComeNearer, TransfersEnd, OverlaysAreFew};
+ghost use Rattle.pool_invariant.specs.Laws.{OpeningMeetsPool, BeginningsKeepPool, StepsKeepPool, StepsCanCount};
+ghost use Rattle.pool_invariant.specs.Laws.{RepliesCanEnd, PlansWithinTable, StepsAreLeft, StepsComeNearer, TransfersEnd, OverlaysAreFew};
 
 /// The facts of a process's pool hold at the opening.
 pub fn opening()

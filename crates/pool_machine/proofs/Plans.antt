@@ -105,14 +105,16 @@ ended_fits sizes reply.Gave pool h = end_fits sizes true pool.plan h
 counted_fits : (sizes : Sizes) (x : schedule.Numbers) → PlanFits sizes x → PlanFits sizes (schedule.after_steps 1 x)
 counted_fits sizes x h = record { length = h.length; bound = h.bound; quantum = h.quantum }
 
-moved_fits : (sizes : Sizes) (word : ℕ) (pool : PoolView) (s : NextStep) → PlanFits sizes pool.plan → PlanFits sizes (pool_met_at word pool s).plan
+moved_fits : (sizes : Sizes) (word : ℕ) (pool : PoolView) (s : NextStep) → PlanFits sizes pool.plan
+    → PlanFits sizes (pool_met_at word pool s).plan
 moved_fits sizes word pool Rest h = h
 moved_fits sizes word pool Announce h = counted_fits sizes pool.plan h
 moved_fits sizes word pool (Try second step) h = counted_fits sizes pool.plan h
 moved_fits sizes word pool LoadFinalState h = counted_fits sizes pool.plan h
 moved_fits sizes word pool LoadReply h = ended_fits sizes (reply_of (value_of word)) (step_counted pool) (counted_fits sizes pool.plan h)
 
-met_fits_at : (sizes : Sizes) (v : ProcessView) (word : ℕ) (s : CallStage) → PlanFits sizes v.pool.plan → PlanFits sizes (call_met_at sizes v word s).pool.plan
+met_fits_at : (sizes : Sizes) (v : ProcessView) (word : ℕ) (s : CallStage) → PlanFits sizes v.pool.plan
+    → PlanFits sizes (call_met_at sizes v word s).pool.plan
 met_fits_at sizes v word Between h = h
 met_fits_at sizes v word Choosing h = h
 met_fits_at sizes v word Moving h = moved_fits sizes word v.pool v.transfer.next h

@@ -41,13 +41,14 @@ before_call v = begun_if_due (due v.pool) v
 abbrev pub first_stage : ProcessView → CallStage
 first_stage v = if schedule.is_idle v.pool.plan.pending then Own else Moving
 
--- a call begins at that stage; all but a search have no more to choose
-abbrev pub entered_so : Bool → Call → CallStage → ProcessView → ProcessView
-entered_so chosen call stage v =
+-- a call begins at that stage; `chosen` says whether it begins no transfer later
+abbrev pub entered_with : Bool → Call → CallStage → ProcessView → ProcessView
+entered_with chosen call stage v =
     record v { calls = record { stage = stage; call = Some call; steps = 0; chosen = chosen; way = Calls } }
 
+-- so does every call but a search that meets a transfer: what was due began with it
 abbrev pub entered : Call → CallStage → ProcessView → ProcessView
-entered call stage v = entered_so true call stage v
+entered call stage v = entered_with true call stage v
 
 -- a search with nothing pending chooses: it begins the transfer that is due, if any
 abbrev pub search_chosen : ProcessView → ProcessView
@@ -56,9 +57,10 @@ search_chosen v = entered Search (first_stage (before_call v)) (before_call v)
 -- a search begins, by whether nothing is pending: else it first makes the steps of the transfer that it met
 abbrev pub search_begun_by : Bool → ProcessView → ProcessView
 search_begun_by true v = search_chosen v
-search_begun_by false v = entered_so false Search Moving v
+search_begun_by false v = entered_with false Search Moving v
 
--- a call begins: an allocate or a free with the transfer that is due, a read or a write at its own step at once
+-- a call begins: an allocate or a free with the transfer that is due, a read or a write at its own step at once, a search with the
+-- transfer that it met, or chooses
 abbrev pub call_begun : Call → ProcessView → ProcessView
 call_begun Allocate v = entered Allocate (first_stage (before_call v)) (before_call v)
 call_begun (Free block) v = entered (Free block) (first_stage (before_call v)) (before_call v)

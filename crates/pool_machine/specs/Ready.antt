@@ -34,7 +34,7 @@ pub record CanBegin (v : ProcessView) : Type 0 where
   pub heads : length v.pool.heads ≡ v.pool.plan.spares
   pub fits : v.pool.plan.spares ≡ 3 → newest v.pool < most_blocks
 
--- a call that makes steps in its pace has made fewer than a quantum
+-- a call that makes at most a quantum of transfer steps has made fewer
 pub record HasStepLeft (sizes : Sizes) (v : ProcessView) : Type 0 where
   pub few : is_paced v.calls.call ≡ true → v.calls.steps < sizes.quantum
 

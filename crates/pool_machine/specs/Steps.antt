@@ -1,4 +1,5 @@
--- one step of a call: of the pending transfer until a quantum of them is made or the transfer ends, then the own one
+-- one step of a call: of the pending transfer until a quantum of them is made or the transfer ends, then the own one; a search runs
+-- whole transfers
 use Rattle.std.specs.Prelude.{ℕ, ◌+◌, ◌==◌, ◌||◌, Bool, true, false, if◌then◌else◌, Option, None, Some}
 use Rattle.word_layout.specs.Sizes.{Sizes}
 use Rattle.word_layout.specs.declared.name.WordName.TheVariants.{State}
@@ -36,11 +37,11 @@ call_action sizes v = call_action_at sizes v v.calls.stage
 abbrev pub after_move : ℕ → ℕ → NextStep → CallStage
 after_move quantum steps next = if is_rest next || (steps == quantum) then Own else Moving
 
--- where a search stands: one that has chosen follows with its own step
+-- where a search stands after one more step of its transfer: as that ends it is to choose, or, where it has chosen, at its own step
 abbrev pub after_search_move : Bool → NextStep → CallStage
 after_search_move chosen next = if is_rest next then (if chosen then Own else Choosing) else Moving
 
--- whether a call makes steps of a transfer in its own pace, at most a quantum: all but a search
+-- whether a call makes at most a quantum of steps of a transfer: all but a search do
 abbrev pub is_paced : Option Call → Bool
 is_paced None = true
 is_paced (Some Allocate) = true
@@ -49,11 +50,12 @@ is_paced (Some (Read block index)) = true
 is_paced (Some (Write block index value)) = true
 is_paced (Some Search) = false
 
--- where any call stands after one more step of its transfer, and how many steps it then counts
+-- where any call stands after one more step of its transfer
 abbrev pub stage_after : Bool → Bool → ℕ → ℕ → NextStep → CallStage
 stage_after true chosen quantum steps next = after_move quantum (steps + 1) next
 stage_after false chosen quantum steps next = after_search_move chosen next
 
+-- how many steps it then counts
 abbrev pub steps_after : Bool → ℕ → ℕ
 steps_after true steps = steps + 1
 steps_after false steps = steps
@@ -62,10 +64,12 @@ steps_after false steps = steps
 abbrev pub move_counted : Sizes → ProcessView → ProcessView
 move_counted sizes v =
     let paced = is_paced v.calls.call in
-    record v { calls = record v.calls {
-      stage = stage_after paced v.calls.chosen sizes.quantum v.calls.steps v.transfer.next;
-      steps = steps_after paced v.calls.steps;
-    } }
+    record v {
+      calls = record v.calls {
+        stage = stage_after paced v.calls.chosen sizes.quantum v.calls.steps v.transfer.next;
+        steps = steps_after paced v.calls.steps;
+      };
+    }
 
 -- the view after its next step at that stage met this word
 abbrev pub call_met_at : Sizes → ProcessView → ℕ → CallStage → ProcessView

@@ -4,7 +4,7 @@ ghost use Rattle.word_layout.specs.Packing.{FitsWish};
 ghost use Rattle.transfer_schedule.specs.declared.pending.Pending.TheVariants.{Idle};
 ghost use Rattle.transfer_machine.specs.declared.stage.NextStep.TheVariants.{Rest};
 ghost use Rattle.pool_machine.specs.Pools.{MayBegin};
-ghost use Rattle.pool_machine.specs.Beginning.{newest, due, before_call, first_stage, entered, search_chosen, search_begun_by, call_begun, alone_begun};
+ghost use Rattle.pool_machine.specs.Beginning.{newest, due, before_call, first_stage, entered_with, search_chosen, call_begun, alone_begun};
 ghost use Rattle.pool_machine.specs.Ready.{CanBegin};
 
 use crate::call::{Call, CallStage, CallView, Way};
@@ -44,7 +44,8 @@ pub fn before_call(view: &mut ProcessView)
 }
 
 /// Begins a call. An allocate or a free begins the transfer that is due; where one is pending then, also one
-/// that waited, the call first makes steps of it. A read or a write is at its own step at once.
+/// that waited, the call first makes steps of it. A read or a write is at its own step at once. A search first runs
+/// a pending transfer to its end, and begins what is due once nothing is pending.
 pub fn begin_call(view: &mut ProcessView, call: Call)
     requires can { CanBegin view.old }
     ensures { view.new ≡ call_begun call view.old }
@@ -53,40 +54,27 @@ pub fn begin_call(view: &mut ProcessView, call: Call)
         Call::Allocate | Call::Free { .. } => {
             before_call(view);
             let stage = first_stage(view);
-            enter(view, call, stage);
+            enter(view, call, stage, true);
         }
-        Call::Read { .. } | Call::Write { .. } => enter(view, call, CallStage::Own),
+        Call::Read { .. } | Call::Write { .. } => enter(view, call, CallStage::Own, true),
         Call::Search => {
             if view.pool.plan.pending() == Pending::Idle {
                 choose(view);
             } else {
-                meet(view);
+                enter(view, Call::Search, CallStage::Moving, false);
             }
         }
     }
 }
 
-/// A search with nothing pending begins the transfer that is due, if any.
+/// A search with nothing pending chooses: it begins the transfer that is due, if any, and begins no other after it.
 pub fn choose(view: &mut ProcessView)
     requires can { CanBegin view.old }
     ensures { view.new ≡ search_chosen view.old }
 {
     before_call(view);
     let stage = first_stage(view);
-    enter(view, Call::Search, stage);
-}
-
-/// A search begins in the midst of a transfer.
-fn meet(view: &mut ProcessView)
-    ensures { view.new ≡ search_begun_by false view.old }
-{
-    view.calls = CallView {
-        stage: CallStage::Moving,
-        call: Some(Call::Search),
-        steps: 0,
-        chosen: false,
-        way: Way::Calls,
-    };
+    enter(view, Call::Search, stage, true);
 }
 
 /// Where an allocate or a free stands as it begins.
@@ -114,15 +102,15 @@ pub fn begin_transfer(view: &mut ProcessView, wish: Wish)
     view.calls.way = Way::Alone;
 }
 
-/// Notes the call and its stage.
-fn enter(view: &mut ProcessView, call: Call, stage: CallStage)
-    ensures { view.new ≡ entered call stage view.old }
+/// Notes the call and its stage, and whether it begins no transfer later.
+fn enter(view: &mut ProcessView, call: Call, stage: CallStage, chosen: bool)
+    ensures { view.new ≡ entered_with chosen call stage view.old }
 {
     view.calls = CallView {
         stage,
         call: Some(call),
         steps: 0,
-        chosen: true,
+        chosen,
         way: Way::Calls,
     };
 }

@@ -56,7 +56,7 @@ impl Way {
 pub enum CallStage {
     /// In no call.
     Between,
-    /// In a search whose met transfer has ended: with its next step it begins the one that is due, if any.
+    /// In a search whose met transfer has ended: before its next step it begins the one that is due, if any.
     Choosing,
     /// At a step of the pending transfer.
     Moving,
@@ -73,7 +73,8 @@ pub struct CallView {
     pub call: Option<Call>,
     /// How many steps of its quantum an allocate or a free has made.
     pub steps: u32,
-    /// Whether a search has begun the transfer that was due, or found none due.
+    /// Whether the call begins no transfer any more. A search that met one chooses once that has ended: it begins what is
+    /// due then, if anything.
     pub chosen: bool,
     /// How the process has used its pool so far.
     pub way: Way,

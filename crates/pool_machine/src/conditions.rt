@@ -12,7 +12,9 @@ pub fn may_call(view: &ProcessView, shape: &Shape, call: Call, holds: bool) -> b
     ensures test { result ≡ may_call shape.now holds call view.now }
     ensures fact { IsTrue result ↔ MayCall shape.now holds call view.now }
 {
-    view.calls.way.may_use_calls() && is_young_for(view, shape, call) && names_fit(shape, call, holds)
+    view.calls.way.may_use_calls()
+        && is_young_for(view, shape, call)
+        && names_fit(shape, call, holds)
 }
 
 /// Whether a process may begin a transfer alone, outside any call.

@@ -200,10 +200,12 @@ pub fn own_answer(view: &ProcessView, call: Option<Call>, shape: &Shape, word: u
 {
     let by = view.transfer.number;
     match call {
-        Some(Call::Allocate | Call::Search) => OwnAnswer::Recorded(match next_block(&view.pool, shape) {
-            None => Entry::Dry { by },
-            Some(block) => Entry::Got { by, block },
-        }),
+        Some(Call::Allocate | Call::Search) => OwnAnswer::Recorded(
+            match next_block(&view.pool, shape) {
+                None => Entry::Dry { by },
+                Some(block) => Entry::Got { by, block },
+            },
+        ),
         Some(Call::Free { block }) => OwnAnswer::Recorded(Entry::Back { by, block }),
         Some(Call::Read { .. }) | None => OwnAnswer::Loaded(word),
         Some(Call::Write { .. }) => OwnAnswer::Stored,

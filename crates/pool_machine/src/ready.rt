@@ -3,7 +3,8 @@ ghost use Rattle.std.specs.Prelude.{◌≡◌, ◌≢◌, ◌↔◌, IsTrue};
 ghost use Rattle.transfer_schedule.specs.Numbers.{source_of, target_of};
 ghost use Rattle.transfer_machine.specs.Machine.{CanAct};
 ghost use Rattle.pool_machine.specs.Pools.{CanEnd};
-ghost use Rattle.pool_machine.specs.Ready.{PlanFits, CanBegin, HasStepLeft, CanGoOn, CanMove, CanMeetMoving, CanActCall, CanMeetCall, CanStepCall};
+ghost use Rattle.pool_machine.specs.Ready.{PlanFits, CanBegin, HasStepLeft, CanGoOn, CanMove, CanMeetMoving, CanActCall, CanMeetCall};
+ghost use Rattle.pool_machine.specs.Ready.{CanStepCall};
 ghost use Rattle.pool_machine.specs.Ready.{CanAllocate, CanFree, CanFollow, CanOwn, CanMeetOwn};
 
 use crate::begin::newest;
@@ -71,7 +72,7 @@ fn can_move(view: &ProcessView, shape: &Shape) -> bool
     can_go_on(view, shape) && has_step_left(view, shape)
 }
 
-/// Whether its transfer can.
+/// Whether its transfer can make one more step.
 fn can_go_on(view: &ProcessView, shape: &Shape) -> bool
     requires { PlanFits shape.now view.now.pool.plan }
     ensures { IsTrue result ↔ CanGoOn shape.now view.now }
@@ -83,7 +84,7 @@ fn can_go_on(view: &ProcessView, shape: &Shape) -> bool
         && 1 <= shape.quantum()
 }
 
-/// Whether a call that makes steps in its pace has made fewer than a quantum.
+/// Whether a call that makes at most a quantum of them has made fewer.
 fn has_step_left(view: &ProcessView, shape: &Shape) -> bool
     ensures { IsTrue result ↔ HasStepLeft shape.now view.now }
 {

@@ -90,7 +90,8 @@ pub fn is_paced(call: Option<Call>) -> bool
     ensures { result ≡ is_paced call }
 {
     match call {
-        None | Some(Call::Allocate | Call::Free { .. } | Call::Read { .. } | Call::Write { .. }) => true,
+        None | Some(Call::Allocate | Call::Free { .. } | Call::Read { .. } | Call::Write { .. }) =>
+            true,
         Some(Call::Search) => false,
     }
 }

@@ -1,5 +1,6 @@
 -- What a plain pool's calls make of the blocks that are held.
-use Rattle.std.proofs.Common.{◌≡◌, ℕ, ◌+◌, ◌<◌, ◌≤◌, ◌↔◌, Bool, true, false, eqb, refl, sym, subst, inl, inr, arith, List, [], ◌∷◌, ◌++◌, length, take, get_or, length-append}
+use Rattle.std.proofs.Common.{◌≡◌, ℕ, ◌+◌, ◌<◌, ◌≤◌, ◌↔◌, Bool, true, false, eqb, refl, sym, subst, inl}
+use Rattle.std.proofs.Common.{inr, arith, List, [], ◌∷◌, ◌++◌, length, take, get_or, length-append}
 use Rattle.std.specs.List.{Contains, list_any, IsDistinct}
 use Rattle.std.proofs.lemmas.List.Elements.{Contains-append_left, Contains-push, Contains-push_cases}
 use Rattle.std.proofs.lemmas.Bool.{cases_eq, cases_lt}
@@ -22,6 +23,7 @@ use Rattle.std.proofs.lemmas.Map.Steps.{length-le_from_distinct_below, le-length
 use Rattle.std.proofs.lemmas.Map.Views.{Contains-from_any, list_any-from_Contains}
 use Rattle.pool_model.specs.Kept.{IsKept}
 
+-- an opened pool, which gave no block yet, keeps what it must where it has room for all blocks
 pub kept_open : (blocks capacity : ℕ) → blocks ≤ capacity → IsKept blocks 0 [] capacity
 unfolding IsDistinct
 kept_open blocks capacity room = record { within = omega arith; below = λ k d lt. absurd (omega arith); once = tt; room = room }
@@ -48,18 +50,28 @@ not_any block xs out = go (list_any (eqb block) xs) (λ e. Contains-from_any eqb
     go true f = absurd (out (f refl))
     go false f = refl
 
-kept_front : (blocks given capacity : ℕ) (rest : List ℕ) (block : ℕ) → IsKept blocks given (rest ++ block ∷ []) capacity → IsKept blocks given rest capacity
+kept_front : (blocks given capacity : ℕ) (rest : List ℕ) (block : ℕ) → IsKept blocks given (rest ++ block ∷ []) capacity
+    → IsKept blocks given rest capacity
 kept_front blocks given capacity rest block kept = record {
   within = kept.within;
-  below = All-same (λ b. b < given) rest (take (length rest) (rest ++ block ∷ [])) (sym (take_at rest (block ∷ []) (length rest) refl)) (All-take (λ b. b < given) (length rest) (rest ++ block ∷ []) kept.below);
+  below =
+      All-same (λ b. b < given) rest (take (length rest) (rest ++ block ∷ [])) (sym (take_at rest (block ∷ []) (length rest) refl))
+      (All-take (λ b. b < given) (length rest) (rest ++ block ∷ []) kept.below);
   once = distinct_front rest block kept.once;
   room = kept.room;
 }
 
-pub kept_pop : (blocks given capacity : ℕ) (returned rest : List ℕ) (block : ℕ) → returned ≡ rest ++ block ∷ [] → IsKept blocks given returned capacity → IsKept blocks given rest capacity
-kept_pop blocks given capacity returned rest block same kept = kept_front blocks given capacity rest block (subst (λ (bs : List ℕ). IsKept blocks given bs capacity) same kept)
+-- a pool keeps what it must when the last block that came back is given again
+pub kept_pop : (blocks given capacity : ℕ) (returned rest : List ℕ) (block : ℕ) → returned ≡ rest ++ block ∷ []
+    → IsKept blocks given returned capacity
+    → IsKept blocks given rest capacity
+kept_pop blocks given capacity returned rest block same kept =
+    kept_front blocks given capacity rest block (subst (λ (bs : List ℕ). IsKept blocks given bs capacity) same kept)
 
-pub kept_push : (blocks given capacity later : ℕ) (returned : List ℕ) (block : ℕ) → capacity ≤ later → block < given → ¬ Contains returned block → IsKept blocks given returned capacity → IsKept blocks given (returned ++ block ∷ []) later
+-- it keeps it when a held block comes back, as long as its room didn't shrink
+pub kept_push : (blocks given capacity later : ℕ) (returned : List ℕ) (block : ℕ) → capacity ≤ later → block < given
+    → ¬ Contains returned block → IsKept blocks given returned capacity
+    → IsKept blocks given (returned ++ block ∷ []) later
 kept_push blocks given capacity later returned block grown lt out kept = record {
   within = kept.within;
   below = All-push (λ b. b < given) returned block kept.below lt;
@@ -68,20 +80,25 @@ kept_push blocks given capacity later returned block grown lt out kept = record 
 }
 
 -- a held block leaves room for itself among those that came back
-pub has_room : (blocks given capacity : ℕ) (returned : List ℕ) (block : ℕ) → block < given → ¬ Contains returned block → IsKept blocks given returned capacity → length returned < capacity
+pub has_room : (blocks given capacity : ℕ) (returned : List ℕ) (block : ℕ) → block < given → ¬ Contains returned block
+    → IsKept blocks given returned capacity
+    → length returned < capacity
 has_room blocks given capacity returned block lt out kept =
-    let more : IsKept blocks given (returned ++ block ∷ []) capacity = kept_push blocks given capacity capacity returned block (omega arith) lt out kept in
+    let more : IsKept blocks given (returned ++ block ∷ []) capacity =
+    kept_push blocks given capacity capacity returned block (omega arith) lt out kept in
     omega (
       arith,
       length-append returned (block ∷ []),
       kept.room,
       kept.within,
-      length-le_from_distinct_below (returned ++ block ∷ []) given more.once (λ q e. All-contains (λ b. b < given) _ q more.below (Contains-from_any eqb-true q _ e)),
+      length-le_from_distinct_below (returned ++ block ∷ []) given more.once
+          (λ q e. All-contains (λ b. b < given) _ q more.below (Contains-from_any eqb-true q _ e)),
     )
 
 -- the pool gives the last block that came back
 gives_front : (blocks given : ℕ) (rest : List ℕ) (block : ℕ) → given ≤ blocks → block < given → ¬ Contains rest block
-    → Gives (record { blocks = blocks; given = given; returned = rest ++ block ∷ [] }) (record { blocks = blocks; given = given; returned = rest }) block
+    → Gives (record { blocks = blocks; given = given; returned = rest ++ block ∷ [] })
+    (record { blocks = blocks; given = given; returned = rest }) block
 gives_front blocks given rest block within lt out = record {
   within = omega arith;
   free = λ h. h.1 (Contains-push rest block);
@@ -98,21 +115,29 @@ gives_front blocks given rest block within lt out = record {
   blocks = refl;
 }
 
-pub gives_last : (blocks given capacity : ℕ) (returned rest : List ℕ) (block : ℕ) → returned ≡ rest ++ block ∷ [] → IsKept blocks given returned capacity
-    → Gives (record { blocks = blocks; given = given; returned = returned }) (record { blocks = blocks; given = given; returned = rest }) block
+-- where a block came back, a pool that keeps what it must gives the last that did
+pub gives_last : (blocks given capacity : ℕ) (returned rest : List ℕ) (block : ℕ) → returned ≡ rest ++ block ∷ []
+    → IsKept blocks given returned capacity
+    → Gives (record { blocks = blocks; given = given; returned = returned })
+    (record { blocks = blocks; given = given; returned = rest }) block
 gives_last blocks given capacity returned rest block same kept =
     let whole : IsKept blocks given (rest ++ block ∷ []) capacity = subst (λ (bs : List ℕ). IsKept blocks given bs capacity) same kept in
-    subst (λ (bs : List ℕ). Gives (record { blocks = blocks; given = given; returned = bs }) (record { blocks = blocks; given = given; returned = rest }) block) (sym same)
-    (gives_front blocks given rest block whole.within (All-contains (λ b. b < given) (rest ++ block ∷ []) block whole.below (Contains-push rest block)) (last_apart rest block whole.once))
+    subst (λ (bs : List ℕ). Gives (record { blocks = blocks; given = given; returned = bs })
+    (record { blocks = blocks; given = given; returned = rest }) block) (sym same)
+    (gives_front blocks given rest block whole.within (All-contains (λ b. b < given) (rest ++ block ∷ []) block whole.below
+    (Contains-push rest block)) (last_apart rest block whole.once))
 
 -- a block that came back is not held
-pub not_full : (blocks given capacity : ℕ) (returned rest : List ℕ) (block : ℕ) → returned ≡ rest ++ block ∷ [] → IsKept blocks given returned capacity → IsFull (record { blocks = blocks; given = given; returned = returned }) → ⊥
+pub not_full : (blocks given capacity : ℕ) (returned rest : List ℕ) (block : ℕ) → returned ≡ rest ++ block ∷ []
+    → IsKept blocks given returned capacity → IsFull (record { blocks = blocks; given = given; returned = returned })
+    → ⊥
 not_full blocks given capacity returned rest block same kept full =
     let there : Contains returned block = subst (λ (bs : List ℕ). Contains bs block) (sym same) (Contains-push rest block) in
     (full block (omega (arith, kept.within, All-contains (λ b. b < given) returned block kept.below there))).1 there
 
 gives_number : (blocks given : ℕ) (returned : List ℕ) → given < blocks → All (λ b. b < given) returned
-    → Gives (record { blocks = blocks; given = given; returned = returned }) (record { blocks = blocks; given = given + 1; returned = returned }) given
+    → Gives (record { blocks = blocks; given = given; returned = returned })
+    (record { blocks = blocks; given = given + 1; returned = returned }) given
 gives_number blocks given returned lt below = record {
   within = lt;
   free = λ h. omega (arith, h.0);
@@ -127,31 +152,40 @@ gives_number blocks given returned lt below = record {
 }
 
 -- the pool gives the next number
-pub gives_next : (blocks given capacity : ℕ) (returned left : List ℕ) (old : Plain) → record { blocks = blocks; given = given; returned = returned } ≡ old → returned ≡ left → given < blocks → IsKept blocks given returned capacity
+pub gives_next : (blocks given capacity : ℕ) (returned left : List ℕ) (old : Plain)
+    → record { blocks = blocks; given = given; returned = returned } ≡ old → returned ≡ left → given < blocks
+    → IsKept blocks given returned capacity
     → Gives old (record { blocks = blocks; given = given + 1; returned = left }) given
 gives_next blocks given capacity returned left old is same lt kept =
     subst (λ (pool : Plain). Gives pool (record { blocks = blocks; given = given + 1; returned = left }) given) is
-    (subst (λ (bs : List ℕ). Gives (record { blocks = blocks; given = given; returned = returned }) (record { blocks = blocks; given = given + 1; returned = bs }) given) same
+    (subst (λ (bs : List ℕ). Gives (record { blocks = blocks; given = given; returned = returned })
+    (record { blocks = blocks; given = given + 1; returned = bs }) given) same
     (gives_number blocks given returned lt kept.below))
 
 -- the pool takes a block back
 pub takes_back : (blocks given : ℕ) (returned : List ℕ) (block : ℕ)
-    → Takes (record { blocks = blocks; given = given; returned = returned }) (record { blocks = blocks; given = given; returned = returned ++ block ∷ [] }) block
+    → Takes (record { blocks = blocks; given = given; returned = returned })
+    (record { blocks = blocks; given = given; returned = returned ++ block ∷ [] }) block
 takes_back blocks given returned block = record {
   held = λ other. (
-    (λ h. ((h.0, λ c. h.1 (Contains-append_left returned (block ∷ []) other c)), λ e. h.1 (let P : ℕ → Type 0 = λ b. Contains (returned ++ block ∷ []) b in subst P (sym e) (Contains-push returned block)))),
+    (λ h. (
+      (h.0, λ c. h.1 (Contains-append_left returned (block ∷ []) other c)),
+      λ e. h.1 (let P : ℕ → Type 0 = λ b. Contains (returned ++ block ∷ []) b in subst P (sym e) (Contains-push returned block)),
+    )),
     (λ h. (h.0.0, λ c. elim (Contains-push_cases returned block other c) [ inl d ↦ h.0.1 d | inr e ↦ h.1 (sym e) ])),
   );
   blocks = refl;
 }
 
 -- what an allocate that was given a block makes of the histories that left the pool so
-pub left_by_got : (past : List Entry) (i block : ℕ) (old new : Plain) → IsLeftBy past old → Gives old new block → IsLeftBy (past ++ Got i block ∷ []) new
+pub left_by_got : (past : List Entry) (i block : ℕ) (old new : Plain) → IsLeftBy past old → Gives old new block
+    → IsLeftBy (past ++ Got i block ∷ []) new
 left_by_got past i block old new left gives other = (
-  (λ c. elim (contains_cons_cases other block (held past) (let P : List ℕ → Type 0 = λ bs. Contains bs other in subst P (held_more past (Got i block)) c)) [
-    | inl e ↦ (gives.held other).1 (inr (sym e))
-    | inr d ↦ (gives.held other).1 (inl ((left other).0 d))
-  ]),
+  (λ c. elim (contains_cons_cases other block (held past)
+      (let P : List ℕ → Type 0 = λ bs. Contains bs other in subst P (held_more past (Got i block)) c)) [
+        | inl e ↦ (gives.held other).1 (inr (sym e))
+        | inr d ↦ (gives.held other).1 (inl ((left other).0 d))
+      ]),
   (λ h. let P : List ℕ → Type 0 = λ bs. Contains bs other in subst P (sym (held_more past (Got i block)))
       (elim ((gives.held other).0 h) [
         | inl d ↦ contains_tail other block (held past) ((left other).1 d)
@@ -161,15 +195,19 @@ left_by_got past i block old new left gives other = (
 
 -- a refusal changes nothing
 pub left_by_dry : (past : List Entry) (i : ℕ) (pool : Plain) → IsLeftBy past pool → IsLeftBy (past ++ Dry i ∷ []) pool
-left_by_dry past i pool left other = let P : List ℕ → Type 0 = λ bs. Contains bs other ↔ IsHeld pool other in subst P (sym (held_more past (Dry i))) (left other)
+left_by_dry past i pool left other =
+    let P : List ℕ → Type 0 = λ bs. Contains bs other ↔ IsHeld pool other in subst P (sym (held_more past (Dry i))) (left other)
 
 -- what a free makes of the histories that left the pool so
-pub left_by_back : (past : List Entry) (i block : ℕ) (old new : Plain) → IsLeftBy past old → Takes old new block → IsLeftBy (past ++ Back i block ∷ []) new
+pub left_by_back : (past : List Entry) (i block : ℕ) (old new : Plain) → IsLeftBy past old → Takes old new block
+    → IsLeftBy (past ++ Back i block ∷ []) new
 left_by_back past i block old new left takes other = (
-  (λ c. let kept : Contains (held past) other × ¬ (other ≡ block) = contains_without block other (held past) (let P : List ℕ → Type 0 = λ bs. Contains bs other in subst P (held_more past (Back i block)) c) in
+  (λ c. let kept : Contains (held past) other × ¬ (other ≡ block) = contains_without block other (held past)
+      (let P : List ℕ → Type 0 = λ bs. Contains bs other in subst P (held_more past (Back i block)) c) in
       (takes.held other).1 ((left other).0 kept.0, kept.1)),
   (λ h. let was : IsHeld old other × ¬ (other ≡ block) = (takes.held other).0 h in
-      let P : List ℕ → Type 0 = λ bs. Contains bs other in subst P (sym (held_more past (Back i block))) (without_contains block other (held past) ((left other).1 was.0) was.1)),
+      let P : List ℕ → Type 0 = λ bs. Contains bs other in
+      subst P (sym (held_more past (Back i block))) (without_contains block other (held past) ((left other).1 was.0) was.1)),
 )
 
 -- a pool that no history has left yet
@@ -178,15 +216,25 @@ left_by_none blocks other = ((λ c. absurd (contains_nil other c)), (λ h. absur
 
 -- where all blocks are held, a history that left the pool so holds as many
 pub full_held : (past : List Entry) (pool : Plain) → IsLeftBy past pool → IsFull pool → pool.blocks ≤ length (held past)
-full_held past pool left full = le-length_from_below (held past) pool.blocks (λ q lt. list_any-from_Contains nat_eq_equiv q (held past) ((left q).1 (full q lt)))
+full_held past pool left full =
+    le-length_from_below (held past) pool.blocks (λ q lt. list_any-from_Contains nat_eq_equiv q (held past) ((left q).1 (full q lt)))
 
 -- where all blocks are held, none is unheld
-pub full_unheld : (limits : Limits) (past : List Entry) (pool : Plain) → limits.blocks ≡ pool.blocks → IsLeftBy past pool → IsFull pool → unheld limits past (length past) ≡ 0
-full_unheld limits past pool same left full = rw (take_all (length past) past (omega arith)) (omega (arith, same, full_held past pool left full))
+pub full_unheld : (limits : Limits) (past : List Entry) (pool : Plain) → limits.blocks ≡ pool.blocks → IsLeftBy past pool → IsFull pool
+    → unheld limits past (length past) ≡ 0
+full_unheld limits past pool same left full =
+    rw (take_all (length past) past (omega arith)) (omega (arith, same, full_held past pool left full))
 
 -- the entries of a plain pool's calls may follow
-pub got_may_follow : (limits : Limits) (past : List Entry) (i block : ℕ) (old new : Plain) → i < limits.processes → limits.blocks ≡ old.blocks → IsLeftBy past old → Gives old new block → MayFollow limits past (Got i block)
-got_may_follow limits past i block old new process same left gives = (process, omega (arith, same, gives.within), λ c. gives.free ((left block).0 c))
+pub got_may_follow : (limits : Limits) (past : List Entry) (i block : ℕ) (old new : Plain) → i < limits.processes
+    → limits.blocks ≡ old.blocks → IsLeftBy past old → Gives old new block
+    → MayFollow limits past (Got i block)
+got_may_follow limits past i block old new process same left gives =
+    (process, omega (arith, same, gives.within), λ c. gives.free ((left block).0 c))
 
-pub dry_may_follow : (limits : Limits) (past : List Entry) (i : ℕ) (pool : Plain) → i < limits.processes → 0 < limits.batch_length → limits.blocks ≡ pool.blocks → IsLeftBy past pool → IsFull pool → MayFollow limits past (Dry i)
-dry_may_follow limits past i pool process long same left full = full_may_follow limits past i process long (full_unheld limits past pool same left full)
+-- nor does a refusal ask more of the past than that all blocks are held
+pub dry_may_follow : (limits : Limits) (past : List Entry) (i : ℕ) (pool : Plain) → i < limits.processes → 0 < limits.batch_length
+    → limits.blocks ≡ pool.blocks → IsLeftBy past pool → IsFull pool
+    → MayFollow limits past (Dry i)
+dry_may_follow limits past i pool process long same left full =
+    full_may_follow limits past i process long (full_unheld limits past pool same left full)

@@ -1,3 +1,4 @@
+-- What a plain pool's own fields meet between its calls.
 use Rattle.std.specs.Prelude.{ℕ, ◌<◌, ◌≤◌, List, All, eqb}
 use Rattle.std.specs.List.{IsDistinct}
 

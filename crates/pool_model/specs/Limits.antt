@@ -1,3 +1,4 @@
+-- The numbers by which histories are judged: the most unheld blocks at a refusal, and how far back a refusal looks.
 use Rattle.std.specs.Prelude.{ℕ, ◌*◌}
 
 -- the numbers of a shape by which a history is judged: processes, blocks in all, blocks in a batch

@@ -1,3 +1,5 @@
+//! Want of memory as an error, and what the errors of std's allocator become.
+
 use std::alloc::{AllocError, AllocFailed};
 use std::error::Error;
 use std::fmt;

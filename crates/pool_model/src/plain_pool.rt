@@ -49,8 +49,10 @@ impl PlainPool {
     /// Gives process `by` a block that nobody holds: the last that came back, else the next number. None
     /// exactly where all blocks are held, and then nothing changes. Takes no memory.
     pub fn get(&mut self, by: u32) -> Option<u32>
-        ensures returned { (rest : List ℕ) (block : ℕ) → self.old.returned ≡ rest ++ block ∷ [] → (result ≡ Some block) × (self.new ≡ record self.old { returned = rest }) }
-        ensures next { self.old.returned ≡ [] → self.old.given < self.old.blocks → (result ≡ Some self.old.given) × (self.new ≡ record self.old { given = self.old.given + 1 }) }
+        ensures returned { (rest : List ℕ) (block : ℕ) → self.old.returned ≡ rest ++ block ∷ []
+            → (result ≡ Some block) × (self.new ≡ record self.old { returned = rest }) }
+        ensures next { self.old.returned ≡ [] → self.old.given < self.old.blocks
+            → (result ≡ Some self.old.given) × (self.new ≡ record self.old { given = self.old.given + 1 }) }
         ensures full { IsNone result ↔ IsFull self.old }
         ensures none { IfNone result (self.new ≡ self.old) }
         ensures some { IfSome result (Gives self.old self.new) }

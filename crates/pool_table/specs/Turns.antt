@@ -7,8 +7,8 @@ use Rattle.pool_machine.specs.declared.call.Call.TheVariants.{Allocate, Free, Re
 use Rattle.pool_machine.specs.declared.call.CallStage.{CallStage}
 use Rattle.pool_machine.specs.declared.call.CallStage.TheVariants.{Between, Choosing, Moving, Own}
 use Rattle.pool_machine.specs.declared.view.ProcessView.{ProcessView}
-use Rattle.interleaving_core.specs.Invariant.{BlockIsHeld}
-use Rattle.interleaving_core.specs.Moves.{may_go_alone, moving_view, may_go, calling_view}
+use Rattle.interleaving_core.specs.CallConditions.{MayStepAlone, MayStepInCall}
+use Rattle.interleaving_core.specs.Moves.{moving_view, calling_view}
 use Rattle.interleaving_core.specs.Runs.{entries_of}
 use Rattle.interleaving_core.specs.StepLaws.{word_met}
 use Rattle.interleaving_core.specs.Steps.{is_alone, next_met, next_answer}
@@ -24,8 +24,8 @@ turning (InCall call) v = calling_view call v
 
 -- when a process may make a step about this: it goes on or may begin it, and holds the block that a call names
 abbrev pub MayTurn : Sizes → About → Mind → Type 0
-MayTurn sizes (Alone wish) mind = may_go_alone sizes wish mind.view ≡ true
-MayTurn sizes (InCall call) mind = (may_go sizes true call mind.view ≡ true) × BlockIsHeld (held_in mind) call
+MayTurn sizes (Alone wish) mind = MayStepAlone sizes wish mind.view
+MayTurn sizes (InCall call) mind = MayStepInCall sizes (held_in mind) call mind.view
 
 -- what its process has seen after a step that made these entries: all that seats have seen, and the entries
 abbrev pub seen_after : List Entry → List SeatView → List Entry → List Entry

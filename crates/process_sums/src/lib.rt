@@ -5,7 +5,8 @@
 //! for all crates above; the main ones are the contract of [`of_sums`].
 #![tactic(auto)]
 
-ghost use Rattle.process_sums.specs.Laws.{SameTermsHaveOneSum, OneTermMovesTheSum, TermsAreWithinTheSum, SumsAddUp, SumsHaveParts, SomeTermIsThere};
+ghost use Rattle.process_sums.specs.Laws.{SameTermsHaveOneSum, OneTermMovesTheSum, TermsAreWithinTheSum};
+ghost use Rattle.process_sums.specs.Laws.{SumsAddUp, SumsHaveParts, SomeTermIsThere};
 
 /// What holds of all sums: the contract of a call that does nothing.
 #[tactic(auto, using(crate::proofs::Sums::total_same, crate::proofs::Sums::total_sums, crate::proofs::Sums::total_parts, crate::proofs::Sums::some_term))]

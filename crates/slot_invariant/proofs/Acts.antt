@@ -24,11 +24,16 @@ is_or_not_slot s (Next block) = inr (λ e. cc)
 is_or_not_slot s (Data block index) = inr (λ e. cc)
 
 -- an action that leaves the word that it meets leaves all slots
-left_slot : (sizes : Sizes) (action : Action) (m n : Words) (s : ℕ) → Acted sizes action m n → left_by action (m (name_of action)) ≡ m (name_of action) → s < sizes.batches → (Slot s ≡ name_of action) ⊎ (Slot s ≢ name_of action) → n (Slot s) ≡ m (Slot s)
+left_slot : (sizes : Sizes) (action : Action) (m n : Words) (s : ℕ) → Acted sizes action m n
+    → left_by action (m (name_of action)) ≡ m (name_of action) → s < sizes.batches → (Slot s ≡ name_of action) ⊎ (Slot s ≢ name_of action)
+    → n (Slot s) ≡ m (Slot s)
 left_slot sizes action m n s a left h (inl e) = rw e (a.here ∙ left)
 left_slot sizes action m n s a left h (inr ne) = a.elsewhere (Slot s) h ne
 
-pub leaves_slots : (sizes : Sizes) (action : Action) (m n : Words) → Acted sizes action m n → left_by action (m (name_of action)) ≡ m (name_of action) → SlotsStay sizes m n
+-- so no slot changes by it
+pub leaves_slots : (sizes : Sizes) (action : Action) (m n : Words) → Acted sizes action m n
+    → left_by action (m (name_of action)) ≡ m (name_of action)
+    → SlotsStay sizes m n
 unfolding slot_tag slot_value
 leaves_slots sizes action m n a left = record {
   tags = λ s lt. ap tag_of (left_slot sizes action m n s a left lt (is_or_not_slot s (name_of action)));
@@ -36,14 +41,17 @@ leaves_slots sizes action m n a left = record {
 }
 
 -- so does one on a word that is no slot
-pub misses_slots : (sizes : Sizes) (action : Action) (m n : Words) → Acted sizes action m n → ((s : ℕ) → Slot s ≢ name_of action) → SlotsStay sizes m n
+pub misses_slots : (sizes : Sizes) (action : Action) (m n : Words) → Acted sizes action m n → ((s : ℕ) → Slot s ≢ name_of action)
+    → SlotsStay sizes m n
 unfolding slot_tag slot_value
 misses_slots sizes action m n a other =
     let slots : (s : ℕ) → s < sizes.batches → n (Slot s) ≡ m (Slot s) = λ s lt. a.elsewhere (Slot s) lt (other s) in
     record { tags = λ s lt. ap tag_of (slots s lt); values = λ s lt. ap value_of (slots s lt) }
 
 -- a slot is exchanged, or not
-pub slot_exchanged : (sizes : Sizes) (slot old tag value : ℕ) (m n : Words) → value < value_limit → (m (Slot slot) == old) ≡ true → Acted sizes (Exchange (Slot slot) old (tagged tag value)) m n → SlotExchanged sizes m n slot tag value
+pub slot_exchanged : (sizes : Sizes) (slot old tag value : ℕ) (m n : Words) → value < value_limit → (m (Slot slot) == old) ≡ true
+    → Acted sizes (Exchange (Slot slot) old (tagged tag value)) m n
+    → SlotExchanged sizes m n slot tag value
 unfolding slot_tag slot_value
 slot_exchanged sizes slot old tag value m n fits same a =
     let here : n (Slot slot) ≡ tagged tag value = rw same at a.here in
@@ -56,5 +64,8 @@ slot_exchanged sizes slot old tag value m n fits same a =
       values = λ s lt ne. ap value_of (slots s lt ne);
     }
 
-pub slot_not_exchanged : (sizes : Sizes) (slot old new : ℕ) (m n : Words) → (m (Slot slot) == old) ≡ false → Acted sizes (Exchange (Slot slot) old new) m n → SlotsStay sizes m n
+-- where the slot isn't the word that the exchange expects, no slot changes
+pub slot_not_exchanged : (sizes : Sizes) (slot old new : ℕ) (m n : Words) → (m (Slot slot) == old) ≡ false
+    → Acted sizes (Exchange (Slot slot) old new) m n
+    → SlotsStay sizes m n
 slot_not_exchanged sizes slot old new m n differs a = leaves_slots sizes (Exchange (Slot slot) old new) m n a (rw differs refl)

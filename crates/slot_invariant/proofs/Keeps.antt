@@ -12,7 +12,8 @@ use Rattle.transfer_machine.specs.declared.action.Action.TheVariants.{Load, Stor
 use Rattle.transfer_machine.specs.declared.stage.NextStep.{NextStep}
 use Rattle.transfer_machine.specs.declared.stage.NextStep.TheVariants.{Rest, Announce, Try, LoadFinalState, LoadReply}
 use Rattle.transfer_machine.specs.declared.stage.TryStep.{TryStep}
-use Rattle.transfer_machine.specs.declared.stage.TryStep.TheVariants.{LoadState, LoadRecordWord, LoadCoveredSlot, ExchangeSlot, LoadAnnouncement, LoadPoppedSlot, StoreRecordWord, ExchangeState}
+use Rattle.transfer_machine.specs.declared.stage.TryStep.TheVariants.{LoadState, LoadRecordWord, LoadCoveredSlot, ExchangeSlot}
+use Rattle.transfer_machine.specs.declared.stage.TryStep.TheVariants.{LoadAnnouncement, LoadPoppedSlot, StoreRecordWord, ExchangeState}
 use Rattle.transfer_invariant.specs.Memory.{Words, Views, States, Acted, Moved}
 use Rattle.transfer_invariant.specs.Installing.{states_after_at, states_after_try_step}
 use Rattle.transfer_invariant.specs.Invariant.{RecordsHold}
@@ -22,7 +23,8 @@ use Rattle.slot_invariant.specs.Slots.{SlotsInvariant}
 use Rattle.slot_invariant.specs.Laws.{DraftBelow}
 use Rattle.slot_invariant.proofs.Acts.{leaves_slots, misses_slots}
 use Rattle.slot_invariant.proofs.Own.{nothing_known}
-use Rattle.slot_invariant.proofs.Steps.{slots_stay, view_covers, record_word_known, announcement_known, popped_known, stored_known, covered_known}
+use Rattle.slot_invariant.proofs.Steps.{slots_stay, view_covers, record_word_known, announcement_known}
+use Rattle.slot_invariant.proofs.Steps.{popped_known, stored_known, covered_known}
 use Rattle.slot_invariant.proofs.Exchanges.{slot_exchange, state_exchange}
 
 -- the step at each stage of a try

@@ -21,10 +21,12 @@ use Rattle.slot_invariant.proofs.Own.{nothing_known}
 head_low : (t length most : ℕ) → 2 ≤ length → t * length + length ≤ most → t * length < most
 head_low t length most two within = omega arith
 
+-- the word in each slot of the opening is a block's number
 pub opening_slot_low : (sizes : Sizes) → IsShape sizes → (s : ℕ) → opening_slot sizes s < blocks sizes
 opening_slot_low sizes shape s = elim (cases_lt s (opening_base sizes)) [
   | inl low ↦ let test : nat_lt s (opening_base sizes) ≡ true = grind (arith, nat_tests) in
-      rw test (head_low (2 * sizes.processes + s) sizes.length (blocks sizes) (two_blocks_a_batch sizes shape) (batch_within_blocks sizes (2 * sizes.processes + s) (omega arith)))
+      rw test (head_low (2 * sizes.processes + s) sizes.length (blocks sizes) (two_blocks_a_batch sizes shape)
+      (batch_within_blocks sizes (2 * sizes.processes + s) (omega arith)))
   | inr high ↦ let test : nat_lt s (opening_base sizes) ≡ false = grind (arith, nat_tests) in
       rw test (let two = two_blocks_a_batch sizes shape in let most = length_le_blocks sizes shape in omega arith)
 ]
@@ -38,7 +40,8 @@ small_value : (word : ℕ) → word < value_limit → value_of word ≡ word
 unfolding value_of
 small_value word lt = omega arith
 
-module _ (sizes : Sizes) (words : Words) (shape : IsShape sizes) (opened : (name : WordName) → InRange sizes name → words name ≡ opening_word sizes name) where
+module _ (sizes : Sizes) (words : Words) (shape : IsShape sizes)
+    (opened : (name : WordName) → InRange sizes name → words name ≡ opening_word sizes name) where
   slot_small : (s : ℕ) → opening_slot sizes s < value_limit
   slot_small s = let low = opening_slot_low sizes shape s in let few = shape.few_blocks in omega arith
 
@@ -64,7 +67,9 @@ module _ (sizes : Sizes) (words : Words) (shape : IsShape sizes) (opened : (name
         values = λ s lt. rw (opened_slot_value s lt) (opening_slot_low sizes shape s);
       }
 
-  pub opened_slots : (views : Views) → ((i : ℕ) → i < sizes.processes → views i ≡ opening_transfer i) → SlotsInvariant sizes words views (λ m. opening_state sizes)
+  -- the opening meets the part on slots
+  pub opened_slots : (views : Views) → ((i : ℕ) → i < sizes.processes → views i ≡ opening_transfer i)
+      → SlotsInvariant sizes words views (λ m. opening_state sizes)
   opened_slots views seats = record {
     hold = opened_hold;
     known = λ i li. rw (seats i li) (nothing_known words (opening_transfer i) (length-replicate {A = ℕ} 32 0) refl);

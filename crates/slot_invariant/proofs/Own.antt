@@ -1,5 +1,6 @@
 -- what the moving view knows of the slots after its step
-use Rattle.std.proofs.Common.{◌≡◌, ℕ, ◌+◌, ◌<◌, ◌≤◌, Bool, true, false, refl, sym, ◌∙◌, inl, inr, arith, length, get_or, set, get_or-set_same, length-set}
+use Rattle.std.proofs.Common.{◌≡◌, ℕ, ◌+◌, ◌<◌, ◌≤◌, Bool, true, false, refl, sym, ◌∙◌, inl}
+use Rattle.std.proofs.Common.{inr, arith, length, get_or, set, get_or-set_same, length-set}
 use Rattle.std.proofs.lemmas.Bool.{cases_eq, false≢true}
 use Rattle.std.proofs.lemmas.Bool.Decides.{nat_tests}
 use Rattle.word_layout.specs.Packing.{tag_of, value_of}
@@ -10,7 +11,8 @@ use Rattle.transfer_machine.specs.declared.transfer.TransferView.{TransferView}
 use Rattle.transfer_machine.specs.declared.stage.NextStep.TheVariants.{Try}
 use Rattle.transfer_machine.specs.declared.stage.TryStep.TheVariants.{ExchangeSlot}
 use Rattle.transfer_invariant.specs.Memory.{Words, state_tag, slot_tag, slot_value}
-use Rattle.transfer_invariant.specs.Progress.{has_record, at_covered_slot, at_slot_exchange, passed_before, covered_in_try, slot_exchange_in_try, passed_in_try}
+use Rattle.transfer_invariant.specs.Progress.{has_record, at_covered_slot, at_slot_exchange, passed_before}
+use Rattle.transfer_invariant.specs.Progress.{covered_in_try, slot_exchange_in_try, passed_in_try}
 use Rattle.slot_invariant.specs.Slots.{passed_slots, SlotsKnown}
 use Rattle.slot_invariant.proofs.Stable.{covered_has_record, exchange_is_covered}
 
@@ -32,17 +34,20 @@ nothing_known n x room none =
     }
 
 -- the whole record is loaded: no slot is passed
-pub record_known : (n : Words) (x : TransferView) (second : Bool) → length x.loaded.slots ≡ 32 → x.next ≡ Try second (after_record x.loaded) → SlotsKnown n x
+pub record_known : (n : Words) (x : TransferView) (second : Bool) → length x.loaded.slots ≡ 32 → x.next ≡ Try second (after_record x.loaded)
+    → SlotsKnown n x
 record_known n x second room e = record {
   room = room;
   within = rw e (first_within x.loaded);
-  passed = λ has now s ge lt. absurd (let k : passed_before (overlay_length x.loaded) x.next ≡ 0 = rw e (first_passed x.loaded) in omega arith);
+  passed =
+      λ has now s ge lt. absurd (let k : passed_before (overlay_length x.loaded) x.next ≡ 0 = rw e (first_passed x.loaded) in omega arith);
   low = rw e (λ at. absurd (first_not_exchange x.loaded at));
   stays_tag = rw e (λ at. absurd (first_not_exchange x.loaded at));
   stays_value = rw e (λ at. absurd (first_not_exchange x.loaded at));
 }
   where
-    first_within : (loaded : Loaded) → covered_in_try (after_record loaded) ≡ true → passed_in_try (overlay_length loaded) (after_record loaded) < overlay_length loaded
+    first_within : (loaded : Loaded) → covered_in_try (after_record loaded) ≡ true
+        → passed_in_try (overlay_length loaded) (after_record loaded) < overlay_length loaded
     first_within loaded at = grind (arith, nat_tests)
 
     first_passed : (loaded : Loaded) → passed_in_try (overlay_length loaded) (after_record loaded) ≡ 0
@@ -61,6 +66,7 @@ pub record GoesPast (v x : TransferView) : Type 0 where
   pub past : at_covered_slot x.next ≡ false
   pub none : passed_slots x ≤ overlay_length x.loaded
 
+-- a view that goes on past the covered slots keeps what it knows of the slots
 pub past_known : (n : Words) (v x : TransferView) → SlotsKnown n v → GoesPast v x → SlotsKnown n x
 past_known n v x h g =
     let not_exchange : at_slot_exchange x.next ≡ true → ⊥ = λ at. both (at_covered_slot x.next) g.past (exchange_is_covered x.next at) in
@@ -76,8 +82,11 @@ past_known n v x h g =
     }
 
 -- a covered slot that has the present state's tag, while that is the loaded state, is passed
-pub slot_known : (n : Words) (v x : TransferView) (second : Bool) (offset : ℕ) → SlotsKnown n v → has_record v.next ≡ true → passed_slots v ≡ offset → offset < overlay_length v.loaded
-    → x.loaded.state ≡ v.loaded.state → x.loaded.record_words ≡ v.loaded.record_words → length x.loaded.slots ≡ 32 → x.next ≡ Try second (after_slot v.loaded offset)
+pub slot_known : (n : Words) (v x : TransferView) (second : Bool) (offset : ℕ) → SlotsKnown n v → has_record v.next ≡ true
+    → passed_slots v ≡ offset
+    → offset < overlay_length v.loaded
+    → x.loaded.state ≡ v.loaded.state → x.loaded.record_words ≡ v.loaded.record_words → length x.loaded.slots ≡ 32
+    → x.next ≡ Try second (after_slot v.loaded offset)
     → (loaded_tag v.loaded ≡ state_tag n → slot_tag n (loaded_base v.loaded + offset) ≡ state_tag n) → SlotsKnown n x
 slot_known n v x second offset h has at lt es er room e now =
     let base : loaded_base x.loaded ≡ loaded_base v.loaded = rw er refl in
@@ -87,7 +96,9 @@ slot_known n v x second offset h has at lt es er room e now =
       within = rw (e, covered) (λ a. next_within v.loaded offset lt a);
       passed = λ _ same s ge low. elim (cases_eq s (loaded_base v.loaded + offset)) [
         | inl here ↦ rw here (now (rw es at same))
-        | inr ne ↦ h.passed has (rw es at same) s (omega arith) (let k : passed_slots x ≡ offset + 1 = rw (e, covered) (next_passed v.loaded offset) in omega arith)
+        | inr ne ↦
+            h.passed has (rw es at same) s (omega arith) (let k : passed_slots x ≡ offset + 1 = rw (e, covered)
+            (next_passed v.loaded offset) in omega arith)
       ];
       low = rw e (λ a. absurd (next_not_exchange v.loaded offset a));
       stays_tag = rw e (λ a. absurd (next_not_exchange v.loaded offset a));
@@ -105,9 +116,14 @@ slot_known n v x second offset h has at lt es er room e now =
     next_not_exchange loaded offset at = grind (arith, nat_tests)
 
 -- a covered slot is loaded whose tag is lower
-pub lower_known : (n : Words) (v x : TransferView) (second : Bool) (offset word : ℕ) → SlotsKnown n v → has_record v.next ≡ true → passed_slots v ≡ offset → offset < overlay_length v.loaded → overlay_length v.loaded ≤ 32
-    → x.loaded.state ≡ v.loaded.state → x.loaded.record_words ≡ v.loaded.record_words → x.loaded.slots ≡ set v.loaded.slots offset word → x.next ≡ Try second (ExchangeSlot offset)
-    → tag_of word < loaded_tag v.loaded → slot_tag n (loaded_base v.loaded + offset) ≡ tag_of word → slot_value n (loaded_base v.loaded + offset) ≡ value_of word → SlotsKnown n x
+pub lower_known : (n : Words) (v x : TransferView) (second : Bool) (offset word : ℕ) → SlotsKnown n v → has_record v.next ≡ true
+    → passed_slots v ≡ offset → offset < overlay_length v.loaded
+    → overlay_length v.loaded ≤ 32
+    → x.loaded.state ≡ v.loaded.state → x.loaded.record_words ≡ v.loaded.record_words → x.loaded.slots ≡ set v.loaded.slots offset word
+    → x.next ≡ Try second (ExchangeSlot offset)
+    → tag_of word < loaded_tag v.loaded → slot_tag n (loaded_base v.loaded + offset) ≡ tag_of word
+    → slot_value n (loaded_base v.loaded + offset) ≡ value_of word
+    → SlotsKnown n x
 lower_known n v x second offset word h has at lt few es er el e low tag value =
     let base : loaded_base x.loaded ≡ loaded_base v.loaded = rw er refl in
     let covered : overlay_length x.loaded ≡ overlay_length v.loaded = rw er refl in

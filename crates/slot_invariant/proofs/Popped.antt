@@ -13,12 +13,18 @@ use Rattle.slot_invariant.proofs.Covers.{Covers}
 use Rattle.slot_invariant.proofs.Steps.{view_covers}
 
 -- while the loaded state is the present one, a slot below the loaded base holds the content
-pub holds_below_loaded_base : (sizes : Sizes) (words : Words) (states : States) (v : TransferView) (s : ℕ) → Covers sizes words states v → SlotsHold sizes words states → has_record v.next ≡ true → loaded_tag v.loaded ≡ state_tag words → s < loaded_base v.loaded
+pub holds_below_loaded_base : (sizes : Sizes) (words : Words) (states : States) (v : TransferView) (s : ℕ) → Covers sizes words states v
+    → SlotsHold sizes words states → has_record v.next ≡ true → loaded_tag v.loaded ≡ state_tag words
+    → s < loaded_base v.loaded
     → slot_value words s ≡ (states (state_tag words)).content s
 holds_below_loaded_base sizes words states v s c h has now low = h.below s (rw (rw now at (c.base has)) low)
 
 -- so does the slot of a taken batch
-pub popped_slots : (sizes : Sizes) (words : Words) (views : Views) (states : States) (i process : ℕ) (second : Bool) → i < sizes.processes → RecordsHold sizes words views states → SlotsInvariant sizes words views states → (views i).next ≡ Try second (LoadPoppedSlot process) → loaded_tag (views i).loaded ≡ state_tag words
-    → 1 ≤ (views i).draft.base → (views i).draft.base - 1 < loaded_base (views i).loaded → slot_value words ((views i).draft.base - 1) ≡ (states (state_tag words)).content ((views i).draft.base - 1)
+pub popped_slots : (sizes : Sizes) (words : Words) (views : Views) (states : States) (i process : ℕ) (second : Bool) → i < sizes.processes
+    → RecordsHold sizes words views states → SlotsInvariant sizes words views states → (views i).next ≡ Try second (LoadPoppedSlot process)
+    → loaded_tag (views i).loaded ≡ state_tag words
+    → 1 ≤ (views i).draft.base → (views i).draft.base - 1 < loaded_base (views i).loaded
+    → slot_value words ((views i).draft.base - 1) ≡ (states (state_tag words)).content ((views i).draft.base - 1)
 popped_slots sizes words views states i process second li inv slots e now some low =
-    holds_below_loaded_base sizes words states (views i) ((views i).draft.base - 1) (view_covers sizes words views states i inv li) slots.hold (rw e refl) now low
+    holds_below_loaded_base sizes words states (views i) ((views i).draft.base - 1)
+    (view_covers sizes words views states i inv li) slots.hold (rw e refl) now low

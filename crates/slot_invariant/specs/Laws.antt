@@ -39,7 +39,8 @@ BeginningsKeepSlots = BeginningsKeep SlotsInvariant
 
 -- while the loaded state is the present one, the slot below the working base holds its content, where it lies below the loaded base
 abbrev pub PoppedSlotsHoldContent : Type 0
-PoppedSlotsHoldContent = (sizes : Sizes) (words : Words) (views : Views) (states : States) (i process : ℕ) (second : Bool) → i < sizes.processes
+PoppedSlotsHoldContent =
+    (sizes : Sizes) (words : Words) (views : Views) (states : States) (i process : ℕ) (second : Bool) → i < sizes.processes
     → Invariant sizes words views states
     → SlotsInvariant sizes words views states
     → (views i).next ≡ Try second (LoadPoppedSlot process)

@@ -26,7 +26,8 @@ pub record SlotsHold (sizes : Sizes) (words : Words) (states : States) : Type 0 
   pub tags : (s : ℕ) → s < sizes.batches → slot_tag words s ≤ state_tag words
   pub now_low : (s : ℕ) → s < sizes.batches → slot_tag words s ≡ state_tag words → (states (state_tag words)).base ≤ s
   pub now_high : (s : ℕ) → s < sizes.batches → slot_tag words s ≡ state_tag words → s < (states (state_tag words)).height
-  pub now_value : (s : ℕ) → s < sizes.batches → slot_tag words s ≡ state_tag words → slot_value words s ≡ (states (state_tag words)).content s
+  pub now_value : (s : ℕ) → s < sizes.batches → slot_tag words s ≡ state_tag words
+      → slot_value words s ≡ (states (state_tag words)).content s
   pub before : (m s : ℕ) → m < state_tag words → (states m).base ≤ s → s < (states m).height → m ≤ slot_tag words s
   pub values : (s : ℕ) → s < sizes.batches → slot_value words s < blocks sizes
 
@@ -35,10 +36,14 @@ pub record SlotsHold (sizes : Sizes) (words : Words) (states : States) : Type 0 
 pub record SlotsKnown (words : Words) (v : TransferView) : Type 0 where
   pub room : length v.loaded.slots ≡ 32
   pub within : at_covered_slot v.next ≡ true → passed_slots v < overlay_length v.loaded
-  pub passed : has_record v.next ≡ true → loaded_tag v.loaded ≡ state_tag words → (s : ℕ) → loaded_base v.loaded ≤ s → s < slot_to_pass v → slot_tag words s ≡ state_tag words
+  pub passed : has_record v.next ≡ true → loaded_tag v.loaded ≡ state_tag words → (s : ℕ)
+      → loaded_base v.loaded ≤ s → s < slot_to_pass v → slot_tag words s ≡ state_tag words
   pub low : at_slot_exchange v.next ≡ true → tag_of (word_to_pass v) < loaded_tag v.loaded
-  pub stays_tag : at_slot_exchange v.next ≡ true → loaded_tag v.loaded ≡ state_tag words → slot_tag words (slot_to_pass v) ≢ state_tag words → slot_tag words (slot_to_pass v) ≡ tag_of (word_to_pass v)
-  pub stays_value : at_slot_exchange v.next ≡ true → loaded_tag v.loaded ≡ state_tag words → slot_tag words (slot_to_pass v) ≢ state_tag words → slot_value words (slot_to_pass v) ≡ value_of (word_to_pass v)
+  pub stays_tag : at_slot_exchange v.next ≡ true → loaded_tag v.loaded ≡ state_tag words → slot_tag words (slot_to_pass v) ≢ state_tag words
+      → slot_tag words (slot_to_pass v) ≡ tag_of (word_to_pass v)
+  pub stays_value : at_slot_exchange v.next ≡ true → loaded_tag v.loaded ≡ state_tag words
+      → slot_tag words (slot_to_pass v) ≢ state_tag words
+      → slot_value words (slot_to_pass v) ≡ value_of (word_to_pass v)
 
 -- the part slots of the words and of all views, with these states
 pub record SlotsInvariant (sizes : Sizes) (words : Words) (views : Views) (states : States) : Type 0 where

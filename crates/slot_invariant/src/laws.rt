@@ -1,6 +1,7 @@
 //! What holds of the slots at the opening and after each step. Each law is the contract of a call that does
 //! nothing.
-ghost use Rattle.slot_invariant.specs.Laws.{OpeningMeetsSlots, StepsKeepSlots, BeginningsKeepSlots, PoppedSlotsHoldContent, CoveredSlotsAreFew};
+ghost use Rattle.slot_invariant.specs.Laws.{OpeningMeetsSlots, StepsKeepSlots, BeginningsKeepSlots};
+ghost use Rattle.slot_invariant.specs.Laws.{PoppedSlotsHoldContent, CoveredSlotsAreFew};
 
 /// The words and views of the opening meet the part on slots, with the opening state.
 pub fn opening()

@@ -116,5 +116,6 @@ module _ (sizes : Sizes) (words new : Words) (views after : Views) (states : Sta
     | inr ne ↦ rw (moved.elsewhere o ne) (others_keep hits o lo)
   ]
 
+  -- after the step, whether it installs a state or not, every process without an announced transfer has its reply as last answer
   pub answers_kept : (o : ℕ) → o < sizes.processes → AnswerStays (present new (states_after words (views i) states)) o (after o)
   answers_kept o lo = elim (hitting (views i) words (views i).next) [ inl hits ↦ installs hits o lo | inr not ↦ stays not o lo ]

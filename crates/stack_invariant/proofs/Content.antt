@@ -70,6 +70,7 @@ content_shown sizes words states c fits slots place lt =
           head_above words s place base ge (c.values (2 + (place - s.base)) (omega arith) ∙ value_content sizes.processes place s ge lt few)
     ]
 
+-- the words show the present state
 pub words_show : WordsShowState
 words_show sizes words views states h =
     let c = h.transfers.records.current in
@@ -88,6 +89,7 @@ same_content processes old new s h k = record {
   content = λ place lt. let low : place < s.height = rw h.height at lt in k.content place low ∙ sym (h.content place low);
 }
 
+-- words that show a state show each that is the same as it
 pub shows_same : (processes : ℕ) (words : Words) (s t : StackState) → Shows processes words s → SameState processes s t
     → Shows processes words t
 shows_same processes words s t h k = record {

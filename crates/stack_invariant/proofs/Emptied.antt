@@ -50,6 +50,7 @@ announced_blocks sizes true process word s block h =
     wished_blocks sizes (announced_wish word) s (wish_of_block sizes (value_of word) block) h
 announced_blocks sizes false process word s block h = h
 
+-- announcements of blocks, applied to a content of blocks, leave one of blocks
 pub next_blocks : (sizes : Sizes) (announcements : ℕ → ℕ) (s : StackState) (k : ℕ) → ((o : ℕ) → value_of (announcements o) ≤ blocks sizes)
     → IsOfBlocks sizes s → IsOfBlocks sizes (next_of k announcements s)
 unfolding next_of
@@ -77,6 +78,7 @@ blocks_so_far sizes words states (suc k) shape f le =
     rw e (followed_blocks sizes (states (k + 1)) (states (k + 1 + 1)) (f.each (k + 1) (omega arith) (omega arith))
     (blocks_so_far sizes words states k shape f (omega arith)))
 
+-- all heads of all states so far are blocks
 pub states_are_blocks : StatesAreBlocks
 states_are_blocks sizes words views states m place shape h some le lt =
     subst (λ (n : ℕ). IsOfBlocks sizes (states n)) back (blocks_so_far sizes words states (m - 1) shape h.follow (omega arith)) place lt
@@ -215,6 +217,7 @@ met_nothing sizes words views states i shape li h announced a says =
       empty = found.empty;
     }
 
+-- a transfer that is applied and answered with nothing was a take that met an empty content
 pub empty_takes_met_nothing : EmptyTakesMetNothing
 empty_takes_met_nothing sizes words views states i shape li h announced applied says =
     met_nothing sizes words views states i shape li h announced first says

@@ -39,6 +39,7 @@ state_stays_in_try sizes v m n second (LoadPoppedSlot process) a not = a.elsewhe
 state_stays_in_try sizes v m n second (StoreRecordWord index) a not = a.elsewhere State tt (λ e. cc)
 state_stays_in_try sizes v m n second ExchangeState a not = a.here ∙ rw (hits_not v.loaded.state (m State) (not second refl)) refl
 
+-- a step that installs nothing leaves the word of the state
 pub state_stays : (sizes : Sizes) (v : TransferView) (m n : Words) (s : NextStep) → Acted sizes (action_at sizes v s) m n → HitsNot v m s
     → n State ≡ m State
 state_stays sizes v m n Rest a not = a.here
@@ -59,6 +60,7 @@ states_stay_in_try v m states second (LoadPoppedSlot process) not = refl
 states_stay_in_try v m states second (StoreRecordWord index) not = refl
 states_stay_in_try v m states second ExchangeState not = rw (hits_not v.loaded.state (m State) (not second refl)) refl
 
+-- and the states so far
 pub states_stay : (v : TransferView) (m : Words) (states : States) (s : NextStep) → HitsNot v m s → states_after_at m v states s ≡ states
 states_stay v m states Rest not = refl
 states_stay v m states Announce not = refl
@@ -66,6 +68,7 @@ states_stay v m states (Try second step) not = states_stay_in_try v m states sec
 states_stay v m states LoadFinalState not = refl
 states_stay v m states LoadReply not = refl
 
+-- so the present state stays
 pub present_stays : (sizes : Sizes) (v : TransferView) (m n : Words) (states : States) → Acted sizes (action_of sizes v) m n
     → HitsNot v m v.next → present n (states_after m v states) ≡ present m states
 unfolding state_tag
@@ -76,6 +79,7 @@ pub hit_states : (v : TransferView) (m : Words) (states : States) (second : Bool
     → m State ≡ v.loaded.state → states_after m v states ≡ states_with_drafted m v states
 hit_states v m states second e same = rw e (rw (hits v.loaded.state (m State) same) refl)
 
+-- an exchange that hits makes the state's number one higher
 pub hit_tag : (sizes : Sizes) (v : TransferView) (m n : Words) (second : Bool) → v.next_record < value_limit
     → Acted sizes (action_of sizes v) m n → v.next ≡ Try second ExchangeState → m State ≡ v.loaded.state → state_tag n ≡ state_tag m + 1
 unfolding state_tag
@@ -84,6 +88,7 @@ hit_tag sizes v m n second row a e same =
     let there = exchanges_state sizes v.loaded.state (loaded_tag v.loaded + 1) v.next_record m n row test (rw e at a) in
     there.state ∙ ap (λ x. tag_of x + 1) (sym same)
 
+-- after it the present state is the drafted one
 pub present_installed : (sizes : Sizes) (v : TransferView) (m n : Words) (states : States) (second : Bool) → v.next_record < value_limit
     → Acted sizes (action_of sizes v) m n → v.next ≡ Try second ExchangeState → m State ≡ v.loaded.state
     → present n (states_after m v states) ≡ drafted_state (present m states) v
@@ -110,6 +115,7 @@ hitting_in_try v m second ExchangeState = elim (cases_eq (m State) v.loaded.stat
   | inr ne ↦ inr (λ other e same. ne same)
 ]
 
+-- a step either exchanges the loaded state, which is still the present one, or it installs nothing
 pub hitting : (v : TransferView) (m : Words) (s : NextStep) → Hits v m s ⊎ HitsNot v m s
 hitting v m Rest = inr (λ other e same. cc)
 hitting v m Announce = inr (λ other e same. cc)

@@ -31,11 +31,13 @@ installed_next sizes words views states i second shape li h e same = record {
   heads = λ k. gives.drafted_heads_are_blocks sizes words views states i k li h.drafts;
 }
 
+-- the reply that a transfer loads in the end is that of the present state
 pub replies_answer : RepliesAreAnswers
 replies_answer sizes words views states i li h e =
     let both = answered sizes words views states i li h.transfers h.helping e in
     record { reply = both.0; applied = both.1 }
 
+-- a transfer is applied once both its tries are over
 pub tries_apply : TriesApply
 tries_apply sizes words views states i li h e = applied_after_two_tries sizes words views states i li h.helping e
 
@@ -49,6 +51,7 @@ exchange_low : (sizes : Sizes) (words : Words) (states : States) (v : TransferVi
     → loaded_base v.loaded + offset < sizes.batches
 exchange_low sizes words states v second offset c w e = omega (arith, w.exchange second offset e, c.within (rw e refl))
 
+-- what the invariant says of each process holds of it
 pub each_process : EachProcessHolds
 each_process sizes words views states o lo h =
     let v = views o in

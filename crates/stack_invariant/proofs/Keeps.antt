@@ -42,6 +42,7 @@ begun_slots sizes words views after states i wish li slots moved =
     let x = begun wish (views i) in
     slots_move sizes words views after states i x slots.hold (nothing_known words x (slots.known i li).room refl) slots.known moved
 
+-- a process at rest that begins a transfer keeps the invariant, with the same states
 pub beginnings_keep_stack : BeginningsKeepStack
 beginnings_keep_stack sizes words views after states i wish li h rest moved = record {
   transfers = beginnings_keep_invariant sizes words views after states i wish li h.transfers rest moved;

@@ -20,6 +20,7 @@ off_reply : (t : Bool) (k : ℕ) (s u : StackState) → t ≡ false → (if t th
 off_reply true k s u off = grind arith
 off_reply false k s u off = refl
 
+-- a process whose announcement isn't pending keeps its reply, however many announcements are applied
 pub reply_stays : (announcements : ℕ → ℕ) (s : StackState) (count o : ℕ) → is_pending (announcements o) (s.reply o) ≡ false
     → (next_of count announcements s).reply o ≡ s.reply o
 unfolding next_of

@@ -27,6 +27,7 @@ use Rattle.stack_invariant.proofs.Following.{follow_stays}
 abbrev pub StackWordsStay : Sizes → Words → Words → Type 0
 StackWordsStay sizes old new = (name : WordName) → InRange sizes name → is_stack_word name ≡ true → new name ≡ old name
 
+-- so the state and all record words stay
 pub records_stay : (sizes : Sizes) (old new : Words) → StackWordsStay sizes old new → RecordsStay sizes old new
 unfolding state_tag current_record word_tag word_value
 records_stay sizes old new same = record {
@@ -80,6 +81,7 @@ drafts_same sizes old new views states e a h = record {
   pops = λ i li. pops_stay sizes.processes old new states (views i) e (h.pops i li);
 }
 
+-- words that keep all that the shared stack stands in keep its invariant
 pub other_words_keep : OtherWordsKeepStack
 other_words_keep sizes words new views states h same =
     let r = records_stay sizes words new same in

@@ -30,6 +30,7 @@ pub stack_writes : (sizes : Sizes) (words : Words) (views : Views) (states : Sta
     → StackHolds sizes words views states → Supplied sizes words states (views i) → WritesFit sizes words (views i)
 stack_writes sizes words views states i shape li h s = writes_fit sizes words views states i shape li h.transfers h.drafts s.room
 
+-- a draft that is to be installed lies on the loaded content
 pub draft_below : (sizes : Sizes) (words : Words) (views : Views) (states : States) (i : ℕ) → i < sizes.processes
     → StackHolds sizes words views states → DraftBelow (views i)
 draft_below sizes words views states i li h second e = drafted_base_is_low sizes words views states i second li h.drafts e

@@ -31,5 +31,6 @@ table_shows sizes table s h = record {
   heads = heads_same sizes table s h.height h.content;
 }
 
+-- the words of a table show the present state
 pub tables_show : TablesShowState
 tables_show sizes table views states h = table_shows sizes table _ (words_show sizes (word_at sizes table) views states h)

@@ -1,3 +1,4 @@
+-- The number of a ledger without bytes, read off its chain of rungs.
 use Rattle.std.specs.Prelude.{ℕ, ◌+◌}
 use Rattle.step_counter.specs.declared.quiet.Rung.{Rung}
 use Rattle.step_counter.specs.declared.quiet.Rung.TheVariants.{Bottom, Above}

@@ -1,3 +1,5 @@
+//! A ledger that a program can read: its number is a word.
+
 ghost use Rattle.std.specs.Prelude.{◌≡◌};
 
 use crate::Ledger;

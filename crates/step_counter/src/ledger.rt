@@ -1,3 +1,5 @@
+//! What a ledger is, with a word or without.
+
 ghost use Rattle.std.specs.Prelude.{◌≡◌, ◌+◌, ◌-◌, ◌<◌, ◌^◌, ℕ};
 
 /// What counts steps. Clauses see a ledger as the number that it stands at.

@@ -1,3 +1,5 @@
+//! A ledger that costs nothing at run time, since only proofs see its number.
+
 ghost use Rattle.std.specs.Prelude.{◌≡◌};
 
 use crate::Ledger;

@@ -1,3 +1,5 @@
+//! The counter that counted steps take with them.
+
 ghost use Rattle.std.specs.Prelude.{◌≡◌, ◌+◌, ◌-◌, ◌<◌, ◌^◌};
 
 use crate::{Kept, Ledger};

@@ -1,3 +1,5 @@
+//! Both ledgers count, and the quiet one has no bytes.
+
 use crate::{Kept, Quiet, Steps};
 use std::mem;
 use std::test::Fail;

@@ -48,6 +48,7 @@ left_word : (sizes : Sizes) (action : Action) (m n : Words) (q : WordName) → A
 left_word sizes action m n q a left h (inl e) = rw e (a.here ∙ left)
 left_word sizes action m n q a left h (inr ne) = a.elsewhere q h ne
 
+-- such an action leaves the state and all record words
 pub leaves_records : (sizes : Sizes) (action : Action) (m n : Words) → Acted sizes action m n
     → left_by action (m (name_of action)) ≡ m (name_of action) → RecordsStay sizes m n
 unfolding state_tag current_record word_tag word_value
@@ -71,10 +72,12 @@ misses_records sizes action m n a no_state no_word =
       values = λ r k lr lk. ap value_of (a.elsewhere (RecordWord r k) (lr, lk) (no_word r k));
     }
 
+-- the store of an announcement leaves the state and all records
 pub announces : (sizes : Sizes) (process word : ℕ) (m n : Words) → Acted sizes (Store (Announcement process) word) m n
     → RecordsStay sizes m n
 announces sizes process word m n a = misses_records sizes (Store (Announcement process) word) m n a (λ e. cc) (λ r k e. cc)
 
+-- the exchange of a slot, whether it succeeds or not, leaves the state and all records
 pub exchanges_slot : (sizes : Sizes) (slot old new : ℕ) (m n : Words) → Acted sizes (Exchange (Slot slot) old new) m n
     → RecordsStay sizes m n
 exchanges_slot sizes slot old new m n a = misses_records sizes (Exchange (Slot slot) old new) m n a (λ e. cc) (λ r k e. cc)
@@ -109,6 +112,7 @@ exchanges_state sizes old tag row m n fits same a =
       values = λ r k lr lk. ap value_of (a.elsewhere (RecordWord r k) (lr, lk) (λ e. cc));
     }
 
+-- where the state isn't the one that an exchange expects, the state and all records stay
 pub keeps_state : (sizes : Sizes) (old new : ℕ) (m n : Words) → (m State == old) ≡ false → Acted sizes (Exchange State old new) m n
     → RecordsStay sizes m n
 keeps_state sizes old new m n differs a = leaves_records sizes (Exchange State old new) m n a (rw differs refl)

@@ -8,7 +8,9 @@ use Rattle.word_layout.specs.Names.{record_words}
 use Rattle.word_layout.specs.declared.name.WordName.TheVariants.{State, Announcement, RecordWord, Slot}
 use Rattle.transfer_machine.specs.Loads.{loaded_tag, loaded_record, loaded_base}
 use Rattle.transfer_machine.specs.Tries.{drafted_value, pops_slot}
-use Rattle.transfer_machine.specs.Machine.{action_at, try_action, met_at, met_in_try, own_announcement, next_state, try_ended, installed, after_slot, after_record, after_heard, after_stored, record_word_loaded, announcement_loaded, popped_loaded, state_loaded, slot_loaded}
+use Rattle.transfer_machine.specs.Machine.{action_at, try_action, met_at, met_in_try, own_announcement, next_state, try_ended}
+use Rattle.transfer_machine.specs.Machine.{installed, after_slot, after_record, after_heard, after_stored, record_word_loaded}
+use Rattle.transfer_machine.specs.Machine.{announcement_loaded, popped_loaded, state_loaded, slot_loaded}
 use Rattle.transfer_machine.specs.Words.{name_of}
 use Rattle.transfer_machine.specs.declared.loaded.Loaded.{Loaded}
 use Rattle.transfer_machine.specs.declared.transfer.TransferView.{TransferView}
@@ -16,7 +18,8 @@ use Rattle.transfer_machine.specs.declared.action.Action.TheVariants.{Load, Exch
 use Rattle.transfer_machine.specs.declared.stage.NextStep.{NextStep}
 use Rattle.transfer_machine.specs.declared.stage.NextStep.TheVariants.{Rest, Announce, Try, LoadFinalState, LoadReply}
 use Rattle.transfer_machine.specs.declared.stage.TryStep.{TryStep}
-use Rattle.transfer_machine.specs.declared.stage.TryStep.TheVariants.{LoadState, LoadRecordWord, LoadCoveredSlot, ExchangeSlot, LoadAnnouncement, LoadPoppedSlot, StoreRecordWord, ExchangeState}
+use Rattle.transfer_machine.specs.declared.stage.TryStep.TheVariants.{LoadState, LoadRecordWord, LoadCoveredSlot, ExchangeSlot}
+use Rattle.transfer_machine.specs.declared.stage.TryStep.TheVariants.{LoadAnnouncement, LoadPoppedSlot, StoreRecordWord, ExchangeState}
 use Rattle.transfer_invariant.specs.Memory.{Words, Views, States, Acted, Moved, state_tag}
 use Rattle.transfer_invariant.specs.Progress.{in_try, has_loaded_state, has_announced}
 use Rattle.transfer_invariant.specs.Records.{OwnRecord}
@@ -25,7 +28,9 @@ use Rattle.transfer_invariant.specs.Tags.{InstallOrder, TagsHold, installs}
 use Rattle.transfer_invariant.specs.Laws.{WritesFit}
 use Rattle.transfer_invariant.proofs.Keeps.{row_fits, same_words}
 use Rattle.transfer_invariant.proofs.Acts.{leaves_records, announces, exchanges_slot, stores_word, exchanges_state, keeps_state}
-use Rattle.transfer_invariant.proofs.Installs.{tags_move, order_stays, GoesOnTrying, trying_order, trying_installs, ended_order, ended_installs, announced_order, announced_installs, loaded_order, loaded_installs, installed_order, installed_installs, final_order, final_installs, idle_order, idle_installs}
+use Rattle.transfer_invariant.proofs.Installs.{tags_move, order_stays, GoesOnTrying, trying_order, trying_installs, ended_order}
+use Rattle.transfer_invariant.proofs.Installs.{ended_installs, announced_order, announced_installs, loaded_order, loaded_installs}
+use Rattle.transfer_invariant.proofs.Installs.{installed_order, installed_installs, final_order, final_installs, idle_order, idle_installs}
 
 -- a step that installs no state
 pub tags_stay : (sizes : Sizes) (m n : Words) (views after : Views) (i : ℕ) (x : TransferView) → i < sizes.processes
@@ -48,6 +53,7 @@ ended_tags sizes m n views after i second li h moved e trying =
     let order = ended_order m second (views i) (h.order i li) trying in
     tags_stay sizes m n views after i (try_ended second (views i)) li h moved e (omega arith) order
 
+-- a step after which its process has no announced transfer, its age as before, keeps the count of the states
 pub idle_tags : (sizes : Sizes) (m n : Words) (views after : Views) (i : ℕ) (x : TransferView) → i < sizes.processes
     → TagsHold sizes m views → Moved i x views after → state_tag n ≡ state_tag m → has_announced x.next ≡ false → x.age ≡ (views i).age
     → TagsHold sizes n after
@@ -61,13 +67,16 @@ record_follows loaded = grind (arith, nat_tests)
 slot_tries : (loaded : Loaded) (offset : ℕ) → has_loaded_state (after_slot loaded offset) ≡ true
 slot_tries loaded offset = grind (arith, nat_tests)
 
+-- what follows an announcement has loaded the state
 pub heard_follows : (sizes : Sizes) (process : ℕ) → has_loaded_state (after_heard sizes process) ≡ true
 heard_follows sizes process = grind (arith, nat_tests)
 
+-- so has what follows the load of a covered slot: its exchange, or the next step
 pub slot_follows : (t : Bool) (loaded : Loaded) (offset : ℕ)
     → has_loaded_state (if t then ExchangeSlot offset else after_slot loaded offset) ≡ true
 slot_follows t loaded offset = grind (arith, nat_tests)
 
+-- so has what follows a stored record word
 pub stored_follows : (sizes : Sizes) (index : ℕ) → has_loaded_state (after_stored sizes index) ≡ true
 stored_follows sizes index = grind (arith, nat_tests)
 

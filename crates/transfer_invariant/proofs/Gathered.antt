@@ -10,6 +10,7 @@ use Rattle.transfer_invariant.proofs.Overlays.{overlays_kept, overlays_move}
 use Rattle.transfer_invariant.proofs.Own.{StoresNone}
 use Rattle.transfer_invariant.proofs.Stages.{leaves}
 
+-- the opening meets the invariant
 pub opening_meets_invariant : OpeningMeetsInvariant
 opening_meets_invariant sizes words views shape opened seats = record {
   records = opened_invariant sizes words shape opened views seats;
@@ -17,6 +18,7 @@ opening_meets_invariant sizes words views shape opened seats = record {
   tags = opened_tags_hold sizes words views (opened_tag sizes words shape opened) (λ i li. ap (λ v. v.next) (seats i li));
 }
 
+-- a process at rest that begins a transfer keeps the invariant
 pub beginnings_keep_invariant : BeginningsKeepInvariant
 beginnings_keep_invariant sizes words views after states i wish li inv rest moved =
     let x = begun wish (views i) in
@@ -27,6 +29,7 @@ beginnings_keep_invariant sizes words views after states i wish li inv rest move
       tags = idle_tags sizes words words views after i x li inv.tags moved refl refl refl;
     }
 
+-- a step of a process whose writes fit keeps the invariant
 pub steps_keep_invariant : StepsKeepInvariant
 steps_keep_invariant sizes words new views after states i shape li inv fits acted moved =
     let v = views i in

@@ -20,6 +20,7 @@ pub value_base : (processes : ℕ) (s : StackState) → state_value processes s 
 unfolding state_value
 value_base processes s = refl
 
+-- a record's second word is the length of the overlay
 pub value_length : (processes : ℕ) (s : StackState) → state_value processes s 1 ≡ s.height - s.base
 unfolding state_value
 value_length processes s = refl
@@ -35,6 +36,7 @@ value_head processes x s few low =
     let inside : nat_lt x (s.height - s.base) ≡ true = grind (arith, nat_tests) in
     rw (not_base, not_length, head, place, inside) refl
 
+-- the words behind the overlay's are the replies of the processes
 pub value_reply : (processes i : ℕ) (s : StackState) → state_value processes s (processes + 2 + i) ≡ s.reply i
 unfolding state_value
 value_reply processes i s = grind (arith, nat_tests)
@@ -57,6 +59,7 @@ whole_is sizes loaded s fits h =
       replies = λ i lt. h (sizes.processes + 2 + i) (omega arith) ∙ value_reply sizes.processes i s;
     }
 
+-- a view that loaded as many words as a record has, loaded the state of that number
 pub whole_record : (sizes : Sizes) (words : Words) (states : States) (v : TransferView) → StatesFit sizes words states
     → LoadedState sizes words states v → loaded_words (record_words sizes) v.next ≡ record_words sizes
     → IsLoaded sizes.processes v.loaded (states (loaded_tag v.loaded))
@@ -68,9 +71,11 @@ whole_record sizes words states v fits h whole =
 pub record_whole : (words : ℕ) (s : NextStep) → has_record s ≡ true → loaded_words words s ≡ words
 record_whole words s has = grind arith
 
+-- a view with a whole record has loaded the state
 pub record_has : (s : NextStep) → has_record s ≡ true → has_loaded s ≡ true
 record_has s has = grind arith
 
+-- a view with a whole record loaded the state of that number
 pub loaded_is : (sizes : Sizes) (words : Words) (states : States) (v : TransferView) → StatesFit sizes words states
     → LoadedState sizes words states v → has_record v.next ≡ true → IsLoaded sizes.processes v.loaded (states (loaded_tag v.loaded))
 loaded_is sizes words states v fits h has = whole_record sizes words states v fits h (record_whole (record_words sizes) v.next has)

@@ -50,6 +50,7 @@ tag_of-zero = refl
 
 module _ (sizes : Sizes) (words : Words) (shape : IsShape sizes)
     (opened : (name : WordName) → InRange sizes name → words name ≡ opening_word sizes name) where
+  -- the opening's state has the number 1
   pub opened_tag : state_tag words ≡ 1
   unfolding state_tag
   opened_tag = ap tag_of (opened State tt) ∙ tag_of-tagged 1 (opening_record sizes) (let few = shape.few_processes in omega arith)
@@ -112,6 +113,7 @@ module _ (sizes : Sizes) (words : Words) (shape : IsShape sizes)
     loaded = λ k lt. absurd (omega arith);
   }
 
+  -- the opening meets the parts on the state and the records
   pub opened_invariant : (views : Views) → ((i : ℕ) → i < sizes.processes → views i ≡ opening_transfer i)
       → RecordsHold sizes words views (λ m. opening_state sizes)
   opened_invariant views seats = record {

@@ -15,7 +15,8 @@ use Rattle.transfer_machine.specs.declared.transfer.TransferView.{TransferView}
 use Rattle.transfer_machine.specs.declared.stage.NextStep.{NextStep}
 use Rattle.transfer_machine.specs.declared.stage.NextStep.TheVariants.{Rest, Announce, Try, LoadFinalState, LoadReply}
 use Rattle.transfer_machine.specs.declared.stage.TryStep.{TryStep}
-use Rattle.transfer_machine.specs.declared.stage.TryStep.TheVariants.{LoadState, LoadRecordWord, LoadCoveredSlot, ExchangeSlot, LoadAnnouncement, LoadPoppedSlot, StoreRecordWord, ExchangeState}
+use Rattle.transfer_machine.specs.declared.stage.TryStep.TheVariants.{LoadState, LoadRecordWord, LoadCoveredSlot, ExchangeSlot}
+use Rattle.transfer_machine.specs.declared.stage.TryStep.TheVariants.{LoadAnnouncement, LoadPoppedSlot, StoreRecordWord, ExchangeState}
 use Rattle.transfer_machine.proofs.Drafts.{granted_few}
 use Rattle.transfer_invariant.specs.Memory.{Views, Moved}
 use Rattle.transfer_invariant.specs.Drafts.{OverlayFitsInTry, OverlayFitsAt, OverlayFits}
@@ -113,6 +114,7 @@ overlays_move sizes views after i x h moved fits o lo = elim (cases_eq o i) [
   | inr ne ↦ rw (moved.elsewhere o ne) (h o lo)
 ]
 
+-- a step of any process keeps the overlays of all views within the processes
 pub overlays_kept : (sizes : Sizes) (views after : Views) (i word : ℕ) → i < sizes.processes
     → ((o : ℕ) → o < sizes.processes → OverlayFits sizes.processes (views o))
     → Moved i (met_at sizes (views i) word (views i).next) views after

@@ -1,5 +1,6 @@
 -- what the moving view keeps of the facts
-use Rattle.std.proofs.Common.{◌≡◌, ◌≢◌, ℕ, ◌+◌, ◌/◌, ◌<◌, ◌≤◌, Bool, true, refl, sym, ◌∙◌, inl, inr, arith, length, get_or, set, get_or-set_same, get_or-set_other}
+use Rattle.std.proofs.Common.{◌≡◌, ◌≢◌, ℕ, ◌+◌, ◌/◌, ◌<◌, ◌≤◌, Bool, true, refl, sym, ◌∙◌, inl, inr}
+use Rattle.std.proofs.Common.{arith, length, get_or, set, get_or-set_same, get_or-set_other}
 use Rattle.std.proofs.lemmas.Bool.{cases_eq}
 use Rattle.std.proofs.lemmas.Bool.Decides.{nat_tests}
 use Rattle.word_layout.specs.Sizes.{Sizes}
@@ -13,7 +14,8 @@ use Rattle.transfer_machine.specs.declared.stage.NextStep.{NextStep}
 use Rattle.transfer_machine.specs.declared.stage.NextStep.TheVariants.{Try}
 use Rattle.transfer_machine.specs.declared.stage.TryStep.TheVariants.{LoadRecordWord, StoreRecordWord}
 use Rattle.transfer_invariant.specs.Memory.{Words, States, state_tag, current_record, word_tag, word_value, state_value}
-use Rattle.transfer_invariant.specs.Progress.{in_try, has_loaded, record_index, record_index_in_try, loaded_words, loaded_in_try, stored_words, stored_in_try}
+use Rattle.transfer_invariant.specs.Progress.{in_try, has_loaded, record_index, record_index_in_try}
+use Rattle.transfer_invariant.specs.Progress.{loaded_words, loaded_in_try, stored_words, stored_in_try}
 use Rattle.transfer_invariant.specs.Records.{CurrentRecord, OwnRecord, LoadedState, OwnerWentOn}
 use Rattle.transfer_invariant.proofs.Changes.{WordStored, StateInstalled}
 use Rattle.transfer_invariant.proofs.Stable.{next_low}
@@ -31,6 +33,7 @@ pub record StoresNone (sizes : Sizes) (s : NextStep) : Type 0 where
   pub index : record_index s < record_words sizes
   pub stored : stored_words (record_words sizes) s ≡ 0
 
+-- a view that stored no word of its next record, and goes on from another, keeps the part own record
 pub keeps_own : (sizes : Sizes) (n : Words) (i : ℕ) (v x : TransferView) → OwnRecord sizes n i v → KeepsLoaded v x → StoresNone sizes x.next
     → OwnRecord sizes n i x
 keeps_own sizes n i v x h g none = record {
@@ -43,6 +46,7 @@ keeps_own sizes n i v x h g none = record {
   stored_values = λ k lt. absurd (omega (arith, none.stored));
 }
 
+-- one that goes on keeps the part loaded state, as far as it has loaded that state's words
 pub keeps_loaded : (sizes : Sizes) (n : Words) (states : States) (v x : TransferView) → LoadedState sizes n states v → KeepsLoaded v x
     → length x.loaded.record_words ≡ 66
     → ((k : ℕ) → k < loaded_words (record_words sizes) x.next
@@ -58,9 +62,11 @@ keeps_loaded sizes n states v x h g room loads = record {
   loaded = λ k lt. rw g.state (loads k lt);
 }
 
+-- it stays so of a view that goes on, that the owner of the record that it loaded installed a later state
 pub keeps_from : (v x w : TransferView) → OwnerWentOn v w → KeepsLoaded v x → OwnerWentOn x w
 keeps_from v x w h g = λ e r. rw g.state (h (g.has e) (rw g.state at r))
 
+-- and of the owner that goes on
 pub keeps_to : (v x w : TransferView) → OwnerWentOn w v → KeepsLoaded v x → OwnerWentOn w x
 keeps_to v x w h g = λ e r. rw g.installed (h e (rw g.next_record at r))
 
@@ -93,6 +99,7 @@ state_own sizes n i v x h en ei ex es et = record {
   stored_values = λ k lt. absurd (omega (arith, es));
 }
 
+-- a view that has just loaded the state, and no word of its record yet, loaded the present one
 pub state_loaded : (sizes : Sizes) (n : Words) (states : States) (x : TransferView) → CurrentRecord sizes n states
     → length x.loaded.record_words ≡ 66 → loaded_words (record_words sizes) x.next ≡ 0 → loaded_tag x.loaded ≡ state_tag n
     → loaded_record x.loaded ≡ current_record n → LoadedState sizes n states x
@@ -116,9 +123,11 @@ pub stores_next : (sizes : Sizes) (index : ℕ) → index < record_words sizes
     → record_index_in_try (after_stored sizes index) < record_words sizes
 stores_next sizes index low = grind (arith, nat_tests)
 
+-- after the store of a record word one word more is stored
 pub stores_count : (sizes : Sizes) (index : ℕ) → stored_in_try (record_words sizes) (after_stored sizes index) ≡ index + 1
 stores_count sizes index = grind (arith, nat_tests)
 
+-- while it stores, a try has loaded all words of the loaded state's record
 pub stores_loaded : (sizes : Sizes) (index : ℕ) → loaded_in_try (record_words sizes) (after_stored sizes index) ≡ record_words sizes
 stores_loaded sizes index = grind (arith, nat_tests)
 
@@ -131,6 +140,7 @@ one_more_tag sizes m n row index tag value lr low s h k lt = elim (cases_eq k in
   | inr ne ↦ s.index_tags row k lr (omega arith) ne ∙ h k (omega arith)
 ]
 
+-- once a record word is stored, one word more of the record has its drafted value
 pub one_more_value : (sizes : Sizes) (m n : Words) (row index tag : ℕ) (drafted : ℕ → ℕ) → row < records sizes → index < record_words sizes
     → WordStored sizes m n row index tag (drafted index) → ((k : ℕ) → k < index → word_value m row k ≡ drafted k) → (k : ℕ) → k < index + 1
     → word_value n row k ≡ drafted k
@@ -139,6 +149,7 @@ one_more_value sizes m n row index tag drafted lr low s h k lt = elim (cases_eq 
   | inr ne ↦ s.index_values row k lr (omega arith) ne ∙ h k (omega arith)
 ]
 
+-- a process that stores a word of its next record, with the next tag and the drafted value, keeps its own record
 pub store_own_view : (sizes : Sizes) (m n : Words) (i : ℕ) (second : Bool) (index : ℕ) (v : TransferView) → i < sizes.processes
     → OwnRecord sizes m i v → v.next ≡ Try second (StoreRecordWord index) → index < record_words sizes
     → WordStored sizes m n v.next_record index (loaded_tag v.loaded + 1) (drafted_value sizes.processes v.draft index)
@@ -164,9 +175,11 @@ store_own_view sizes m n i second index v li h e low s =
 pub other_own : (row : ℕ) → other_record row / 2 ≡ row / 2
 other_own row = grind (arith, nat_tests)
 
+-- a process's two records differ
 pub other_apart : (row : ℕ) → row ≢ other_record row
 other_apart row = λ e. grind (arith, nat_tests)
 
+-- a process that installs its next record keeps the part own record, its other record now the next
 pub install_own_view : (sizes : Sizes) (m n : Words) (i : ℕ) (v : TransferView) → OwnRecord sizes m i v
     → StateInstalled sizes m n (loaded_tag v.loaded + 1) v.next_record → OwnRecord sizes n i (installed v)
 install_own_view sizes m n i v h s = record {

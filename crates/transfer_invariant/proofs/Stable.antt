@@ -28,10 +28,12 @@ pub stay_current : (sizes : Sizes) (m n : Words) (states : States) → CurrentRe
     → CurrentRecord sizes n states
 stay_current sizes m n states h s = grind arith
 
+-- where the number of the state stays, every state so far still fits
 pub stay_states : (sizes : Sizes) (m n : Words) (states : States) → StatesFit sizes m states → state_tag n ≡ state_tag m
     → StatesFit sizes n states
 stay_states sizes m n states h e t le = h t (omega (arith, e))
 
+-- no record word gets a tag above that of the state to come
 pub stay_tags : (sizes : Sizes) (m n : Words) → TagsBelow sizes m → RecordsStay sizes m n → TagsBelow sizes n
 stay_tags sizes m n h s row index lr lk = grind (arith, h row index lr lk)
 
@@ -49,12 +51,14 @@ own_stays sizes m n i v h state current tags values = record {
   stored_values = λ k lt. values k (stored_low sizes v.next k h.index lt) ∙ h.stored_values k lt;
 }
 
+-- the own record of every process stays
 pub stay_own : (sizes : Sizes) (m n : Words) (i : ℕ) (v : TransferView) → i < sizes.processes → OwnRecord sizes m i v
     → RecordsStay sizes m n → OwnRecord sizes n i v
 stay_own sizes m n i v li h s =
     let row = next_low sizes.processes i v.next_record li h.next in
     own_stays sizes m n i v h s.state s.current (λ k lk. s.tags v.next_record k row lk) (λ k lk. s.values v.next_record k row lk)
 
+-- so does what a view loaded
 pub stay_loaded : (sizes : Sizes) (m n : Words) (states : States) (v : TransferView) → LoadedState sizes m states v → RecordsStay sizes m n
     → LoadedState sizes n states v
 stay_loaded sizes m n states v h s = grind arith
@@ -64,6 +68,7 @@ pub store_current : (sizes : Sizes) (m n : Words) (states : States) (i index tag
     → CurrentRecord sizes m states → WordStored sizes m n v.next_record index tag value → CurrentRecord sizes n states
 store_current sizes m n states i index tag value v own h s = grind arith
 
+-- a record word with a tag at most one above the state's keeps all tags below that of the state to come
 pub store_tags : (sizes : Sizes) (m n : Words) (row index tag value : ℕ) → TagsBelow sizes m → tag ≤ state_tag m + 1
     → WordStored sizes m n row index tag value → TagsBelow sizes n
 store_tags sizes m n row index tag value h le s r k lr lk = elim (cases_eq r row) [
@@ -79,6 +84,7 @@ pub next_apart : (sizes : Sizes) (m : Words) (i o : ℕ) (v w : TransferView) �
     → w.next_record ≢ v.next_record
 next_apart sizes m i o v w hv hw ne = λ e. ne (sym hw.next ∙ ap (λ r. r / 2) e ∙ hv.next)
 
+-- a store into the next record of a process leaves that of every other process
 pub store_own : (sizes : Sizes) (m n : Words) (i o index tag value : ℕ) (v w : TransferView) → o < sizes.processes → OwnRecord sizes m i v
     → OwnRecord sizes m o w → o ≢ i → WordStored sizes m n v.next_record index tag value → OwnRecord sizes n o w
 store_own sizes m n i o index tag value v w lo hv h ne s =
@@ -108,10 +114,12 @@ install_current sizes m n states later i second v li own e now s drafted =
       values = λ k lt. rw (s.current, s.state) (s.values v.next_record k low lt ∙ own.stored_values k (rw e lt) ∙ sym (drafted k lt));
     }
 
+-- an installed state, whose number is one higher, keeps all tags below that of the state to come
 pub install_tags : (sizes : Sizes) (m n : Words) (row : ℕ) → TagsBelow sizes m → StateInstalled sizes m n (state_tag m + 1) row
     → TagsBelow sizes n
 install_tags sizes m n row h s r k lr lk = let le = h r k lr lk in rw (s.tags r k lr lk, s.state) (omega arith)
 
+-- a process that installs its next record leaves those of the others
 pub install_own : (sizes : Sizes) (m n : Words) (i o : ℕ) (v w : TransferView) → o < sizes.processes → OwnRecord sizes m i v
     → OwnRecord sizes m o w → o ≢ i → StateInstalled sizes m n (state_tag m + 1) v.next_record → OwnRecord sizes n o w
 install_own sizes m n i o v w lo hv h ne s =
@@ -126,6 +134,7 @@ install_own sizes m n i o v w lo hv h ne s =
       stored_values = λ k lt. s.values w.next_record k low (stored_low sizes w.next k h.index lt) ∙ h.stored_values k lt;
     }
 
+-- what a view loaded stays as it is when a later state is installed
 pub install_loaded : (sizes : Sizes) (m n : Words) (states later : States) (row : ℕ) (w : TransferView) → LoadedState sizes m states w
     → StateInstalled sizes m n (state_tag m + 1) row → ((t : ℕ) → t ≤ state_tag m → later t ≡ states t) → LoadedState sizes n later w
 install_loaded sizes m n states later row w h s same = grind arith

@@ -11,12 +11,14 @@ use Rattle.transfer_machine.specs.Machine.{try_ended, after_slot, after_record, 
 use Rattle.transfer_machine.specs.declared.loaded.Loaded.{Loaded}
 use Rattle.transfer_machine.specs.declared.transfer.TransferView.{TransferView}
 use Rattle.transfer_machine.specs.declared.stage.NextStep.TheVariants.{Try}
-use Rattle.transfer_machine.specs.declared.stage.TryStep.TheVariants.{LoadRecordWord, LoadCoveredSlot, ExchangeSlot, LoadAnnouncement, LoadPoppedSlot}
+use Rattle.transfer_machine.specs.declared.stage.TryStep.TheVariants.{LoadRecordWord, LoadCoveredSlot, ExchangeSlot}
+use Rattle.transfer_machine.specs.declared.stage.TryStep.TheVariants.{LoadAnnouncement, LoadPoppedSlot}
 use Rattle.transfer_invariant.specs.Memory.{Words, Views, States, Moved, word_tag, word_value}
 use Rattle.transfer_invariant.specs.Progress.{in_try, has_loaded, loaded_words}
 use Rattle.transfer_invariant.specs.Invariant.{RecordsHold}
 use Rattle.transfer_invariant.proofs.Own.{KeepsLoaded, StoresNone, word_loaded}
-use Rattle.transfer_invariant.proofs.Steps.{moves_on, moves_on_same, within, try_ends, slot_none, slot_loads, heard_none, heard_loads, record_none, record_loads}
+use Rattle.transfer_invariant.proofs.Steps.{moves_on, moves_on_same, within, try_ends, slot_none, slot_loads}
+use Rattle.transfer_invariant.proofs.Steps.{heard_none, heard_loads, record_none, record_loads}
 
 -- a process at rest stays so, and one that begins or ends a transfer has nothing loaded
 pub leaves : (sizes : Sizes) (m : Words) (views after : Views) (states : States) (i : ℕ) (x : TransferView) → i < sizes.processes
@@ -89,6 +91,7 @@ word_met sizes m views after states i second index word few li inv e et ev le fa
     more_words : (n index : ℕ) → index < n → (index + 1 == n) ≡ false → index + 1 < n
     more_words n index lt h = grind (arith, nat_tests)
 
+-- the load of a record word, of the loaded state or, which ends the try, of a later one, keeps the parts on the records
 pub record_step : (sizes : Sizes) (m : Words) (views after : Views) (states : States) (i : ℕ) (second : Bool) (index word : ℕ)
     → sizes.processes ≤ 32 → i < sizes.processes → RecordsHold sizes m views states → (views i).next ≡ Try second (LoadRecordWord index)
     → tag_of word ≡ word_tag m (loaded_record (views i).loaded) index
@@ -126,6 +129,7 @@ slot_step sizes m views after states i second offset word li inv e false moved =
     moves_on_same sizes m views after states i x li inv (within v x (rw e refl) refl refl refl) (slot_none sizes second v.loaded offset)
     refl (rw e (slot_loads (record_words sizes) v.loaded offset)) moved
 
+-- the exchange of a slot keeps the parts on the records
 pub exchange_step : (sizes : Sizes) (m : Words) (views after : Views) (states : States) (i : ℕ) (second : Bool) (offset : ℕ)
     → i < sizes.processes → RecordsHold sizes m views states → (views i).next ≡ Try second (ExchangeSlot offset)
     → Moved i (record (views i) { next = Try second (after_slot (views i).loaded offset) }) views after

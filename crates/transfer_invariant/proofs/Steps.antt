@@ -18,7 +18,8 @@ use Rattle.transfer_invariant.specs.Invariant.{RecordsHold}
 use Rattle.transfer_invariant.proofs.Changes.{RecordsStay}
 use Rattle.transfer_invariant.proofs.MovedViews.{all_after, all_pairs_after}
 use Rattle.transfer_invariant.proofs.Stable.{stay_current, stay_states, stay_tags, stay_own, stay_loaded}
-use Rattle.transfer_invariant.proofs.Own.{KeepsLoaded, StoresNone, keeps_own, keeps_loaded, keeps_from, keeps_to, state_own, state_loaded, state_from}
+use Rattle.transfer_invariant.proofs.Own.{KeepsLoaded, StoresNone, keeps_own, keeps_loaded, keeps_from}
+use Rattle.transfer_invariant.proofs.Own.{keeps_to, state_own, state_loaded, state_from}
 
 -- what a step of process i owes
 pub record Owed (sizes : Sizes) (n : Words) (views : Views) (states : States) (i : ℕ) (x : TransferView) : Type 0 where
@@ -34,6 +35,7 @@ pub record Owed (sizes : Sizes) (n : Words) (views : Views) (states : States) (i
   pub self : OwnerWentOn x x
   pub rest : (a o : ℕ) → a < sizes.processes → o < sizes.processes → a ≢ i → o ≢ i → OwnerWentOn (views a) (views o)
 
+-- the parts on the records hold after a step of process i, where it and all others meet what the step owes
 pub assemble : (sizes : Sizes) (n : Words) (views after : Views) (states : States) (i : ℕ) (x : TransferView) → Moved i x views after
     → Owed sizes n views states i x → RecordsHold sizes n after states
 assemble sizes n views after states i x moved owed = record {
@@ -114,16 +116,20 @@ loads_state sizes m views after states i x li inv en ei ex es el er et moved =
 pub try_has : (s : NextStep) → in_try s ≡ true → has_loaded s ≡ true
 try_has s e = grind arith
 
+-- a view that changes neither its records nor the loaded state within a try goes on with that state
 pub within : (v x : TransferView) → in_try v.next ≡ true → x.next_record ≡ v.next_record → x.installed ≡ v.installed
     → x.loaded.state ≡ v.loaded.state → KeepsLoaded v x
 within v x e en ei es = record { next_record = en; installed = ei; state = es; has = λ h. try_has v.next e; tries = λ h. e }
 
+-- what follows a try has stored no word of the next record
 pub ended_none : (sizes : Sizes) (second : Bool) → StoresNone sizes (after_try second)
 ended_none sizes second = grind arith
 
+-- nor has it loaded a word of a record
 pub ended_loads : (words : ℕ) (second : Bool) → loaded_words words (after_try second) ≡ 0
 ended_loads words second = grind arith
 
+-- the end of a try that installs nothing keeps the parts on the records
 pub try_ends : (sizes : Sizes) (m : Words) (views after : Views) (states : States) (i : ℕ) (second : Bool) → i < sizes.processes
     → RecordsHold sizes m views states → in_try (views i).next ≡ true → Moved i (try_ended second (views i)) views after
     → RecordsHold sizes m after states
@@ -136,17 +142,22 @@ try_ends sizes m views after states i second li inv e moved =
 pub slot_none : (sizes : Sizes) (second : Bool) (loaded : Loaded) (offset : ℕ) → StoresNone sizes (Try second (after_slot loaded offset))
 slot_none sizes second loaded offset = grind (arith, nat_tests)
 
+-- a step after a covered slot has loaded no more words than a record has
 pub slot_loads : (words : ℕ) (loaded : Loaded) (offset : ℕ) → loaded_in_try words (after_slot loaded offset) ≤ words
 slot_loads words loaded offset = grind (arith, nat_tests)
 
+-- a step after an announcement has stored no word of the next record
 pub heard_none : (sizes : Sizes) (second : Bool) (process : ℕ) → StoresNone sizes (Try second (after_heard sizes process))
 heard_none sizes second process = grind (arith, nat_tests)
 
+-- nor has it loaded more words than a record has
 pub heard_loads : (words : ℕ) (sizes : Sizes) (process : ℕ) → loaded_in_try words (after_heard sizes process) ≤ words
 heard_loads words sizes process = grind (arith, nat_tests)
 
+-- a step after a whole record has stored no word of the next record
 pub record_none : (sizes : Sizes) (second : Bool) (loaded : Loaded) → StoresNone sizes (Try second (after_record loaded))
 record_none sizes second loaded = grind (arith, nat_tests)
 
+-- nor has it loaded more words than a record has
 pub record_loads : (words : ℕ) (loaded : Loaded) → loaded_in_try words (after_record loaded) ≤ words
 record_loads words loaded = grind (arith, nat_tests)

@@ -21,7 +21,8 @@ use Rattle.transfer_machine.specs.Machine.{after_stored, installed}
 use Rattle.transfer_machine.specs.States.{StackState}
 use Rattle.transfer_invariant.specs.Laws.{DraftFits}
 use Rattle.transfer_invariant.proofs.Changes.{WordStored, StateInstalled}
-use Rattle.transfer_invariant.proofs.Stable.{store_current, store_tags, store_own, store_loaded, install_current, install_tags, install_own, install_loaded}
+use Rattle.transfer_invariant.proofs.Stable.{store_current, store_tags, store_own, store_loaded}
+use Rattle.transfer_invariant.proofs.Stable.{install_current, install_tags, install_own, install_loaded}
 use Rattle.transfer_invariant.proofs.Own.{stores_loaded, store_own_view, install_own_view, install_to}
 use Rattle.transfer_invariant.proofs.Steps.{assemble, within}
 
@@ -88,6 +89,7 @@ pub with_state_here : (number : ℕ) (new : StackState) (states : States) → wi
 unfolding with_state
 with_state_here number new states = let test : (number == number) ≡ true = grind (arith, nat_tests) in rw test refl
 
+-- a new last state leaves all states before it
 pub with_state_below : (last : ℕ) (new : StackState) (states : States) (m : ℕ) → m ≤ last → with_state (last + 1) new states m ≡ states m
 unfolding with_state
 with_state_below last new states m le = let test : (m == last + 1) ≡ false = grind (arith, nat_tests) in rw test refl

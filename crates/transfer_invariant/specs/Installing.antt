@@ -7,7 +7,8 @@ use Rattle.transfer_machine.specs.declared.transfer.TransferView.{TransferView}
 use Rattle.transfer_machine.specs.declared.stage.NextStep.{NextStep}
 use Rattle.transfer_machine.specs.declared.stage.NextStep.TheVariants.{Rest, Announce, Try, LoadFinalState, LoadReply}
 use Rattle.transfer_machine.specs.declared.stage.TryStep.{TryStep}
-use Rattle.transfer_machine.specs.declared.stage.TryStep.TheVariants.{LoadState, LoadRecordWord, LoadCoveredSlot, ExchangeSlot, LoadAnnouncement, LoadPoppedSlot, StoreRecordWord, ExchangeState}
+use Rattle.transfer_machine.specs.declared.stage.TryStep.TheVariants.{LoadState, LoadRecordWord, LoadCoveredSlot, ExchangeSlot}
+use Rattle.transfer_machine.specs.declared.stage.TryStep.TheVariants.{LoadAnnouncement, LoadPoppedSlot, StoreRecordWord, ExchangeState}
 use Rattle.transfer_invariant.specs.Memory.{Words, States, state_tag}
 
 -- the state that a view drafted as the one after this: the content below the working base stays, the working overlay comes on top of it

@@ -4,7 +4,8 @@ use Rattle.transfer_machine.specs.Stages.{in_try_else}
 use Rattle.transfer_machine.specs.declared.stage.NextStep.{NextStep}
 use Rattle.transfer_machine.specs.declared.stage.NextStep.TheVariants.{Rest, Announce, Try, LoadFinalState, LoadReply}
 use Rattle.transfer_machine.specs.declared.stage.TryStep.{TryStep}
-use Rattle.transfer_machine.specs.declared.stage.TryStep.TheVariants.{LoadState, LoadRecordWord, LoadCoveredSlot, ExchangeSlot, LoadAnnouncement, LoadPoppedSlot, StoreRecordWord, ExchangeState}
+use Rattle.transfer_machine.specs.declared.stage.TryStep.TheVariants.{LoadState, LoadRecordWord, LoadCoveredSlot, ExchangeSlot}
+use Rattle.transfer_machine.specs.declared.stage.TryStep.TheVariants.{LoadAnnouncement, LoadPoppedSlot, StoreRecordWord, ExchangeState}
 
 -- a try at this step has loaded the state
 abbrev pub has_loaded_state : TryStep → Bool
@@ -37,7 +38,7 @@ in_second_try (Try second step) = second && has_loaded_state step
 in_second_try LoadFinalState = false
 in_second_try LoadReply = false
 
--- in such a try, or in an end that has loaded the state
+-- in a try, or in an end, that has loaded the state
 abbrev pub has_loaded : NextStep → Bool
 has_loaded Rest = false
 has_loaded Announce = false

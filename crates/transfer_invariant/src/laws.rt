@@ -1,6 +1,7 @@
 //! The opening meets the invariant and each step keeps it. Each law is the contract of a call that does
 //! nothing.
-ghost use Rattle.transfer_invariant.specs.Laws.{OpeningMeetsInvariant, StepsKeepInvariant, BeginningsKeepInvariant, TableActsByNames, TagsAreFew, WholeRecordsAreStates};
+ghost use Rattle.transfer_invariant.specs.Laws.{OpeningMeetsInvariant, StepsKeepInvariant, BeginningsKeepInvariant};
+ghost use Rattle.transfer_invariant.specs.Laws.{TableActsByNames, TagsAreFew, WholeRecordsAreStates};
 
 /// The words and views of the opening meet the invariant, with the opening state.
 pub fn opening()

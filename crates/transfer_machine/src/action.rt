@@ -1,3 +1,5 @@
+//! What a step does to its one word: a load, a store, or a compare and exchange.
+
 use word_layout::WordName;
 
 /// What a step does to the one word that it names.

@@ -1,3 +1,5 @@
+//! How far a transfer is: the step that its process makes next.
+
 use crate::kind::Kind;
 
 /// The next step of a transfer: the announcement, two tries, and the end.

@@ -1,3 +1,5 @@
+//! The opening words of a small shape, and a take made alone: the kind, the place and the word of each step.
+
 use crate::{Kind, NextStep, TransferView, can_step, opening_words, step_transfer};
 use std::process::Abort;
 use std::test::Fail;

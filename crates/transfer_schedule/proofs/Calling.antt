@@ -1,5 +1,6 @@
 -- What holds of a plan after any list of calls that are made as the schedule says.
-use Rattle.std.proofs.Common.{◌≡◌, ℕ, zero, suc, ◌+◌, ◌-◌, ◌*◌, ◌<◌, ◌≤◌, Bool, true, false, if◌then◌else◌, Option, None, Some, List, [], ◌∷◌, length, take, get_or, sym, refl, ◌∙◌, ap, subst, inl, inr, arith}
+use Rattle.std.proofs.Common.{◌≡◌, ℕ, zero, suc, ◌+◌, ◌-◌, ◌*◌, ◌<◌, ◌≤◌, Bool, true, false, if◌then◌else◌, Option, None, Some, List, []}
+use Rattle.std.proofs.Common.{◌∷◌, length, take, get_or, sym, refl, ◌∙◌, ap, subst, inl, inr, arith}
 use Rattle.std.proofs.lemmas.Bool.{cases_Bool}
 use Rattle.std.proofs.lemmas.Option.{slice_get-get_or}
 use Rattle.transfer_schedule.specs.declared.pending.Pending.TheVariants.{Idle}
@@ -7,11 +8,15 @@ use Rattle.transfer_schedule.specs.declared.own_step.Source.TheVariants.{Nothing
 use Rattle.transfer_schedule.specs.declared.call.OwnStep.{OwnStep}
 use Rattle.transfer_schedule.specs.declared.call.OwnStep.TheVariants.{Allocate, Free}
 use Rattle.transfer_schedule.specs.declared.call.PlannedCall.{PlannedCall}
-use Rattle.transfer_schedule.specs.Numbers.{Numbers, AreSizes, is_idle, is_taking, opening, after_choice, after_steps, after_end, source_of, kept, withheld}
+use Rattle.transfer_schedule.specs.Numbers.{Numbers, AreSizes, is_idle, is_taking, opening, after_choice, after_steps, after_end, source_of}
+use Rattle.transfer_schedule.specs.Numbers.{kept, withheld}
 use Rattle.transfer_schedule.specs.Table.{InTable}
-use Rattle.transfer_schedule.specs.Calls.{after_transfer, ready_for, after_own, after_call, after_calls, Fits, FitAll, LeavesIdle, IsMoment, between, moving, ready}
-use Rattle.transfer_schedule.proofs.Operations.{idle_is, busy_not_idle, not_idle_busy, no_steps, end_steps, choice_busy, choice_sizes, end_sizes, took_sizes, took_same, gave_sizes, gave_same}
-use Rattle.transfer_schedule.proofs.Standing.{Standing, Ready, opening_stands, choice_stands, choice_ready, steps_stand, steps_ready, end_ready, took_stands, gave_stands, young, nothing_dry}
+use Rattle.transfer_schedule.specs.Calls.{after_transfer, ready_for, after_own, after_call, after_calls, Fits, FitAll, LeavesIdle, IsMoment}
+use Rattle.transfer_schedule.specs.Calls.{between, moving, ready}
+use Rattle.transfer_schedule.proofs.Operations.{idle_is, busy_not_idle, not_idle_busy, no_steps, end_steps, choice_busy, choice_sizes}
+use Rattle.transfer_schedule.proofs.Operations.{end_sizes, took_sizes, took_same, gave_sizes, gave_same}
+use Rattle.transfer_schedule.proofs.Standing.{Standing, Ready, opening_stands, choice_stands, choice_ready, steps_stand, steps_ready}
+use Rattle.transfer_schedule.proofs.Standing.{end_ready, took_stands, gave_stands, young, nothing_dry}
 use Rattle.transfer_schedule.proofs.Spared.{Spared, spared_standing, spared_ready, spared_table, spared_rests, spared_withholds}
 
 -- a plan of batches of `size` blocks between two calls

@@ -4,7 +4,8 @@ use Rattle.std.proofs.lemmas.Bool.Decides.{nat_tests}
 use Rattle.transfer_schedule.specs.declared.pending.Pending.{Pending}
 use Rattle.transfer_schedule.specs.declared.pending.Pending.TheVariants.{Idle}
 use Rattle.transfer_schedule.specs.declared.own_step.Source.TheVariants.{Nothing}
-use Rattle.transfer_schedule.specs.Numbers.{Numbers, is_idle, one_more, after_choice, after_steps, after_end, after_took_one, after_gave_one, source_of}
+use Rattle.transfer_schedule.specs.Numbers.{Numbers, is_idle, one_more, after_choice, after_steps, after_end, after_took_one}
+use Rattle.transfer_schedule.specs.Numbers.{after_gave_one, source_of}
 use Rattle.transfer_schedule.specs.Laws.{HasSizes}
 
 pub idle_is : (p : Pending) → is_idle p ≡ true → p ≡ Idle

@@ -1,21 +1,23 @@
 -- What holds of every account that the schedule reaches.
-use Rattle.std.proofs.Common.{◌≡◌, ◌≢◌, ℕ, ◌+◌, ◌-◌, ◌*◌, ◌<◌, ◌≤◌, Bool, true, false, if◌then◌else◌, sym, refl, ◌∙◌, ap, subst, inl, inr, arith}
+use Rattle.std.proofs.Common.{◌≡◌, ◌≢◌, ℕ, ◌+◌, ◌-◌, ◌*◌, ◌<◌, ◌≤◌, Bool, true, false, if◌then◌else◌, sym, refl, ◌∙◌, ap, subst, inl, inr}
+use Rattle.std.proofs.Common.{arith}
 use Rattle.std.proofs.lemmas.Bool.{cases_eq, false≢true}
 use Rattle.std.proofs.lemmas.Bool.Decides.{nat_tests}
 use Rattle.transfer_schedule.specs.declared.own_step.Source.TheVariants.{Nothing}
 use Rattle.transfer_schedule.specs.declared.pending.Pending.{Pending}
-use Rattle.transfer_schedule.specs.declared.pending.Pending.TheVariants.{Taking, Giving, Idle}
+use Rattle.transfer_schedule.specs.declared.pending.Pending.TheVariants.{Giving}
 use Rattle.transfer_schedule.specs.Numbers.{Numbers, AreSizes, is_idle, is_taking, is_giving, after_begin, after_choice, after_steps}
-use Rattle.transfer_schedule.specs.Numbers.{after_end, after_took_one, after_gave_one, source_of, stock}
+use Rattle.transfer_schedule.specs.Numbers.{after_end, after_took_one, after_gave_one, after_shelved, source_of, stock}
 use Rattle.transfer_schedule.specs.Table.{InTable}
 use Rattle.transfer_schedule.specs.Account.{CallPhase, Between, Moving, Own, Seeking, Choosing, Sought, Leaving, Clearing, Shedding}
-use Rattle.transfer_schedule.specs.Account.{Resting, Joining, Returning, Account, after_move, moves_in, owns_in, chooses_in, stepped}
-use Rattle.transfer_schedule.specs.Account.{ended_with, last_take, got_one, got_none, sought_by, after_seek, after_shelved}
-use Rattle.transfer_schedule.specs.Account.{Follows, begins, continues, rests, moves, ends, gets, refuses, frees, meets, seeks, quits}
-use Rattle.transfer_schedule.specs.Account.{clears, gives, shelves, leaves, returns, retakes, Reached, opens, follows}
+use Rattle.transfer_schedule.specs.Account.{Resting, Joining, Returning, Account, after_move, moves_in, asks_in, chooses_in, stepped}
+use Rattle.transfer_schedule.specs.Account.{ended_with, last_take, sought_by}
+use Rattle.transfer_schedule.specs.Account.{Follows, begins, continues, idles, moves, ends, gets, refuses, frees, meets, seeks, quits}
+use Rattle.transfer_schedule.specs.Account.{clears, gives, shelves, retires, enlists, retakes, Reached, opens, follows}
 use Rattle.transfer_schedule.specs.Laws.{HasSizes, RestsWithFour, WithholdsFive, IsSound, EndsInTime, GivesLeaveBatch, CountsSteps}
-use Rattle.transfer_schedule.specs.Laws.{BeginsShort, RefusesSoon, serves, SoundWhileServing, MissesNow, FoundNothing, KeepsRest, RestsWithFew}
-use Rattle.transfer_schedule.specs.Laws.{WaitsAnnounced, JustBegun, PendsWhileMoving}
+use Rattle.transfer_schedule.specs.Laws.{BeginsShort, RefusesSoon, serves, SoundWhileServing, MissesNow, FoundNothing, IsCleared}
+use Rattle.transfer_schedule.specs.Laws.{RestsCleared, is_at_rest}
+use Rattle.transfer_schedule.specs.Laws.{WaitsAnnounced, JustBegun, PendsWhileMoving, is_still, IdlesWhileStill}
 use Rattle.transfer_schedule.proofs.Products.{times_two, times_three, times_le, quantum_some}
 use Rattle.transfer_schedule.proofs.Operations.{one_more_few, no_steps, end_steps, choice_busy, choice_sizes, end_sizes, took_sizes}
 use Rattle.transfer_schedule.proofs.Operations.{gave_sizes, took_nothing, busy_not_idle, not_idle_busy, idle_is}
@@ -37,11 +39,11 @@ record Moves (made : ℕ) (a : Account) : Type 0 where
   few : made < a.plan.quantum
 
 -- at the transfer of a search or of a retire, which a search may have begun after the last entry
-record Seeks (own : Bool) (a : Account) : Type 0 where
+record Seeks (chosen : Bool) (a : Account) : Type 0 where
   made : ℕ
   standing : Standing a.plan made a.entries a.begun a.ended
   busy : is_idle a.plan.pending ≡ false
-  now : own ≡ true → a.begun ≡ a.entries
+  now : chosen ≡ true → a.begun ≡ a.entries
 
 -- in a search, with the transfer that it met ended
 record Chooses (a : Account) : Type 0 where
@@ -90,7 +92,7 @@ abbrev AtPhase : CallPhase → Account → Type 0
 AtPhase Between a = Waits a
 AtPhase (Moving made) a = Moves made a
 AtPhase Own a = Ready a.plan a.entries a.begun a.ended
-AtPhase (Seeking own) a = Seeks own a
+AtPhase (Seeking chosen) a = Seeks chosen a
 AtPhase Choosing a = Chooses a
 AtPhase Sought a = Looks a
 AtPhase Leaving a = Seeks false a
@@ -171,9 +173,9 @@ quantum_step a made m low = elim (cases_eq (made + 1) a.plan.quantum) [
         steps_ready (after_steps 1 a.plan) a.entries a.begun a.ended now m.busy
 
 -- of a search or a retire
-sought_step : (own : Bool) (a : Account) (phase : CallPhase) → Seeks own a → a.plan.done + 1 < a.plan.bound
-    → Seeks own (record a { plan = after_steps 1 a.plan; phase = phase })
-sought_step own a phase m low = record {
+sought_step : (chosen : Bool) (a : Account) (phase : CallPhase) → Seeks chosen a → a.plan.done + 1 < a.plan.bound
+    → Seeks chosen (record a { plan = after_steps 1 a.plan; phase = phase })
+sought_step chosen a phase m low = record {
   made = m.made + 1;
   standing = steps_stand a.plan 1 m.made a.entries a.begun a.ended m.standing m.busy low;
   busy = m.busy;
@@ -190,12 +192,20 @@ step_facts a (Moving made) e s moving low = record {
   net = λ serving. s.net (rw e refl);
 }
 step_facts a Own e s moving low = no_net moving
-step_facts a (Seeking own) e s moving low =
-    record { at_phase = rw e (sought_step own a (Seeking own) (at (Seeking own) a e s) low); held = s.held; net = λ serving. s.net (rw e refl) }
+step_facts a (Seeking chosen) e s moving low =
+    record {
+      at_phase = rw e (sought_step chosen a (Seeking chosen) (at (Seeking chosen) a e s) low);
+      held = s.held;
+      net = λ serving. s.net (rw e refl);
+    }
 step_facts a Choosing e s moving low = no_net moving
 step_facts a Sought e s moving low = no_net moving
 step_facts a Leaving e s moving low =
-    record { at_phase = rw e (sought_step false a Leaving (at Leaving a e s) low); held = s.held; net = λ serving. no_net (rw e at serving) }
+    record {
+      at_phase = rw e (sought_step false a Leaving (at Leaving a e s) low);
+      held = s.held;
+      net = λ serving. no_net (rw e at serving);
+    }
 step_facts a Clearing e s moving low = no_net moving
 step_facts a Shedding e s moving low =
     let c = at Shedding a e s in
@@ -258,10 +268,12 @@ came_back : (x : Numbers) (found : Bool) (entries begun ended : ℕ) → AreSize
 came_back x found entries begun ended sizes taking none few now = grind (arith, nat_tests, one_more_few x.spares)
 
 sizes_of_end : (found : Bool) (x : Numbers) → AreSizes x.length x.bound x.quantum
-    → AreSizes (after_end found (after_steps 1 x)).length (after_end found (after_steps 1 x)).bound (after_end found (after_steps 1 x)).quantum
+    → AreSizes (after_end found (after_steps 1 x)).length (after_end found (after_steps 1 x)).bound
+    (after_end found (after_steps 1 x)).quantum
 sizes_of_end found x h = grind (arith, nat_tests)
 
-end_facts : (a : Account) (found : Bool) (phase : CallPhase) → a.phase ≡ phase → Stands a → moves_in phase ≡ true → Stands (ended_with found a)
+end_facts : (a : Account) (found : Bool) (phase : CallPhase) → a.phase ≡ phase → Stands a → moves_in phase ≡ true
+    → Stands (ended_with found a)
 end_facts a found Between e s moving = no_net moving
 end_facts a found (Moving made) e s moving =
     let m = at (Moving made) a e s in
@@ -335,20 +347,20 @@ end_facts a found Returning e s moving =
     }
 
 -- the own step of an allocate or a search
-own_ready : (a : Account) (phase : CallPhase) → a.phase ≡ phase → Stands a → owns_in phase ≡ true
+own_ready : (a : Account) (phase : CallPhase) → a.phase ≡ phase → Stands a → asks_in phase ≡ true
     → Ready a.plan a.entries a.begun a.ended × (serves phase ≡ true)
-own_ready a Own e s owns = (at Own a e s, refl)
-own_ready a Sought e s owns = (let l = at Sought a e s in l.ready, refl)
-own_ready a Between e s owns = no_net owns
-own_ready a (Moving made) e s owns = no_net owns
-own_ready a (Seeking own) e s owns = no_net owns
-own_ready a Choosing e s owns = no_net owns
-own_ready a Leaving e s owns = no_net owns
-own_ready a Clearing e s owns = no_net owns
-own_ready a Shedding e s owns = no_net owns
-own_ready a Resting e s owns = no_net owns
-own_ready a Joining e s owns = no_net owns
-own_ready a Returning e s owns = no_net owns
+own_ready a Own e s asks = (at Own a e s, refl)
+own_ready a Sought e s asks = (let l = at Sought a e s in l.ready, refl)
+own_ready a Between e s asks = no_net asks
+own_ready a (Moving made) e s asks = no_net asks
+own_ready a (Seeking chosen) e s asks = no_net asks
+own_ready a Choosing e s asks = no_net asks
+own_ready a Leaving e s asks = no_net asks
+own_ready a Clearing e s asks = no_net asks
+own_ready a Shedding e s asks = no_net asks
+own_ready a Resting e s asks = no_net asks
+own_ready a Joining e s asks = no_net asks
+own_ready a Returning e s asks = no_net asks
 
 took_waits : (x : Numbers) (entries begun ended : ℕ) → Ready x entries begun ended → is_idle (after_took_one x).pending ≡ false
     → begun < entries + 1
@@ -365,7 +377,7 @@ choosing a Between e s chooses = (let w = at Between a e s in w.standing, refl)
 choosing a Choosing e s chooses = (let w = at Choosing a e s in w.standing, refl)
 choosing a (Moving made) e s chooses = no_net chooses
 choosing a Own e s chooses = no_net chooses
-choosing a (Seeking own) e s chooses = no_net chooses
+choosing a (Seeking chosen) e s chooses = no_net chooses
 choosing a Sought e s chooses = no_net chooses
 choosing a Leaving e s chooses = no_net chooses
 choosing a Clearing e s chooses = no_net chooses
@@ -427,7 +439,7 @@ step_stands a b s (continues e busy) =
       held = s.held;
       net = λ _ u. choice_net a.plan a.gots a.backs (s.held u) (s.net (ap serves e) u);
     }
-step_stands a b s (rests e idle) =
+step_stands a b s (idles e idle) =
     let w = at Between a e s in
     record {
       at_phase = choice_ready a.plan a.entries a.begun a.ended w.standing idle;
@@ -436,8 +448,8 @@ step_stands a b s (rests e idle) =
     }
 step_stands a b s (moves moving low) = step_facts a a.phase refl s moving low
 step_stands a b s (ends found moving low giving) = end_facts a found a.phase refl s moving
-step_stands a b s (gets owns some) =
-    let (r, serving) = own_ready a a.phase refl s owns in
+step_stands a b s (gets asks some) =
+    let (r, serving) = own_ready a a.phase refl s asks in
     record {
       at_phase = record {
         standing = took_stands a.plan a.entries a.begun a.ended r;
@@ -446,8 +458,8 @@ step_stands a b s (gets owns some) =
       held = λ u. omega (arith, s.held u);
       net = λ _ u. took_net a.plan a.gots a.backs some r.sizes.long (s.net serving u);
     }
-step_stands a b s (refuses owns none) =
-    let (r, serving) = own_ready a a.phase refl s owns in
+step_stands a b s (refuses asks none) =
+    let (r, serving) = own_ready a a.phase refl s asks in
     record {
       at_phase = record {
         standing = took_stands a.plan a.entries a.begun a.ended r;
@@ -497,14 +509,14 @@ step_stands a b s (shelves e none full) =
       held = s.held;
       net = λ serving. no_net (rw e at serving);
     }
-step_stands a b s (leaves e none few) =
+step_stands a b s (retires e none few) =
     let c = at Clearing a e s in
     record {
       at_phase = record { sizes = c.sizes; idle = c.idle; none = none; few = few; broken = refl };
       held = no_net;
       net = no_net;
     }
-step_stands a b s (returns e) =
+step_stands a b s (enlists e) =
     let r = at Resting a e s in
     record {
       at_phase = record { sizes = r.sizes; idle = r.idle; none = r.none; few = r.few; broken = r.broken };
@@ -539,12 +551,12 @@ step_sizes : (length bound quantum : ℕ) (a b : Account)
     → HasSizes length bound quantum b.plan
 step_sizes length bound quantum a b h (begins e idle busy) = let k = choice_sizes a.plan in (k.0 ∙ h.0, k.1 ∙ h.1, k.2 ∙ h.2)
 step_sizes length bound quantum a b h (continues e busy) = let k = choice_sizes a.plan in (k.0 ∙ h.0, k.1 ∙ h.1, k.2 ∙ h.2)
-step_sizes length bound quantum a b h (rests e idle) = let k = choice_sizes a.plan in (k.0 ∙ h.0, k.1 ∙ h.1, k.2 ∙ h.2)
+step_sizes length bound quantum a b h (idles e idle) = let k = choice_sizes a.plan in (k.0 ∙ h.0, k.1 ∙ h.1, k.2 ∙ h.2)
 step_sizes length bound quantum a b h (moves moving low) = h
 step_sizes length bound quantum a b h (ends found moving low giving) =
     let k = end_sizes (after_steps 1 a.plan) found in (k.0 ∙ h.0, k.1 ∙ h.1, k.2 ∙ h.2)
-step_sizes length bound quantum a b h (gets owns some) = let k = took_sizes a.plan in (k.0 ∙ h.0, k.1 ∙ h.1, k.2 ∙ h.2)
-step_sizes length bound quantum a b h (refuses owns none) = let k = took_sizes a.plan in (k.0 ∙ h.0, k.1 ∙ h.1, k.2 ∙ h.2)
+step_sizes length bound quantum a b h (gets asks some) = let k = took_sizes a.plan in (k.0 ∙ h.0, k.1 ∙ h.1, k.2 ∙ h.2)
+step_sizes length bound quantum a b h (refuses asks none) = let k = took_sizes a.plan in (k.0 ∙ h.0, k.1 ∙ h.1, k.2 ∙ h.2)
 step_sizes length bound quantum a b h (frees e held) = let k = gave_sizes a.plan in (k.0 ∙ h.0, k.1 ∙ h.1, k.2 ∙ h.2)
 step_sizes length bound quantum a b h (meets e busy) = h
 step_sizes length bound quantum a b h (seeks chooses idle) =
@@ -553,8 +565,8 @@ step_sizes length bound quantum a b h (quits e busy) = h
 step_sizes length bound quantum a b h (clears e idle) = h
 step_sizes length bound quantum a b h (gives e some) = h
 step_sizes length bound quantum a b h (shelves e none full) = h
-step_sizes length bound quantum a b h (leaves e none few) = h
-step_sizes length bound quantum a b h (returns e) = h
+step_sizes length bound quantum a b h (retires e none few) = h
+step_sizes length bound quantum a b h (enlists e) = h
 step_sizes length bound quantum a b h (retakes e) = h
 
 pub reached_sizes : (length bound quantum : ℕ) (a : Account) → Reached length bound quantum a → HasSizes length bound quantum a.plan
@@ -577,7 +589,7 @@ by_phase Fact a s f = go a.phase refl
     go Between e = f.standing 0 (let w = at Between a e s in w.standing)
     go (Moving made) e = f.standing made (let m = at (Moving made) a e s in m.standing)
     go Own e = f.ready (at Own a e s)
-    go (Seeking own) e = (let m = at (Seeking own) a e s in f.standing m.made m.standing)
+    go (Seeking chosen) e = (let m = at (Seeking chosen) a e s in f.standing m.made m.standing)
     go Choosing e = f.standing 0 (let m = at Choosing a e s in m.standing)
     go Sought e = f.ready (let l = at Sought a e s in l.ready)
     go Leaving e = (let m = at Leaving a e s in f.standing m.made m.standing)
@@ -597,7 +609,7 @@ by_service Fact a s serving standing ready = go a.phase refl
     go Between e = standing 0 (let w = at Between a e s in w.standing)
     go (Moving made) e = standing made (let m = at (Moving made) a e s in m.standing)
     go Own e = ready (at Own a e s)
-    go (Seeking own) e = (let m = at (Seeking own) a e s in standing m.made m.standing)
+    go (Seeking chosen) e = (let m = at (Seeking chosen) a e s in standing m.made m.standing)
     go Choosing e = standing 0 (let m = at Choosing a e s in m.standing)
     go Sought e = ready (let l = at Sought a e s in l.ready)
     go Leaving e = no_net (ap serves (sym e) ∙ serving)
@@ -737,38 +749,72 @@ pub stands_misses : (a : Account) → Stands a → MissesNow a
 stands_misses a s e none = let l = at Sought a e s in let n = l.now none in record { dry = n.0; recent = omega (arith, n.1) }
 
 -- an allocate or a search
-pub owns_serves : (phase : CallPhase) → owns_in phase ≡ true → serves phase ≡ true
-owns_serves Own owns = refl
-owns_serves Sought owns = refl
-owns_serves Between owns = no_net owns
-owns_serves (Moving made) owns = no_net owns
-owns_serves (Seeking own) owns = no_net owns
-owns_serves Choosing owns = no_net owns
-owns_serves Leaving owns = no_net owns
-owns_serves Clearing owns = no_net owns
-owns_serves Shedding owns = no_net owns
-owns_serves Resting owns = no_net owns
-owns_serves Joining owns = no_net owns
-owns_serves Returning owns = no_net owns
+pub asks_serves : (phase : CallPhase) → asks_in phase ≡ true → serves phase ≡ true
+asks_serves Own asks = refl
+asks_serves Sought asks = refl
+asks_serves Between asks = no_net asks
+asks_serves (Moving made) asks = no_net asks
+asks_serves (Seeking chosen) asks = no_net asks
+asks_serves Choosing asks = no_net asks
+asks_serves Leaving asks = no_net asks
+asks_serves Clearing asks = no_net asks
+asks_serves Shedding asks = no_net asks
+asks_serves Resting asks = no_net asks
+asks_serves Joining asks = no_net asks
+asks_serves Returning asks = no_net asks
 
-pub stands_refused : (a : Account) → Stands a → (phase : CallPhase) → a.phase ≡ phase → owns_in phase ≡ true → source_of a.plan ≡ Nothing
+pub stands_refused : (a : Account) → Stands a → (phase : CallPhase) → a.phase ≡ phase → asks_in phase ≡ true → source_of a.plan ≡ Nothing
     → FoundNothing (2 * a.plan.length - 2) a
-stands_refused a s Own e owns none = stands_refuses a s e none
-stands_refused a s Sought e owns none =
+stands_refused a s Own e asks none = stands_refuses a s e none
+stands_refused a s Sought e asks none =
     let n : FoundNothing 0 a = stands_misses a s e none in record { dry = n.dry; recent = omega (arith, n.recent) }
-stands_refused a s Between e owns none = no_net owns
-stands_refused a s (Moving made) e owns none = no_net owns
-stands_refused a s (Seeking own) e owns none = no_net owns
-stands_refused a s Choosing e owns none = no_net owns
-stands_refused a s Leaving e owns none = no_net owns
-stands_refused a s Clearing e owns none = no_net owns
-stands_refused a s Shedding e owns none = no_net owns
-stands_refused a s Resting e owns none = no_net owns
-stands_refused a s Joining e owns none = no_net owns
-stands_refused a s Returning e owns none = no_net owns
+stands_refused a s Between e asks none = no_net asks
+stands_refused a s (Moving made) e asks none = no_net asks
+stands_refused a s (Seeking chosen) e asks none = no_net asks
+stands_refused a s Choosing e asks none = no_net asks
+stands_refused a s Leaving e asks none = no_net asks
+stands_refused a s Clearing e asks none = no_net asks
+stands_refused a s Shedding e asks none = no_net asks
+stands_refused a s Resting e asks none = no_net asks
+stands_refused a s Joining e asks none = no_net asks
+stands_refused a s Returning e asks none = no_net asks
 
-pub stands_rested : (a : Account) → Stands a → RestsWithFew a
-stands_rested a s e = let r = at Resting a e s in record { idle = idle_is a.plan.pending r.idle; none = r.none; few = r.few }
+cleared_at_rest : (a : Account) → Reposes a → IsCleared a
+cleared_at_rest a r = record { idle = idle_is a.plan.pending r.idle; none = r.none; few = r.few }
+
+pub stands_rested : (a : Account) → Stands a → RestsCleared a
+stands_rested a s rest = go a.phase refl rest
+  where
+    go : (phase : CallPhase) → a.phase ≡ phase → is_at_rest phase ≡ true → IsCleared a
+    go Resting e rest = cleared_at_rest a (at Resting a e s)
+    go Joining e rest = cleared_at_rest a (at Joining a e s)
+    go Between e rest = no_net rest
+    go (Moving made) e rest = no_net rest
+    go Own e rest = no_net rest
+    go (Seeking chosen) e rest = no_net rest
+    go Choosing e rest = no_net rest
+    go Sought e rest = no_net rest
+    go Leaving e rest = no_net rest
+    go Clearing e rest = no_net rest
+    go Shedding e rest = no_net rest
+    go Returning e rest = no_net rest
+
+pub stands_still : (a : Account) → Stands a → IdlesWhileStill a
+stands_still a s still = go a.phase refl still
+  where
+    go : (phase : CallPhase) → a.phase ≡ phase → is_still phase ≡ true → is_idle a.plan.pending ≡ true
+    go Choosing e still = (let c = at Choosing a e s in c.idle)
+    go Clearing e still = (let c = at Clearing a e s in c.idle)
+    go Resting e still = (let r = at Resting a e s in r.idle)
+    go Joining e still = (let r = at Joining a e s in r.idle)
+    go Between e still = no_net still
+    go (Moving made) e still = no_net still
+    go Own e still = no_net still
+    go (Seeking chosen) e still = no_net still
+    go Sought e still = no_net still
+    go Leaving e still = no_net still
+    go Shedding e still = no_net still
+    go Returning e still = no_net still
 
 -- between two calls a pending transfer has made a step
 some_done : (quantum entries begun done : ℕ) → 0 < quantum → begun < entries → done ≡ quantum * (entries - begun) + 0 → 1 ≤ done
@@ -799,7 +845,7 @@ stands_begun a s moving none = go a.phase refl moving
     go Between e moving = no_net moving
     go (Moving made) e moving = (let m = at (Moving made) a e s in fresh_standing a made m.standing m.busy none)
     go Own e moving = no_net moving
-    go (Seeking own) e moving = (let m = at (Seeking own) a e s in fresh_standing a m.made m.standing m.busy none)
+    go (Seeking chosen) e moving = (let m = at (Seeking chosen) a e s in fresh_standing a m.made m.standing m.busy none)
     go Choosing e moving = no_net moving
     go Sought e moving = no_net moving
     go Leaving e moving = (let m = at Leaving a e s in fresh_standing a m.made m.standing m.busy none)
@@ -822,7 +868,7 @@ stands_pends a s moving = go a.phase refl moving
     go Between e moving = no_net moving
     go (Moving made) e moving = (let m = at (Moving made) a e s in m.busy)
     go Own e moving = no_net moving
-    go (Seeking own) e moving = (let m = at (Seeking own) a e s in m.busy)
+    go (Seeking chosen) e moving = (let m = at (Seeking chosen) a e s in m.busy)
     go Choosing e moving = no_net moving
     go Sought e moving = no_net moving
     go Leaving e moving = (let m = at Leaving a e s in m.busy)

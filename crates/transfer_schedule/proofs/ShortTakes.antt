@@ -12,7 +12,8 @@ use Rattle.transfer_schedule.proofs.Products.{times_two, times_less}
 use Rattle.transfer_schedule.proofs.Operations.{busy_not_idle, end_steps, choice_sizes}
 use Rattle.transfer_schedule.proofs.Stock.{end_stock, gave_stock}
 use Rattle.transfer_schedule.proofs.Standing.{Standing, Ready, young, standing_spares, ready_spares}
-use Rattle.transfer_schedule.proofs.Calling.{Rested, choice_rested, call_prepared, call_rested, own_pending, idle_ready, first_fits, rest_fit}
+use Rattle.transfer_schedule.proofs.Calling.{Rested, choice_rested, call_prepared, call_rested, own_pending, idle_ready, first_fits}
+use Rattle.transfer_schedule.proofs.Calling.{rest_fit}
 
 -- a call that leaves nothing pending and less than almost a batch has ended a take that found nothing
 rests_full : (x : Numbers) (entries begun ended : ℕ)

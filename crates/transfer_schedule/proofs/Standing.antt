@@ -4,7 +4,8 @@
 use Rattle.std.proofs.Common.{◌≡◌, ℕ, ◌+◌, ◌-◌, ◌*◌, ◌<◌, ◌≤◌, Bool, true, false, if◌then◌else◌, arith}
 use Rattle.std.proofs.lemmas.Bool.Decides.{nat_tests}
 use Rattle.transfer_schedule.specs.declared.own_step.Source.TheVariants.{Nothing}
-use Rattle.transfer_schedule.specs.Numbers.{Numbers, AreSizes, is_idle, is_taking, is_giving, opening, after_choice, after_steps, after_end, after_took_one, after_gave_one, source_of, stock}
+use Rattle.transfer_schedule.specs.Numbers.{Numbers, AreSizes, is_idle, is_taking, is_giving, opening, after_choice, after_steps, after_end}
+use Rattle.transfer_schedule.specs.Numbers.{after_took_one, after_gave_one, source_of, stock}
 use Rattle.transfer_schedule.proofs.Products.{times_two, times_more, times_less, less_of_times}
 use Rattle.transfer_schedule.proofs.Operations.{one_more_few}
 

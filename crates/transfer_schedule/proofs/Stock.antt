@@ -2,7 +2,8 @@
 use Rattle.std.proofs.Common.{◌≡◌, ◌≢◌, ◌+◌, ◌*◌, ◌≤◌, Bool, true, if◌then◌else◌, arith}
 use Rattle.std.proofs.lemmas.Bool.Decides.{nat_tests}
 use Rattle.transfer_schedule.specs.declared.own_step.Source.TheVariants.{Nothing}
-use Rattle.transfer_schedule.specs.Numbers.{Numbers, is_idle, is_taking, is_giving, after_choice, after_end, after_took_one, after_gave_one, source_of, stock, kept}
+use Rattle.transfer_schedule.specs.Numbers.{Numbers, is_idle, is_taking, is_giving, after_choice, after_end, after_took_one, after_gave_one}
+use Rattle.transfer_schedule.specs.Numbers.{source_of, stock, kept}
 use Rattle.transfer_schedule.proofs.Products.{times_two, times_three, times_more, times_less}
 use Rattle.transfer_schedule.proofs.Operations.{one_more_few}
 

@@ -1,15 +1,17 @@
+-- The schedule of one process: an account is its plan, its phase and its entries, and each step leads from one account to the next.
 use Rattle.std.specs.Prelude.{◌≡◌, ◌≢◌, ℕ, ◌+◌, ◌<◌, ◌≤◌, ◌==◌, Bool, true, false, if◌then◌else◌}
 use Rattle.transfer_schedule.specs.declared.own_step.Source.TheVariants.{Nothing}
 use Rattle.transfer_schedule.specs.declared.pending.Pending.TheVariants.{Taking, Giving}
-use Rattle.transfer_schedule.specs.Numbers.{Numbers, AreSizes, is_idle, is_taking, is_giving, opening, one_more, after_begin, after_choice}
-use Rattle.transfer_schedule.specs.Numbers.{after_steps, after_end, after_took_one, after_gave_one, source_of}
+use Rattle.transfer_schedule.specs.Numbers.{Numbers, AreSizes, is_idle, is_taking, is_giving, opening, after_begin, after_choice}
+use Rattle.transfer_schedule.specs.Numbers.{after_steps, after_end, after_took_one, after_gave_one, after_shelved, source_of}
 
--- where a process stands: between two calls, in a call that has made so many transfer steps, or before its own step
+-- where a process stands in its calls
 pub data CallPhase : Type 0 where
+  -- between two calls; in an allocate or a free that has made so many transfer steps; before its own step
   Between : CallPhase
   Moving : ℕ → CallPhase
   Own : CallPhase
-  -- in a search: at a transfer, which it began itself or met; with the met one ended and nothing chosen yet; before its own step
+  -- in a search: at a transfer that it began itself (true) or met; with the met one ended and nothing chosen yet; before its own step
   Seeking : Bool → CallPhase
   Choosing : CallPhase
   Sought : CallPhase
@@ -17,7 +19,7 @@ pub data CallPhase : Type 0 where
   Leaving : CallPhase
   Clearing : CallPhase
   Shedding : CallPhase
-  -- retired
+  -- at rest
   Resting : CallPhase
   -- in an enlist: with its entry made; at its take
   Joining : CallPhase
@@ -27,7 +29,7 @@ pub data CallPhase : Type 0 where
 pub record Account : Type 0 where
   pub plan : Numbers
   pub phase : CallPhase
-  -- the own entries, one for each ended call, and how many of them are Got and Back
+  -- the own entries, one for each call that made one, and how many of them are Got and Back
   pub entries : ℕ
   pub gots : ℕ
   pub backs : ℕ
@@ -59,7 +61,7 @@ abbrev pub moves_in : CallPhase → Bool
 moves_in Between = false
 moves_in (Moving made) = true
 moves_in Own = false
-moves_in (Seeking own) = true
+moves_in (Seeking chosen) = true
 moves_in Choosing = false
 moves_in Sought = false
 moves_in Leaving = true
@@ -74,7 +76,7 @@ abbrev pub stepped_in : ℕ → CallPhase → CallPhase
 stepped_in quantum (Moving made) = after_move quantum made
 stepped_in quantum phase = phase
 
--- and after the last step of the transfer
+-- where a call stands after the last step of the transfer
 abbrev pub ended_in : CallPhase → CallPhase
 ended_in Between = Between
 ended_in (Moving made) = Own
@@ -90,11 +92,11 @@ ended_in Resting = Resting
 ended_in Joining = Joining
 ended_in Returning = Between
 
--- whether an allocate or a search is before its own step
-abbrev pub owns_in : CallPhase → Bool
-owns_in Own = true
-owns_in Sought = true
-owns_in phase = false
+-- whether an allocate or a search is before its own step, in which it asks for a block
+abbrev pub asks_in : CallPhase → Bool
+asks_in Own = true
+asks_in Sought = true
+asks_in phase = false
 
 -- whether a search may choose there: as it begins with nothing pending, or once the transfer that it met has ended
 abbrev pub chooses_in : CallPhase → Bool
@@ -115,11 +117,11 @@ abbrev pub ended_with : Bool → Account → Account
 ended_with found a =
     record a { plan = after_end found (after_steps 1 a.plan); phase = ended_in a.phase; ended = last_take a }
 
--- the account after an allocate that was given a block
+-- the account after an allocate or a search that was given a block
 abbrev pub got_one : Account → Account
 got_one a = record a { plan = after_took_one a.plan; phase = Between; entries = a.entries + 1; gots = a.gots + 1 }
 
--- the account after an allocate that was refused
+-- the account after an allocate or a search that was refused
 abbrev pub got_none : Account → Account
 got_none a = record a { plan = after_took_one a.plan; phase = Between; entries = a.entries + 1 }
 
@@ -127,35 +129,33 @@ got_none a = record a { plan = after_took_one a.plan; phase = Between; entries =
 abbrev pub gave_back : Account → Account
 gave_back a = record a { plan = after_gave_one a.plan; phase = Between; entries = a.entries + 1; backs = a.backs + 1 }
 
--- a search with nothing pending begins the transfer that is due, if any
+-- the account of a search that has chosen, by whether no transfer is due
 abbrev pub sought_by : Bool → Account → Account
 sought_by true a = record a { plan = after_choice a.plan; phase = Sought }
 sought_by false a = record a { plan = after_choice a.plan; phase = Seeking true; begun = a.entries }
 
+-- a search with nothing pending chooses: it begins the transfer that is due, if any
 abbrev pub after_seek : Account → Account
 after_seek a = sought_by (is_idle (after_choice a.plan).pending) a
 
--- the full current list becomes a spare
-abbrev pub after_shelved : Numbers → Numbers
-after_shelved x = record x { current = 0; spares = one_more x.spares }
+-- the account once the entry that ends a retire is made
+abbrev pub retired : Account → Account
+retired a = record a { phase = Resting; entries = a.entries + 1; unbroken = false }
 
--- the account of a process that rests, and of one that is back
-abbrev pub rested : Account → Account
-rested a = record a { phase = Resting; entries = a.entries + 1; unbroken = false }
-
-abbrev pub returned : Account → Account
-returned a = record a { phase = Joining; entries = a.entries + 1 }
+-- the account once the entry that begins an enlist is made
+abbrev pub enlisted : Account → Account
+enlisted a = record a { phase = Joining; entries = a.entries + 1 }
 
 -- one step of the schedule leads from the account to the next
 pub data Follows (a : Account) : Account → Type 0 where
-  -- a call begins, and a transfer with it
+  -- an allocate or a free begins, and a transfer with it
   begins : a.phase ≡ Between → is_idle a.plan.pending ≡ true → is_idle (after_choice a.plan).pending ≡ false
       → Follows a (record a { plan = after_choice a.plan; phase = Moving 0; begun = a.entries })
-  -- a call begins while a transfer is pending
+  -- it begins while a transfer is pending
   continues : a.phase ≡ Between → is_idle a.plan.pending ≡ false
       → Follows a (record a { plan = after_choice a.plan; phase = Moving 0 })
-  -- a call begins, and nothing is pending in it
-  rests : a.phase ≡ Between → is_idle (after_choice a.plan).pending ≡ true
+  -- it begins, and nothing is pending in it
+  idles : a.phase ≡ Between → is_idle (after_choice a.plan).pending ≡ true
       → Follows a (record a { plan = after_choice a.plan; phase = Own })
   -- a step of a transfer, which goes on
   moves : moves_in a.phase ≡ true → a.plan.done + 1 < a.plan.bound → Follows a (stepped a)
@@ -164,17 +164,18 @@ pub data Follows (a : Account) : Account → Type 0 where
       → moves_in a.phase ≡ true → a.plan.done + 1 ≤ a.plan.bound → (is_giving a.plan.pending ≡ true → found ≡ true)
       → Follows a (ended_with found a)
   -- an `allocate` or a search is given a block
-  gets : owns_in a.phase ≡ true → source_of a.plan ≢ Nothing → Follows a (got_one a)
+  gets : asks_in a.phase ≡ true → source_of a.plan ≢ Nothing → Follows a (got_one a)
   -- or refused
-  refuses : owns_in a.phase ≡ true → source_of a.plan ≡ Nothing → Follows a (got_none a)
+  refuses : asks_in a.phase ≡ true → source_of a.plan ≡ Nothing → Follows a (got_none a)
   -- a `free` gives a held block back
   frees : a.phase ≡ Own → (a.unbroken ≡ true → a.backs < a.gots) → Follows a (gave_back a)
   -- a search begins while a transfer is pending
   meets : a.phase ≡ Between → is_idle a.plan.pending ≡ false → Follows a (record a { phase = Seeking false })
-  -- with nothing pending it begins the transfer that is due
+  -- with nothing pending it begins the transfer that is due, if any
   seeks : chooses_in a.phase ≡ true → is_idle a.plan.pending ≡ true → Follows a (after_seek a)
-  -- a retire begins while a transfer is pending, or with none
+  -- a retire begins while a transfer is pending
   quits : a.phase ≡ Between → is_idle a.plan.pending ≡ false → Follows a (record a { phase = Leaving })
+  -- or with none
   clears : a.phase ≡ Between → is_idle a.plan.pending ≡ true → Follows a (record a { phase = Clearing })
   -- it gives a spare
   gives : a.phase ≡ Clearing → 0 < a.plan.spares
@@ -182,10 +183,11 @@ pub data Follows (a : Account) : Account → Type 0 where
   -- its full current list becomes its last spare
   shelves : a.phase ≡ Clearing → a.plan.spares ≡ 0 → a.plan.current ≡ a.plan.length
       → Follows a (record a { plan = after_shelved a.plan })
-  -- the process rests
-  leaves : a.phase ≡ Clearing → a.plan.spares ≡ 0 → a.plan.current < a.plan.length → Follows a (rested a)
-  -- it is back, and takes a batch
-  returns : a.phase ≡ Resting → Follows a (returned a)
+  -- with no spare and a shorter list it ends: the process rests
+  retires : a.phase ≡ Clearing → a.plan.spares ≡ 0 → a.plan.current < a.plan.length → Follows a (retired a)
+  -- an enlist begins
+  enlists : a.phase ≡ Resting → Follows a (enlisted a)
+  -- and takes a batch
   retakes : a.phase ≡ Joining
       → Follows a (record a { plan = after_begin Taking a.plan; phase = Returning; begun = a.entries })
 

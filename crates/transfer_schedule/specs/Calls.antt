@@ -1,4 +1,5 @@
-use Rattle.std.specs.Prelude.{◌≡◌, ◌≢◌, ℕ, ◌+◌, ◌<◌, ◌≤◌, Bool, IsTrue, false, Option, None, Some, List, [], ◌∷◌, ◌++◌, length, take, fold, slice_get}
+use Rattle.std.specs.Prelude.{◌≡◌, ◌≢◌, ℕ, ◌+◌, ◌<◌, ◌≤◌, Bool, IsTrue, false, Option, None, Some, List, [], ◌∷◌, ◌++◌, length, take, fold}
+use Rattle.std.specs.Prelude.{slice_get}
 use Rattle.transfer_schedule.specs.declared.pending.Pending.TheVariants.{Idle, Taking, Giving}
 use Rattle.transfer_schedule.specs.declared.own_step.Source.TheVariants.{Nothing}
 use Rattle.transfer_schedule.specs.declared.call.OwnStep.{OwnStep}
@@ -6,7 +7,8 @@ use Rattle.transfer_schedule.specs.declared.call.OwnStep.TheVariants.{Allocate, 
 use Rattle.transfer_schedule.specs.declared.call.PlannedCall.{PlannedCall}
 use Rattle.transfer_schedule.specs.declared.call.PlannedAnswer.{PlannedAnswer}
 use Rattle.transfer_schedule.specs.declared.call.PlannedAnswer.TheVariants.{Took, Gave}
-use Rattle.transfer_schedule.specs.Numbers.{Numbers, after_choice, after_steps, after_end, after_took_one, after_gave_one, source_of, target_of}
+use Rattle.transfer_schedule.specs.Numbers.{Numbers, after_choice, after_steps, after_end, after_took_one, after_gave_one, source_of}
+use Rattle.transfer_schedule.specs.Numbers.{target_of}
 
 -- the transfer ends in the call, or goes on
 abbrev pub after_transfer : Option Bool → Numbers → Numbers

@@ -1,9 +1,10 @@
+-- what holds of every account that the schedule reaches
 use Rattle.std.specs.Prelude.{◌≡◌, ◌≢◌, ℕ, ◌+◌, ◌-◌, ◌*◌, ◌<◌, ◌≤◌, Bool, true, false, if◌then◌else◌}
 use Rattle.transfer_schedule.specs.declared.pending.Pending.TheVariants.{Idle, Taking, Giving}
 use Rattle.transfer_schedule.specs.declared.own_step.Source.TheVariants.{Nothing}
 use Rattle.transfer_schedule.specs.Numbers.{Numbers, is_idle, after_choice, source_of, stock, kept, withheld}
 use Rattle.transfer_schedule.specs.Account.{Account, CallPhase, Between, Moving, Own, Seeking, Choosing, Sought}
-use Rattle.transfer_schedule.specs.Account.{Leaving, Clearing, Shedding, Resting, Joining, Returning, moves_in, owns_in}
+use Rattle.transfer_schedule.specs.Account.{Leaving, Clearing, Shedding, Resting, Joining, Returning, moves_in}
 
 -- the plan has the sizes of its opening
 abbrev pub HasSizes : ℕ → ℕ → ℕ → Numbers → Type 0
@@ -22,7 +23,7 @@ abbrev pub serves : CallPhase → Bool
 serves Between = true
 serves (Moving made) = true
 serves Own = true
-serves (Seeking own) = true
+serves (Seeking chosen) = true
 serves Choosing = true
 serves Sought = true
 serves Leaving = false
@@ -32,14 +33,21 @@ serves Resting = false
 serves Joining = false
 serves Returning = false
 
--- a resting process keeps less than a batch, and nothing is pending
-pub record KeepsRest (a : Account) : Type 0 where
+-- nothing is pending, and less than a batch is kept
+pub record IsCleared (a : Account) : Type 0 where
   pub idle : a.plan.pending ≡ Idle
   pub none : a.plan.spares ≡ 0
   pub few : a.plan.current < a.plan.length
 
-abbrev pub RestsWithFew : Account → Type 0
-RestsWithFew a = a.phase ≡ Resting → KeepsRest a
+-- a process is retired, up to its next take
+abbrev pub is_at_rest : CallPhase → Bool
+is_at_rest Resting = true
+is_at_rest Joining = true
+is_at_rest phase = false
+
+-- so does a process rest
+abbrev pub RestsCleared : Account → Type 0
+RestsCleared a = is_at_rest a.phase ≡ true → IsCleared a
 
 -- the own entries since the pending transfer began
 abbrev pub since : Account → ℕ
@@ -53,7 +61,7 @@ pub record IsSound (a : Account) : Type 0 where
   pub recent : kept a.plan < a.plan.length - 1 - since a
       → (if is_idle a.plan.pending then a.entries else a.begun) ≤ a.ended + a.plan.length
 
--- so does a process that serves
+-- a process knows so while it serves
 abbrev pub SoundWhileServing : Account → Type 0
 SoundWhileServing a = serves a.phase ≡ true → IsSound a
 
@@ -61,7 +69,7 @@ SoundWhileServing a = serves a.phase ≡ true → IsSound a
 abbrev pub EndsInTime : Account → Type 0
 EndsInTime a = a.plan.pending ≢ Idle → a.entries < a.begun + a.plan.length
 
--- while a give is pending more than a batch is left besides
+-- while a give is pending a process that serves has more than a batch left besides
 abbrev pub GivesLeaveBatch : Account → Type 0
 GivesLeaveBatch a = serves a.phase ≡ true → a.plan.pending ≡ Giving → a.plan.length < stock a.plan
 
@@ -73,9 +81,19 @@ WaitsAnnounced a = a.phase ≡ Between → a.plan.pending ≢ Idle → 1 ≤ a.p
 abbrev pub JustBegun : Account → Type 0
 JustBegun a = moves_in a.phase ≡ true → a.plan.done ≡ 0 → a.entries ≡ a.begun
 
--- a transfer is pending where one moves, and none while a call chooses, clears, rests or comes back
+-- in each phase in which a transfer moves one is pending
 abbrev pub PendsWhileMoving : Account → Type 0
 PendsWhileMoving a = moves_in a.phase ≡ true → is_idle a.plan.pending ≡ false
+
+-- nothing is pending in these phases: a search chooses, a retire clears, or the process rests
+abbrev pub is_still : CallPhase → Bool
+is_still Choosing = true
+is_still Clearing = true
+is_still phase = is_at_rest phase
+
+-- so nothing is pending there
+abbrev pub IdlesWhileStill : Account → Type 0
+IdlesWhileStill a = is_still a.phase ≡ true → is_idle a.plan.pending ≡ true
 
 -- in its transfer steps a call has a transfer pending, which has made a whole quantum in each call before
 pub record CountsSteps (a : Account) : Type 0 where

@@ -118,6 +118,10 @@ after_gave_one x =
 abbrev pub target_of : Numbers → Target
 target_of x = if nat_lt x.current x.length then target.Current else target.Fresh
 
+-- the full current list becomes the newest spare, and none is current
+abbrev pub after_shelved : Numbers → Numbers
+after_shelved x = record x { current = 0; spares = one_more x.spares }
+
 -- the blocks of the current list and of the spares
 abbrev pub stock : Numbers → ℕ
 stock x = x.current + x.length * x.spares

@@ -9,7 +9,7 @@ ghost use Rattle.transfer_schedule.specs.Table.{InTable};
 ghost use Rattle.transfer_schedule.specs.Account.{Account, Reached, EveryReached};
 ghost use Rattle.transfer_schedule.specs.Laws.{HasSizes, RestsWithFour, WithholdsFive, EndsInTime, GivesLeaveBatch};
 ghost use Rattle.transfer_schedule.specs.Laws.{CountsSteps, BeginsShort, RefusesSoon, SoundWhileServing, MissesNow};
-ghost use Rattle.transfer_schedule.specs.Laws.{WaitsAnnounced, JustBegun, PendsWhileMoving, RestsWithFew};
+ghost use Rattle.transfer_schedule.specs.Laws.{WaitsAnnounced, JustBegun, PendsWhileMoving, IdlesWhileStill, RestsCleared};
 ghost use Rattle.transfer_schedule.specs.Alone.{EveryAlone};
 
 /// Of a process that makes calls: what it keeps at every moment, and why it is ever short of blocks.
@@ -25,10 +25,11 @@ pub fn of_accounts()
     ensures begins { EveryReached BeginsShort }
     ensures refuses { EveryReached RefusesSoon }
     ensures misses { EveryReached MissesNow }
-    ensures rested { EveryReached RestsWithFew }
+    ensures rested { EveryReached RestsCleared }
     ensures waits { EveryReached WaitsAnnounced }
     ensures just_begun { EveryReached JustBegun }
     ensures pends { EveryReached PendsWhileMoving }
+    ensures still { EveryReached IdlesWhileStill }
 {}
 
 /// Of a process that makes transfers alone, outside any call.

@@ -1,9 +1,11 @@
 // The plan of one process.
 ghost use Rattle.std.specs.Prelude.{◌≡◌, ◌≢◌, ◌↔◌, ◌+◌, ◌-◌, ◌*◌, ◌<◌, ◌≤◌, IsTrue};
-ghost use Rattle.transfer_schedule.specs.Numbers.{opening, due, after_begin, after_choice, after_steps, after_end, after_took_one, source_of, after_gave_one, target_of, stock, kept, withheld};
+ghost use Rattle.transfer_schedule.specs.Numbers.{opening, due, after_begin, after_choice, after_steps, after_end, after_took_one};
+ghost use Rattle.transfer_schedule.specs.Numbers.{source_of, after_gave_one, after_shelved, target_of, stock, kept, withheld};
 ghost use Rattle.transfer_schedule.specs.Beginning.{MayBegin, may_begin, few_spares, many_spares};
 ghost use Rattle.transfer_schedule.specs.Table.{InTable};
-ghost use Rattle.transfer_schedule.specs.Calls.{Fits, ready_for, after_call, own_answer, FitAll, after_calls, EndWithin, EndsEmpty, EachMoment, RefusesOnlyDry};
+ghost use Rattle.transfer_schedule.specs.Calls.{Fits, ready_for, after_call, own_answer, FitAll, after_calls, EndWithin, EndsEmpty};
+ghost use Rattle.transfer_schedule.specs.Calls.{EachMoment, RefusesOnlyDry};
 
 use crate::call::{OwnStep, PlannedAnswer, PlannedCall};
 use crate::own_step::{Source, Target};
@@ -268,6 +270,19 @@ impl Plan {
             self.current = 1;
             Target::Fresh
         }
+    }
+
+    /// Shelves the current list for a retire: where that list is full, it becomes the newest spare, and the
+    /// current list is empty then.
+    #[tactic(auto, unfolding(crate::specs::Numbers::one_more))]
+    pub fn shelve(&mut self)
+        requires idle { self.old.pending ≡ Pending.Idle }
+        requires full { self.old.current ≡ self.old.length }
+        ensures { self.new ≡ after_shelved self.old }
+    {
+        // A plan that is used as the schedule says has no spare then.
+        self.spares = self.spares.saturating_add(1);
+        self.current = 0;
     }
 
     /// Makes one whole call: its beginning, its transfer steps, and its own step, which it answers.

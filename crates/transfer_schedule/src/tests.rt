@@ -185,6 +185,18 @@ fn whole_calls_run(rt: HostRuntime) {
 }
 
 #[test]
+fn a_full_list_is_shelved(rt: HostRuntime) {
+    let mut plan = Plan::open(1);
+    plan.shelve();
+    assert_eq!(rt;
+        (plan.current(), plan.spares(), plan.pending()),
+        (0, 2, Pending::Idle)
+    );
+    assert_eq!(rt; plan.took_one(), Source::Spare);
+    assert_eq!(rt; (plan.current(), plan.spares()), (3, 1));
+}
+
+#[test]
 fn what_may_begin_at_the_opening(rt: HostRuntime) {
     let plan = Plan::open(1);
     assert_eq!(rt; plan.due(), Pending::Taking);

@@ -29,7 +29,7 @@ use Rattle.pool_table.specs.Transfers.{Agrees, transfer_about, WhereverSeated}
 use Rattle.pool_table.proofs.Transfers.{DueOn, due_on, transfer_can_act, transfer_acts_next, transfer_steps}
 use Rattle.pool_table.proofs.Turns.{seat_of}
 use Rattle.versioned_records.specs.declared.reader.ReadStep.TheVariants.{Going, Whole, Moved}
-use Rattle.versioned_records.specs.Loads.{read_step, IsToLoad, LoadsWord, SomewhereSeated, HadMovedOn}
+use Rattle.versioned_records.specs.Loads.{read_step, IsToLoad, LoadsWord, HasMovedOn}
 
 -- the record words that a seat's process has loaded are those of the state with this tag: wherever the rule holds with its view, they
 -- have that state's values, and so has the current record while that is the state
@@ -172,18 +172,6 @@ all_has_state x tag e all = record {
       ∙ sym (records.current.values index lt));
 }
 
--- what held of the words of a step was so somewhere
-pub somewhere_met : (a : About) (v x : SeatView) (word : ℕ) (s : Stepped a v word x) (Fact : List ℕ → Type 0) → Fact s.made.words
-    → SomewhereSeated v Fact
-somewhere_met a v x word s Fact fact = record {
-  words = s.made.words;
-  views = s.made.views;
-  place = s.made.number;
-  held = s.made.held;
-  seated = s.made.seated;
-  fact = fact;
-}
-
 -- the load of a record word, as it happened
 module _ (sizes : Sizes) (a : About) (v x : SeatView) (tag row index word : ℕ) (c : CanStep sizes a v)
     (l : LoadsWord a v tag row index) (s : Stepped a v word x) where
@@ -202,11 +190,10 @@ module _ (sizes : Sizes) (a : About) (v x : SeatView) (tag row index word : ℕ)
   pub tag_never_lower : tag ≤ tag_of word
   tag_never_lower = stood_low v.sizes s.made.words (turning a v.mind.view) tag row index word due l.loads within found
 
-  pub moved_on : read_step sizes tag index word ≡ Moved → HadMovedOn v tag
+  pub moved_on : read_step sizes tag index word ≡ Moved → HasMovedOn v.sizes s.made.words tag
   moved_on e =
       let above = moved_tests (nat_lt tag (tag_of word)) (index + 1 == record_words sizes) e in
-      somewhere_met a v x word s (λ words. tag < tag_of (word_at v.sizes words State))
-      (stood_past v.sizes s.made.words (turning a v.mind.view) tag row index word due l.loads within found (grind (arith, nat_tests)))
+      stood_past v.sizes s.made.words (turning a v.mind.view) tag row index word due l.loads within found (grind (arith, nat_tests))
 
   pub whole_has_state : read_step sizes tag index word ≡ Whole → HasState x tag
   whole_has_state e =

@@ -37,15 +37,6 @@ pub record LoadsWord (about : About) (v : SeatView) (tag row index : ℕ) : Type
   pub moves : moves_transfer (turning about v.mind.view) ≡ true
   pub loads : IsToLoad (transfer_about about v) tag row index
 
--- there are words and views that meet the rule with this view, and of the words this holds
-pub record SomewhereSeated (v : SeatView) (Fact : List ℕ → Type 0) : Type 0 where
-  pub words : List ℕ
-  pub views : List SeatView
-  pub place : ℕ
-  pub held : Holds words views
-  pub seated : get_elem? views place ≡ some v
-  pub fact : Fact words
-
--- the state had a higher tag
-abbrev pub HadMovedOn : SeatView → ℕ → Type 0
-HadMovedOn v tag = SomewhereSeated v (λ words. tag < tag_of (word_at v.sizes words State))
+-- the state of these words has a higher tag
+abbrev pub HasMovedOn : Sizes → List ℕ → ℕ → Type 0
+HasMovedOn sizes words tag = tag < tag_of (word_at sizes words State)

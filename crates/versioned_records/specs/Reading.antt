@@ -12,7 +12,7 @@ use Rattle.pool_table.specs.Steps.{CanStep, Stepped}
 use Rattle.pool_table.specs.Transfers.{transfer_about, WhereverSeated}
 use Rattle.versioned_records.specs.declared.reader.ReadStep.{ReadStep}
 use Rattle.versioned_records.specs.declared.reader.ReadStep.TheVariants.{Going, Whole, Moved}
-use Rattle.versioned_records.specs.Loads.{LoadsWord, HadMovedOn, read_step}
+use Rattle.versioned_records.specs.Loads.{LoadsWord, HasMovedOn, read_step}
 
 -- what clauses see of a reader: the shape's numbers, the tag and the row that it was begun with, how many words it loaded since, the words,
 -- and how far it is
@@ -60,8 +60,8 @@ pub record ReadsOn (about : About) (v : SeatView) (r : Reading) (x : SeatView) (
   pub answered : answer ≡ read_step r.sizes r.tag r.index word
   pub never_lower : r.tag ≤ tag_of word
   pub read : s ≡ reading_after answer word r
-  -- a later state's word shows that the state has moved on
-  pub moved : answer ≡ Moved → HadMovedOn v r.tag
+  -- a later state's word shows that the state of the words that the step was made on has moved on
+  pub moved : answer ≡ Moved → HasMovedOn v.sizes stepped.made.words r.tag
   -- else what it has loaded is what its process has, and once that is whole it is the state with its tag
   pub same : answer ≢ Moved → (k : ℕ) → k < s.index → slice_index s.words k ≡ slice_index x.mind.view.transfer.loaded.record_words k
   pub whole : answer ≡ Whole → HasRead x s

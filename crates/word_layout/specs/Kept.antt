@@ -15,7 +15,7 @@ sizes_of shape = record {
   length = shape.length;
 }
 
--- the numbers are within their limits, the places that are kept are those where its words begin, and the age is its limit
+-- the numbers are within their limits, the places that are kept are those where its words begin, and the age is the greatest
 pub record KeepsItsPlaces (shape : Inside) : Type 0 where
   pub is_shape : IsShape (sizes_of shape)
   pub first_slot : slots_start (sizes_of shape) ≡ shape.first_slot

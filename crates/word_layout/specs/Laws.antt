@@ -3,7 +3,7 @@ use Rattle.std.specs.Prelude.{◌≡◌, ◌≢◌, ℕ, ◌+◌, ◌*◌, ◌^�
 use Rattle.word_layout.specs.Sizes.{Sizes, IsShape, IsLength, blocks}
 use Rattle.word_layout.specs.Faults.{HasFault, IsFirstFault}
 use Rattle.word_layout.specs.Names.{InRange, place, table_words, word_at, set_word}
-use Rattle.word_layout.specs.Packing.{value_limit, tag_limit, most_age, tagged, tag_of, value_of, FitsAnnounced, announced_word, announced_of, FitsReply, reply_value, reply_of, is_odd_reply}
+use Rattle.word_layout.specs.Packing.{value_limit, tag_limit, HaveTags, most_age, tagged, tag_of, value_of, FitsAnnounced, announced_word, announced_of, FitsReply, reply_value, reply_of, is_odd_reply}
 use Rattle.word_layout.specs.declared.announced.Announced.{Announced}
 use Rattle.word_layout.specs.declared.fault.ShapeFault.{ShapeFault}
 use Rattle.word_layout.specs.declared.name.WordName.{WordName}
@@ -71,13 +71,13 @@ TaggedFits = (tag value : ℕ) → tag < tag_limit → value < value_limit → t
 abbrev pub TaggedReadsBack : Type 0
 TaggedReadsBack = (tag value : ℕ) → value < value_limit → (tag_of (tagged tag value) ≡ tag) × (value_of (tagged tag value) ≡ value)
 
--- the transfers of all processes leave a tag for the state of the opening, and one above the last state's
-abbrev pub AgesFit : Type 0
-AgesFit = (sizes : Sizes) → IsShape sizes → sizes.processes * most_age sizes + 3 ≤ tag_limit
+-- where each process begins its most transfers, all have tags
+abbrev pub MostAgeHasTags : Type 0
+MostAgeHasTags = (sizes : Sizes) → IsShape sizes → HaveTags sizes (most_age sizes)
 
--- with no more transfers they do
-abbrev pub AgeIsGreatest : Type 0
-AgeIsGreatest = (sizes : Sizes) (n : ℕ) → IsShape sizes → sizes.processes * n + 3 ≤ tag_limit → n ≤ most_age sizes
+-- and with more they don't
+abbrev pub MostAgeIsGreatest : Type 0
+MostAgeIsGreatest = (sizes : Sizes) (n : ℕ) → IsShape sizes → HaveTags sizes n → n ≤ most_age sizes
 
 -- the word of an announcement fits 64 bits
 abbrev pub AnnouncedFits : Type 0

@@ -1,4 +1,4 @@
-use Rattle.std.specs.Prelude.{ℕ, ◌+◌, ◌-◌, ◌*◌, ◌/◌, ◌%◌, ◌^◌, ◌<◌, ◌≤◌, zero, suc, Bool, ◌==◌, if◌then◌else◌}
+use Rattle.std.specs.Prelude.{ℕ, ◌+◌, ◌-◌, ◌*◌, ◌/◌, ◌%◌, ◌^◌, ◌<◌, zero, suc, Bool, ◌==◌, if◌then◌else◌}
 use Rattle.word_layout.specs.Sizes.{Sizes, most_blocks}
 use Rattle.word_layout.specs.declared.announced.Announced.{Announced}
 use Rattle.word_layout.specs.declared.announced.Wish.{Wish}
@@ -14,7 +14,15 @@ value_limit = 2 ^ 24
 abbrev pub tag_limit : ℕ
 tag_limit = 2 ^ 40
 
--- the number of a process's last transfer: the greatest with which all transfers of all processes have tags
+-- the tag of the last state where each process has begun so many transfers: the opening's state has 1, and each transfer adds 1
+abbrev pub last_state_tag : Sizes → ℕ → ℕ
+last_state_tag sizes transfers = 1 + sizes.processes * transfers
+
+-- so many transfers of each process have tags: even the number above the last state's, which goes into a record, is one
+abbrev pub HaveTags : Sizes → ℕ → Type 0
+HaveTags sizes transfers = last_state_tag sizes transfers + 1 < tag_limit
+
+-- the number of a process's last transfer: the greatest for which all transfers have tags
 unfoldable pub most_age : Sizes → ℕ
 most_age sizes = (tag_limit - 3) / sizes.processes
 

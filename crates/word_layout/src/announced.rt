@@ -31,7 +31,7 @@ impl Wish {
 /// wish by one word.
 #[derive(Clone, Copy, Debug, PartialEq, Eq, Hash)]
 pub struct Announced {
-    /// The number of the transfer, from 1, below 2^40, and 0 before the first.
+    /// The number of the transfer, from 1, and 0 before the first. It is a tag, so it is below 2^40.
     pub number: u64,
     pub wish: Wish,
 }

@@ -1,6 +1,6 @@
 //! What holds of shapes, names, places and packed words, for all of them at once. Each law is the contract
 //! of a call that does nothing.
-ghost use Rattle.word_layout.specs.Laws.{AgesFit, AgeIsGreatest, LengthIsOne, FirstFaultIsOne, ShapesHaveNoFault, BatchesHaveTwoBlocks, BatchesLieWithinBlocks, PlacesAreInTable, PlacesDiffer, PlacesHaveNames, SetWordIsRead, OtherWordsStay, TaggedFits, TaggedReadsBack, AnnouncedFits, AnnouncedReadsBack, ReplyFits, ReplyReadsBack};
+ghost use Rattle.word_layout.specs.Laws.{LengthIsOne, FirstFaultIsOne, ShapesHaveNoFault, BatchesHaveTwoBlocks, BatchesLieWithinBlocks, PlacesAreInTable, PlacesDiffer, PlacesHaveNames, SetWordIsRead, OtherWordsStay, MostAgeHasTags, MostAgeIsGreatest, TaggedFits, TaggedReadsBack, AnnouncedFits, AnnouncedReadsBack, ReplyFits, ReplyReadsBack};
 
 /// What a batch's length is, and which fault is told, is settled by the numbers: those of a shape have none.
 /// Batches have two blocks or more, and lie within the pool.
@@ -27,11 +27,11 @@ pub fn words()
     ensures elsewhere { OtherWordsStay }
 {}
 
-/// A process may begin as many transfers as leave all of them tags, and no more.
-#[tactic(auto, using(crate::proofs::Ages::ages_fit, crate::proofs::Ages::age_is_greatest))]
+/// The most transfers of a process is the greatest number for which all transfers of all processes have tags.
+#[tactic(auto, using(crate::proofs::Ages::most_age_has_tags, crate::proofs::Ages::most_age_is_greatest))]
 pub fn ages()
-    ensures fit { AgesFit }
-    ensures greatest { AgeIsGreatest }
+    ensures tags { MostAgeHasTags }
+    ensures greatest { MostAgeIsGreatest }
 {}
 
 /// What is packed is read back, and fits its word.

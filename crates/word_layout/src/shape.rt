@@ -10,7 +10,8 @@ use crate::tagged::Tagged;
 use std::marker::Model;
 
 /// The numbers of a pool, all within their limits, and what follows from them: where in its table the slots, the
-/// next words and the data words begin, and how many transfers a process has. Contracts see the numbers alone, as `Sizes`.
+/// next words and the data words begin, and the number of a process's last transfer. Contracts see the numbers
+/// alone, as `Sizes`.
 #[derive(Clone, Copy, Debug, PartialEq, Eq, Hash)]
 pub struct Shape {
     processes: u32,
@@ -63,12 +64,11 @@ impl Model for Shape {
 }
 
 impl Shape {
-    ghost use Rattle.std.specs.Prelude.{ℕ, List};
+    ghost use Rattle.std.specs.Prelude.{ℕ, ◌-◌, ◌^◌, ◌<◌, List};
     ghost use Rattle.word_layout.specs.Sizes.{Sizes, IsShape, sizes, blocks, limits_of, transfer_bound};
-    ghost use Rattle.std.specs.Prelude.{◌<◌, ◌^◌};
     ghost use Rattle.word_layout.specs.Packing.{most_age, tag_limit};
     ghost use Rattle.pool_model.specs.declared.entry.Entry.{Entry};
-    ghost use Rattle.pool_model.specs.Limits.{greatest_slack};
+    ghost use Rattle.pool_model.specs.Limits.{greatest_slack, window};
     ghost use Rattle.pool_model.specs.History.{slack};
 
     /// The most processes of a pool.
@@ -133,7 +133,7 @@ impl Shape {
         Ok(Shape::laid_out(processes, batches, words, quantum, length))
     }
 
-    /// The shape of these numbers, with the places where its words begin.
+    /// The shape of these numbers, with what follows from them.
     #[tactic(auto, unfolding(crate::specs::Sizes::blocks, crate::specs::Packing::most_age))]
     fn laid_out(processes: u32, batches: u32, words: u32, quantum: u32, length: u32) -> Shape
         requires { IsShape (sizes processes batches words quantum length) }
@@ -218,13 +218,22 @@ impl Shape {
         5 * self.processes * self.length
     }
 
-    /// How many transfers a process may begin.
+    /// How many of a caller's last calls a refusal looks back on: among the moments of so many calls is one at
+    /// which no more blocks than the slack were unheld.
+    pub fn window(&self) -> u32
+        ensures { result ≡ window (limits_of self.now) }
+    {
+        2 * self.length
+    }
+
+    /// How many transfers a process may begin in the life of the pool: the greatest number for which all
+    /// transfers of all processes have tags, `(2^40 - 3) / processes`. No shape has fewer than 2^35 - 1.
     #[tactic(auto, using(crate::proofs::Ages::many_ages, crate::proofs::Ages::age_is_tag))]
     #[inline]
     pub fn most_age(&self) -> u64
         ensures value { result ≡ most_age self.now }
-        ensures many { 2 ^ 32 ≤ result }
-        ensures few { result < tag_limit }
+        ensures many { 2 ^ 35 - 1 ≤ result }
+        ensures tag { result < tag_limit }
     {
         self.last_age
     }

@@ -103,17 +103,39 @@ fn numbers_and_places_of_a_shape(rt: HostRuntime) -> Result<(), Fail> {
 }
 
 #[test]
-fn ages_of_shapes(rt: HostRuntime) -> Result<(), Fail> {
+fn slacks_and_windows(rt: HostRuntime) -> Result<(), Fail> {
+    let cases = [
+        (1, 8, 20, 8),
+        (2, 8, 60, 12),
+        (4, 8, 200, 20),
+        (8, 8, 720, 36),
+        (2, 1, 470, 94),
+        (32, 16, 5280, 66),
+    ];
+    for (processes, quantum, slack, window) in cases {
+        let shape = Shape::with_quantum(processes, 2 * processes, 0, quantum)?;
+        assert_eq!(rt;
+            (shape.slack(), shape.window()),
+            (slack, window),
+            "{processes} {quantum}"
+        );
+    }
+    Ok(())
+}
+
+/// The opening's state has tag 1, so with `age` transfers of each process the last state has 1 + processes * age,
+/// and a record may have the number above. All are below 2^40.
+#[test]
+fn most_transfers_of_a_process(rt: HostRuntime) -> Result<(), Fail> {
     let cases = [
         (1, 1099511627773),
         (2, 549755813886),
-        (4, 274877906943),
+        (3, 366503875924),
         (32, 34359738367),
     ];
     for (processes, age) in cases {
         let shape = Shape::new(processes, 2 * processes, 0)?;
         assert_eq!(rt; shape.most_age(), age, "{processes}");
-        assert!(rt; u64::from(processes) * age + 3 <= Tagged::TAG_LIMIT);
     }
     Ok(())
 }

@@ -5,9 +5,11 @@ use Rattle.word_rule.specs.Moves.{Splits, IsAmong, Learned}
 use Rattle.word_rule.proofs.Seating.{seat_set_same, seat_before_new, seat_new}
 
 module _ {V : Type 0} (holds : List ℕ → List V → Type 0) where
+  -- the first seat is, where the rule holds of the opening words and its view alone
   pub first_is_among : (words : List ℕ) (view : V) → holds words (view ∷ []) → IsAmong holds view
   first_is_among words view held = record { words = words; views = view ∷ []; number = 0; held = held; seated = refl }
 
+  -- a seat's view before a step is among words and views that meet the rule
   pub before_is_among : (learn : List ℕ → List V → V → V) (number place : ℕ) (write : ℕ → ℕ) (before : V) (met : ℕ) (after : V)
       → Learned holds learn number place write before met after → IsAmong holds before
   before_is_among learn number place write before met after step = record {
@@ -18,6 +20,7 @@ module _ {V : Type 0} (holds : List ℕ → List V → Type 0) where
     seated = step.seated;
   }
 
+  -- and so is its view after the step
   pub after_is_among : (learn : List ℕ → List V → V → V) (number place : ℕ) (write : ℕ → ℕ) (before : V) (met : ℕ) (after : V)
       → Learned holds learn number place write before met after → IsAmong holds after
   after_is_among learn number place write before met after step = record {
@@ -39,7 +42,9 @@ module _ {V : Type 0} (holds : List ℕ → List V → Type 0) where
         (seat_set_same among.views among.number view left among.seated);
   }
 
-  pub right_is_among : (view left right : V) → ((number : ℕ) → Splits holds number view left right) → IsAmong holds view → IsAmong holds right
+  -- and so is the new seat, behind all others
+  pub right_is_among : (view left right : V) → ((number : ℕ) → Splits holds number view left right) → IsAmong holds view
+      → IsAmong holds right
   right_is_among view left right splits among = record {
     words = among.words;
     views = slice_set among.views among.number left ++ right ∷ [];

@@ -24,18 +24,22 @@ module _ {V : Type 0} (holds : List ℕ → List V → Type 0) where
   -- Whatever the words and the views of the others are, the rule still holds once this word is written and this seat's view has learned
   -- of it.
   abbrev pub Keeps : ℕ → V → ℕ → (ℕ → ℕ) → (List ℕ → List V → V → V) → Type 0
-  Keeps number view place write learn = (words : List ℕ) (views : List V) → holds words views → get_elem? views number ≡ some view → slice_index words place < 2 ^ 64
+  Keeps number view place write learn =
+      (words : List ℕ) (views : List V) → holds words views → get_elem? views number ≡ some view → slice_index words place < 2 ^ 64
       → holds (written words place write) (slice_set views number (learn words views view))
 
   -- Whatever the words and the views of the others are, the rule still holds once this seat keeps the left view and a new seat has the
   -- right one.
   abbrev pub Splits : ℕ → V → V → V → Type 0
-  Splits number view left right = (words : List ℕ) (views : List V) → holds words views → get_elem? views number ≡ some view → holds words (slice_set views number left ++ right ∷ [])
+  Splits number view left right =
+      (words : List ℕ) (views : List V) → holds words views → get_elem? views number ≡ some view
+      → holds words (slice_set views number left ++ right ∷ [])
 
   -- Whatever the words and the views of the others are, the rule still holds once this seat has both views and the other seat has a
   -- spent one.
   abbrev pub Joins : ℕ → V → ℕ → V → V → V → Type 0
-  Joins number view other taken both spent = (words : List ℕ) (views : List V) → holds words views → get_elem? views number ≡ some view → other ≢ number
+  Joins number view other taken both spent =
+      (words : List ℕ) (views : List V) → holds words views → get_elem? views number ≡ some view → other ≢ number
       → get_elem? (slice_set views number both) other ≡ some taken → holds words (slice_set (slice_set views number both) other spent)
 
   -- There are words and views that meet the rule, and a seat among them has this view.

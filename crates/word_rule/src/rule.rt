@@ -1,3 +1,5 @@
+//! The traits of a rule: the fact that every step keeps, what a step tells the seat that makes it, and how seats are made and joined.
+
 ghost use Rattle.std.specs.Prelude.{List, ℕ};
 
 /// A fact about the words of a table and the views of its seats, which each step keeps.

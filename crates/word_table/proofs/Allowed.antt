@@ -12,8 +12,10 @@ either_if true hit miss = refl
 either_if false hit miss = refl
 
 module _ {S V : Type 0} (holds : List ℕ → List V → Type 0) (learn : List ℕ → List V → V → V) where
-  -- A step that keeps the rule is allowed, whatever it then tells, as long as that follows from the step as it happened. The table below may write the word by a function of its own that gives the same.
-  steps : (slots number id : ℕ) (me : Me S V) (place : ℕ) (write below : ℕ → ℕ) (tells : ℕ → V → Type 0) → number ≡ id → ((n : ℕ) → write n ≡ below n)
+  -- A step that keeps the rule is allowed, whatever it then tells, as long as that follows from the step as it happened. The table
+  -- below may write the word by a function of its own that gives the same.
+  steps : (slots number id : ℕ) (me : Me S V) (place : ℕ) (write below : ℕ → ℕ) (tells : ℕ → V → Type 0) → number ≡ id
+      → ((n : ℕ) → write n ≡ below n)
       → ((met : ℕ) (after : V) → Learned holds learn number place write me.0 met after → tells met after)
       → Keeps holds number me.0 place write learn
       → Allows (λ (s : State S V). holds s.words s.views) slots id me place below (λ met after. (after.1 ≡ me.1) × tells met after.0)
@@ -32,19 +34,24 @@ module _ {S V : Type 0} (holds : List ℕ → List V → Type 0) (learn : List �
         (refl, tell met after step),
       )
 
+  -- a load that keeps the rule is allowed, and tells the step as it happened
   pub loads : (slots number id : ℕ) (me : Me S V) (place : ℕ) → number ≡ id → Keeps holds number me.0 place unchanged learn
       → Allows (λ (s : State S V). holds s.words s.views) slots id me place (λ n. n)
       (λ met after. (after.1 ≡ me.1) × Learned holds learn number place unchanged me.0 met after.0)
   loads slots number id me place same = steps slots number id me place unchanged (λ n. n)
       (Learned holds learn number place unchanged me.0) same (λ n. refl) (λ met after step. step)
 
+  -- so is a store, which tells of some word that it replaced, since it doesn't learn which
   pub stores : (slots number id : ℕ) (me : Me S V) (place value : ℕ) → number ≡ id → Keeps holds number me.0 place (replaced_by value) learn
       → Allows (λ (s : State S V). holds s.words s.views) slots id me place (λ _. value)
       (λ _ after. (after.1 ≡ me.1) × ((met : ℕ) × Learned holds learn number place (replaced_by value) me.0 met after.0))
   stores slots number id me place value same = steps slots number id me place (replaced_by value) (λ _. value)
-      (λ _ after. (met : ℕ) × Learned holds learn number place (replaced_by value) me.0 met after) same (λ n. refl) (λ met after step. (met, step))
+      (λ _ after. (met : ℕ) × Learned holds learn number place (replaced_by value) me.0 met after) same (λ n. refl)
+      (λ met after step. (met, step))
 
-  pub exchanges : (slots number id : ℕ) (me : Me S V) (place old new : ℕ) → number ≡ id → Keeps holds number me.0 place (exchanged old new) learn
+  -- so is a compare and exchange, which writes the new word only where it met the old one
+  pub exchanges : (slots number id : ℕ) (me : Me S V) (place old new : ℕ) → number ≡ id
+      → Keeps holds number me.0 place (exchanged old new) learn
       → Allows (λ (s : State S V). holds s.words s.views) slots id me place (λ n. either (n == old) new n)
       (λ met after. (after.1 ≡ me.1) × Learned holds learn number place (exchanged old new) me.0 met after.0)
   exchanges slots number id me place old new same = steps slots number id me place (exchanged old new) (λ n. either (n == old) new n)

@@ -36,7 +36,8 @@ pub(crate) struct Loads<R, M> {
 }
 
 impl<R: WordRule, M: Learning<R::View>> Play<u8, R::View> for Loads<R, M> {
-    ghost then = { λ step before met after. (after.1 ≡ before.1) × Learned R.holds M.learn M.number step.word unchanged before.0 met after.0 };
+    ghost then = { λ step before met after. (after.1 ≡ before.1)
+        × Learned R.holds M.learn M.number step.word unchanged before.0 met after.0 };
 }
 
 /// What a store tells: the step, with some word, since a store doesn't answer what it replaced.
@@ -45,7 +46,8 @@ pub(crate) struct Stores<R, M> {
 }
 
 impl<R: WordRule, M: Learning<R::View>> Play<u8, R::View> for Stores<R, M> {
-    ghost then = { λ step before stored after. (after.1 ≡ before.1) × ((met : ℕ) × Learned R.holds M.learn M.number step.word (replaced_by step.first) before.0 met after.0) };
+    ghost then = { λ step before stored after. (after.1 ≡ before.1)
+        × ((met : ℕ) × Learned R.holds M.learn M.number step.word (replaced_by step.first) before.0 met after.0) };
 }
 
 /// What a compare and exchange tells: the step, with the word that it answers.
@@ -54,7 +56,8 @@ pub(crate) struct Exchanges<R, M> {
 }
 
 impl<R: WordRule, M: Learning<R::View>> Play<u8, R::View> for Exchanges<R, M> {
-    ghost then = { λ step before met after. (after.1 ≡ before.1) × Learned R.holds M.learn M.number step.word (exchanged step.first step.second) before.0 met after.0 };
+    ghost then = { λ step before met after. (after.1 ≡ before.1)
+        × Learned R.holds M.learn M.number step.word (exchanged step.first step.second) before.0 met after.0 };
 }
 
 /// How the rule `R` splits and joins views.

@@ -1,3 +1,5 @@
+//! A seat at a table of words: what a thread needs to make steps there.
+
 use atomic_table::Seat;
 use std::marker::Model;
 use word_rule::WordRule;

@@ -147,7 +147,8 @@ impl<R: WordRule> WordTable<R> {
         requires rule { Keeps R.holds seat.old.number seat.old.view place (replaced_by value) (R.learn_about about.now) }
         ensures seat { SameSeat seat.old seat.new }
         ensures steps { steps.new ≡ steps.old + 1 }
-        ensures step { (met : ℕ) × Learned R.holds (R.learn_about about.now) seat.old.number place (replaced_by value) seat.old.view met seat.new.view }
+        ensures step { (met : ℕ)
+            × Learned R.holds (R.learn_about about.now) seat.old.number place (replaced_by value) seat.old.view met seat.new.view }
     {
         self.store_as::<T, Brand, L>(seat, place, value, about, steps)
     }
@@ -224,7 +225,8 @@ impl<R: WordRule> WordTable<R> {
         ensures seat { SameSeat seat.old seat.new }
         ensures steps { steps.new ≡ steps.old + 1 }
         ensures answer { MatchResult result (λ word. word ≡ old) (λ word. word ≢ old) }
-        ensures step { Learned R.holds (R.learn_about about.now) seat.old.number place (exchanged old new) seat.old.view (met_by result) seat.new.view }
+        ensures step { Learned R.holds (R.learn_about about.now) seat.old.number place (exchanged old new)
+            seat.old.view (met_by result) seat.new.view }
     {
         self.compare_exchange_as::<T, Brand, L>(seat, place, old, new, about, steps)
     }

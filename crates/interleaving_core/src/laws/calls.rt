@@ -1,5 +1,5 @@
 //! Laws of calls, over every run: the histories, who holds a block, what is withheld, and how long a call is.
-ghost use Rattle.interleaving_core.specs.CallLaws.{ShapesStay, HistoriesAreLegal, RefusalsHadFew, NoneIsHeldTwice, HoldersHold, FewAreWithheld, EachKeepsFive, AllAreCounted, CallsAreShort, QuantaAreKept, TransfersAreShort, TransfersEndInTime, PlansWithinTable, ReadsLoad, WritesStore, DataIsKept};
+ghost use Rattle.interleaving_core.specs.CallLaws.{ShapesStay, HistoriesAreLegal, RefusalsHadFew, NoneIsHeldTwice, HoldersHold, FewAreWithheld, EachKeepsFive, AllAreCounted, KeptFollowsCalls, CallsAreShort, QuantaAreKept, TransfersAreShort, TransfersEndInTime, PlansWithinTable, ReadsLoad, WritesStore, DataIsKept};
 
 /// The shape of a run stays.
 pub fn shapes_stay()
@@ -26,10 +26,12 @@ pub fn few_are_withheld()
 {}
 
 /// A process keeps at most five batches of blocks, wherever it stands, and so wherever it stopped. Each block is
-/// kept by a process, held, or in the shared stack.
+/// kept by a process, held, or in the shared stack. The answer of a call moves blocks between what is held and what its
+/// own process keeps, and changes what no other keeps.
 pub fn kept_are_few()
     ensures five { EachKeepsFive }
     ensures all { AllAreCounted }
+    ensures follows { KeptFollowsCalls }
 {}
 
 /// An allocate or a free takes at most a quantum of steps and its own one, whatever the other processes do.

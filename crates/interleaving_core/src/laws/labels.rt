@@ -1,7 +1,7 @@
 //! Labels: what is told of a next step fits what it does to which word.
 ghost use Rattle.interleaving_core.specs.LabelLaws.{TransferKindsFit, NextKindsFit, TurnsFit, AnswersFit, PhasesFit, WaitingsFit};
 
-/// The kind and the index of the next step of every view fit the word that it is on, and whether it loads, stores or
+/// The kind and the index of the next step of every view say which word it is on, and whether it loads, stores or
 /// exchanges it. The turn of a transfer goes with the kind.
 #[tactic(auto, using(crate::proofs::Labels::transfer_kinds_fit, crate::proofs::Labels::next_kinds_fit, crate::proofs::Labels::turns_fit))]
 pub fn kinds_fit()

@@ -3,8 +3,9 @@ use Rattle.interleaving_core.proofs.Runs.{calling_next}
 use Rattle.interleaving_core.proofs.turn.call_view.Goals as goal
 
 pub begin_between-requires : goal.begin_between-requires
-begin_between-requires c =
-    among_can_begin c.args.shape.now c.args.words.now c.args.view.now c.processes.ensures.shape c.requires.invariant.among
+begin_between-requires c = record {
+  can = among_can_begin c.args.shape.now c.args.words.now c.args.view.now c.processes.ensures.shape c.requires.invariant.among;
+}
 
 pub make_step-requires-clause-busy : goal.make_step-requires-clause-busy
 make_step-requires-clause-busy c =

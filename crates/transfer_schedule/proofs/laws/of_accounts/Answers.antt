@@ -1,6 +1,6 @@
 use Rattle.transfer_schedule.proofs.Reaching.{reached_stands, reached_sizes, stands_table, stands_rests, stands_withholds, stands_in_time}
 use Rattle.transfer_schedule.proofs.Reaching.{stands_gives, stands_counts, stands_sound, stands_begins, stands_refuses}
-use Rattle.transfer_schedule.proofs.Reaching.{stands_misses, stands_rested, stands_waits, stands_begun, stands_pends}
+use Rattle.transfer_schedule.proofs.Reaching.{stands_misses, stands_rested, stands_waits, stands_begun, stands_pends, stands_still}
 use Rattle.transfer_schedule.proofs.laws.of_accounts.Goals as goal
 
 pub returns-clause-sizes : goal.returns-clause-sizes
@@ -47,3 +47,6 @@ returns-clause-just_begun c = λ l t q a sizes r. stands_begun a (reached_stands
 
 pub returns-clause-pends : goal.returns-clause-pends
 returns-clause-pends c = λ l t q a sizes r. stands_pends a (reached_stands l t q a sizes r)
+
+pub returns-clause-still : goal.returns-clause-still
+returns-clause-still c = λ l t q a sizes r. stands_still a (reached_stands l t q a sizes r)

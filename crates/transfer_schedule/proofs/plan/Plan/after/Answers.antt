@@ -3,7 +3,8 @@ use Rattle.std.proofs.Common.{◌≡◌, ◌+◌, ◌<◌, sym, ◌∙◌, ap, s
 use Rattle.std.proofs.lemmas.Grind.{common_steps}
 use Rattle.transfer_schedule.specs.Numbers.{opening, is_idle, stock}
 use Rattle.transfer_schedule.specs.Calls.{after_calls}
-use Rattle.transfer_schedule.proofs.Calling.{Kept, Rested, opening_rested, calls_rest, place_fits, row_ends, moment_table, moment_rests, moment_withholds, call_nothing}
+use Rattle.transfer_schedule.proofs.Calling.{Kept, Rested, opening_rested, calls_rest, place_fits, row_ends, moment_table, moment_rests}
+use Rattle.transfer_schedule.proofs.Calling.{moment_withholds, call_nothing}
 use Rattle.transfer_schedule.proofs.ShortTakes.{calls_short}
 use Rattle.transfer_schedule.proofs.plan.Plan.after.Goals as goal
 
