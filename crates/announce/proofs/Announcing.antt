@@ -46,6 +46,7 @@ pub record AnnouncementFits (sizes : Sizes) (process number : ℕ) (wish : Wish)
   pub within : 1 + process < table_words sizes
   pub few : process < 32
 
+-- the number, the wish and the process of an announcement that is due are in range
 pub announcement_fits : (a : About) (v : SeatView) (process number : ℕ) (wish : Wish) → CanStep v.sizes a v
     → Announces a v process number wish → AnnouncementFits v.sizes process number wish
 unfolding place
@@ -69,6 +70,7 @@ announcement_placed : (sizes : Sizes) (process : ℕ) → 1 + process ≡ place 
 unfolding place
 announcement_placed sizes process = refl
 
+-- the store of the due announcement, at the place of its process, keeps the rule
 pub announce_keeps : (a : About) (number_of_seat : ℕ) (v : SeatView) (process number word : ℕ) (wish : Wish) → CanStep v.sizes a v
     → Announces a v process number wish → word ≡ announcement number wish
     → Keeps Holds number_of_seat v (1 + process) (replaced_by word) (turned a)

@@ -34,6 +34,7 @@ use Rattle.announce.specs.Heard.{LoadsAnnouncement, IsPresentWhile}
 own_agrees : (a : About) (v : SeatView) (process : ℕ) → LoadsAnnouncement a v process → Agrees a v (transfer_about a v)
 own_agrees a v process l = record { same = refl; moves = l.moves }
 
+-- the load of an announcement that is due is the machine's next step
 pub load_is_next : (sizes : Sizes) (a : About) (v : SeatView) (process : ℕ) → LoadsAnnouncement a v process
     → Load (Announcement process) ≡ next_action sizes (turning a v.mind.view)
 load_is_next sizes a v process l =
@@ -126,6 +127,7 @@ module _ (sizes : Sizes) (a : About) (v x : SeatView) (process word : ℕ) (c : 
       let met = heard_met sizes t l.second process word l.next low (omega (arith, low, few, room)) in
       subst (λ z. Heard z x.mind.view.transfer process word) (sym same) (subst (λ u. Heard sizes u process word) (sym mirrors) met)
 
+  -- the announcement that was heard is the present one, as long as it pends in the state that was loaded
   pub heard_now_present : IsPresentWhile x process word
   heard_now_present pends words views place h at ghosts holds now =
       let process_seat : x.of_process ≡ true = ap (λ (z : SeatView). z.of_process) s.stays ∙ c.of_process in

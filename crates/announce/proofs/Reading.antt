@@ -52,9 +52,11 @@ load_seen a b v r old e same hears =
     subst (λ z. Load (Announcement r.process) ≡ next_action r.sizes (turning z v.mind.view)) (sym same)
     (load_is_next r.sizes a v r.process (subst (CanHear a v) (sym e) hears))
 
+-- a reader that may hear next is at one of 32 processes
 pub few_seen : (a : About) (v : SeatView) (r old : Reading) → r ≡ old → CanStep old.sizes a v → CanHear a v old → r.process < 32
 few_seen a v r old e can hears = subst (λ (o : Reading). o.process < 32) (sym e) (hears_few old.sizes a v old.process can hears)
 
+-- after the load it has heard that announcement, which is the present one while it pends
 pub heard_seen : (a b : About) (v x : SeatView) (r old s : Reading) (word : ℕ) (announced : Announced) → r ≡ old → b ≡ a
     → CanStep old.sizes a v → CanHear a v old → announced ≡ announced_of word → Stepped b v word x → s ≡ heard r
     → HasHeard a v old x s announced

@@ -1,5 +1,6 @@
 -- What a changed word makes of the marks.
-use Rattle.std.proofs.Common.{◌≡◌, ◌≢◌, ℕ, ◌*◌, ◌/◌, ◌%◌, ◌^◌, ◌<◌, ◌≤◌, ◌↔◌, List, length, set, get_or, get_or-set_same, get_or-set_other, eqb, eqb-true, eq-eqb, true, replicate, refl, sym, ap, ◌∙◌, subst, arith, inl, inr, w64}
+use Rattle.std.proofs.Common.{◌≡◌, ◌≢◌, ℕ, ◌*◌, ◌/◌, ◌%◌, ◌^◌, ◌<◌, ◌≤◌, ◌↔◌, List, length, set, get_or, get_or-set_same, get_or-set_other}
+use Rattle.std.proofs.Common.{eqb, eqb-true, eq-eqb, true, replicate, refl, sym, ap, ◌∙◌, subst, arith, inl, inr, w64}
 use Rattle.std.specs.Prelude.{bit_and, bit_or}
 use Rattle.std.specs.Int.{bit_at, bit_not}
 use Rattle.std.proofs.lemmas.Bool.{cases_eq, cases_lt}
@@ -82,11 +83,13 @@ module _ (bound : ℕ) (words : List ℕ) (now : Marked) (number word : ℕ) (is
   abbrev without_bit : ℕ
   without_bit = bit_and word (bit_not w64 (1 * 2 ^ (number % 64) % 2 ^ 64))
 
+  -- setting its bit marks the number, and all others are as before
   pub set_one : Sets now (record { bound = bound; words = set words (number / 64) with_bit }) number
   set_one =
       let one = mark_one with_bit (λ place low apart. bit_at_set_other w64 word (number % 64) (omega arith) place apart) in
       (one.0.1 (bit_at_set_same w64 word (number % 64) (omega arith)), one.1)
 
+  -- clearing its bit unmarks the number, and all others are as before
   pub clear_one : Clears now (record { bound = bound; words = set words (number / 64) without_bit }) number
   clear_one =
       let one = mark_one without_bit (λ place low apart. bit_at_clear_other w64 word (number % 64) (omega arith) place low apart) in
@@ -100,8 +103,13 @@ module _ (bound : ℕ) (words : List ℕ) (now : Marked) (number word : ℕ) (is
   pub tests_one : (eqb (bit_and (word / 2 ^ (number % 64)) 1) 1 ≡ true) ↔ Has now number
   unfolding HasBit
   tests_one = subst (λ (marks : Marked). (eqb (bit_and (word / 2 ^ (number % 64)) 1) 1 ≡ true) ↔ Has marks number) is (
-    λ e. (below, ap (λ (w : ℕ). bit_at w (number % 64)) (sym read) ∙ sym (shr_and_one word (number % 64)) ∙ eqb-true (bit_and (word / 2 ^ (number % 64)) 1) 1 e),
-    λ has. eq-eqb (bit_and (word / 2 ^ (number % 64)) 1) 1 (shr_and_one word (number % 64) ∙ ap (λ (w : ℕ). bit_at w (number % 64)) read ∙ has.1),
+    λ e. (
+      below,
+      ap (λ (w : ℕ). bit_at w (number % 64)) (sym read) ∙ sym (shr_and_one word (number % 64))
+          ∙ eqb-true (bit_and (word / 2 ^ (number % 64)) 1) 1 e,
+    ),
+    λ has. eq-eqb (bit_and (word / 2 ^ (number % 64)) 1) 1
+        (shr_and_one word (number % 64) ∙ ap (λ (w : ℕ). bit_at w (number % 64)) read ∙ has.1),
   )
 
 alike : (n k word : ℕ) → get_or (replicate n word) k word ≡ word
@@ -111,7 +119,9 @@ alike n k word = elim (cases_lt k n) [
 ]
 
 -- among words of 0 no number is marked
-pub none_marked : (n bound : ℕ) (words : List ℕ) → words ≡ replicate n 0 → (number : ℕ) → Has (record { bound = bound; words = words }) number → ⊥
+pub none_marked : (n bound : ℕ) (words : List ℕ) → words ≡ replicate n 0 → (number : ℕ)
+    → Has (record { bound = bound; words = words }) number
+    → ⊥
 unfolding HasBit
 none_marked n bound words is number has =
     let word : get_or words (number / 64) 0 ≡ 0 = ap (λ (ws : List ℕ). get_or ws (number / 64) 0) is ∙ alike n (number / 64) 0 in

@@ -19,9 +19,11 @@ use Rattle.std_alloc.proofs.BoxSteps.Steps.{box_out, box_in}
 use Rattle.box_parts.specs.contracts.BoxParts as parts
 
 module _ (E : Bx) where
+  -- the type of a box's parts, as proofs see it
   abbrev pub Parts : RattleType
   Parts = parts.the_row (R E) (P E) E.al.g
 
+  -- the type of a raw pointer beside an allocator
   abbrev pub Pair : RattleType
   Pair = Tuple (RawPtr ∷ P E ∷ [])
 
@@ -43,6 +45,7 @@ module _ (E : Bx) {M : Type 1} {𝓤 : Ura M} {𝓛 : Logic 𝓤} {K : Type 0} {
       use1 𝓛 (‵ ((B E).own_val (boxed E d) vs)) (id⊢ 𝓤 _) $
       box_out E t (boxed E d) vs (λ b o h at words fits. fjoin t $ more b o h at words fits)
 
+  -- and the value in that block, with the handle of its allocator, is owned by parts again
   pub parts_in : K → (b o : ℕ) (h : Val) (a : E.al.row.Denot) (x : X E)
       → Step K 𝓛 (‵ ((Parts E).own_val (parted E b o a x) (word E h b o ∷ [])) ∷ Γ) G
       (‵ (box_owns (token E.al a) (R E) (block_ptr b o) x) ∷ ‵ (handle E a h) ∷ Γ) G
@@ -55,8 +58,10 @@ module _ (E : Bx) {M : Type 1} {𝓤 : Ura M} {𝓛 : Logic 𝓤} {K : Type 0} {
       → Seq K 𝓛 (‵ (box_owns (token E.al a) (R E) (block_ptr b o) x) ∷ ‵ (handle E a h) ∷ Γ) G)
       → Seq K 𝓛 (‵ (box_owns (token E.al a) (R E) r.0 x) ∷ ‵ ((Pair E).own_val r (u ∷ [])) ∷ Γ) G
   pair_out t r u a x same more =
-      in_a_block t r.0 (λ (p : Ptr). box_owns (token E.al a) (R E) p x) (fst∗ 𝓤 (never 𝓤) (sem 𝓛 (token E.al a (bare (τ E)) null_ptr))) (λ b o at.
+      in_a_block t r.0 (λ (p : Ptr). box_owns (token E.al a) (R E) p x) (fst∗ 𝓤 (never 𝓤) (sem 𝓛 (token E.al a (bare (τ E)) null_ptr)))
+      (λ b o at.
       move t (1 ∷ []) $ fpick t (λ words. fsplit t $ feq_l t (λ whole. fsplit t $ feq_l t (λ first. fsplit t $
       rewrite t 0 (λ (s : E.al.row.Denot). ‵ (E.al.row.own_val s words.1.0)) same refl $
       handle_tells E.al t a words.1.0 (λ h second fits. move t (1 ∷ []) $ drop t $ move t (1 ∷ 0 ∷ []) $
-      more b o h (ap only (whole ∙ (λ i. vstruct (of_list ((first ∙ ap (λ (p : Ptr). ptr_val p ∷ []) at) i ++ (second i ++ []))) ∷ []))) fits)))))
+      more b o h (ap only (whole ∙ (λ i. vstruct (of_list ((first ∙ ap (λ (p : Ptr). ptr_val p ∷ []) at) i ++ (second i ++ []))) ∷ [])))
+      fits)))))

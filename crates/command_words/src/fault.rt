@@ -1,3 +1,5 @@
+//! Why a command line gives no command, as the error of a program.
+
 use clap::error::ErrorKind;
 use std::alloc::AllocError;
 use std::error::Error;

@@ -1,3 +1,5 @@
+//! Words of each command, with what they ask for, and words that are faulty.
+
 use crate::{Command, Drill, FileNames, Play, Store, WordsFault, read_words};
 use std::alloc::Global;
 use std::test::Fail;

@@ -112,8 +112,10 @@ module _ {S : Type 0} (peak : S → ℕ) where
             (follows_at n (Dry by) (slice_get-get_or history n (Dry by) (omega (arith, low)) ∙ ap Some is)).1
         here earlier (suc k) one is = absurd (omega (arith, one))
 
+    -- where the blocks are more than the processes may withhold and hold at their peaks, no entry is a refusal
     pub nothing_is_refused : NoneIsDry history
     nothing_is_refused = subst NoneIsDry (take_all (length history) history (omega arith)) (none_by (length history) (omega arith))
 
+-- no legal history refuses one of so many blocks
 pub enough_blocks : EnoughBlocksAreNotRefused
 enough_blocks limits history peaks legal each few enough = nothing_is_refused (λ peak. peak) limits history peaks legal each few enough

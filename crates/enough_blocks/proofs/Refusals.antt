@@ -29,6 +29,7 @@ none_of_own history i none by has = none by (contains_filter _ history (Dry by) 
 pub none_first : (first rest : List Entry) → NoneIsDry (first ++ rest) → NoneIsDry first
 none_first first rest none by has = none by (Contains-append_left first rest (Dry by) has)
 
+-- nor is one behind them
 pub none_rest : (first rest : List Entry) → NoneIsDry (first ++ rest) → NoneIsDry rest
 none_rest first rest none by has = none by (Contains-append_right first rest (Dry by) has)
 

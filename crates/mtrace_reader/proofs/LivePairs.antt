@@ -1,3 +1,4 @@
+-- What the live pairs name once an address's pair is taken out.
 use Rattle.std.proofs.Common.{◌≡◌, ℕ, cond, not, eqb, None, ◌∙◌}
 use Rattle.std.specs.Map.{lookup}
 use Rattle.std.proofs.lemmas.Map.Entries.{lookup-filter-keys}

@@ -24,6 +24,7 @@ begins-true byte [] h = tt
 begins-true byte ([] ∷ others) h = cc
 begins-true byte ((first ∷ bytes) ∷ others) h = (Decides-eqb first byte).0 h
 
+-- words that are none, or begin with the byte, pass the test
 pub true-begins : (byte : ℕ) (ws : List (List ℕ)) → NoneOrBeginsWith byte ws → none_or_begins_with byte ws ≡ true
 true-begins byte [] h = refl
 true-begins byte ([] ∷ others) h = absurd h
@@ -57,6 +58,7 @@ release_spells sign address operation is_sign said =
     refl
     said
 
+-- what is computed as a release is spelled as one
 pub release_sound : (sign address : List ℕ) (before : List (List ℕ)) (operation : Operation) → (sign ≡ codes "-") ⊎ (sign ≡ codes "<")
     → said_by_release before address ≡ Some operation → IsOperation (reverse (address ∷ sign ∷ before)) operation
 release_sound sign address before operation is_sign said =
@@ -105,6 +107,7 @@ sized_spells sign address size (New place bytes) h = h
 sized_spells sign address size (Release place) h = absurd h
 sized_spells sign address size Failed h = h
 
+-- what is computed of a sign, an address and a size is spelled so
 pub sized_sound : (sign address size : List ℕ) (before : List (List ℕ)) (operation : Operation)
     → said_before (sign ∷ before) address size ≡ Some operation → IsOperation (reverse (size ∷ address ∷ sign ∷ before)) operation
 sized_sound sign address size before operation said =
@@ -176,6 +179,7 @@ spelled_complete caller (sign ∷ address ∷ size ∷ []) Failed begins spells 
     ) refl)
 spelled_complete caller form operation begins spells = absurd spells
 
+-- words that say an operation are computed as it
 pub operation_complete : (ws : List (List ℕ)) (operation : Operation) → IsOperation ws operation → said_by (reverse ws) ≡ Some operation
 operation_complete ws operation is =
     ap (λ xs. said_by (reverse xs)) is.whole ∙ spelled_complete is.caller is.form operation is.begins is.spells
@@ -209,6 +213,7 @@ begun_not_skipped [] form operation begins spells skipped = spelled_not_skipped 
 begun_not_skipped ([] ∷ others) form operation begins spells skipped = absurd begins
 begun_not_skipped ((first ∷ bytes) ∷ others) form operation begins spells skipped = omega arith
 
+-- words that say an operation are not those of a skipped line
 pub operation_not_skipped : (ws : List (List ℕ)) (operation : Operation) → IsOperation ws operation → IsSkipped ws → ⊥
 operation_not_skipped ws operation is skipped =
     begun_not_skipped is.caller is.form operation is.begins is.spells (subst IsSkipped is.whole skipped)
@@ -246,6 +251,7 @@ meant_is_computed line Bad means =
     let other = false_from_not (none_or_begins_with equals_sign (words line)) (λ e. means.0 (begins-true equals_sign (words line) e)) in
     rw other (unsaid (words line) means.1)
 
+-- a line means exactly what is computed as its meaning
 pub each_line_means_one_thing : (line : List ℕ) (meaning : Meaning Operation)
     → (Means line meaning → meaning_of line ≡ meaning) × (meaning_of line ≡ meaning → Means line meaning)
 each_line_means_one_thing line meaning =

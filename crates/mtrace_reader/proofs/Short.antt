@@ -38,5 +38,6 @@ walked size walk [] = omega arith
 walked size walk (operation ∷ operations) =
     omega (arith, one_more size walk operation, walked size (after size walk operation) operations)
 
+-- a script has at most as many steps as its trace has operations
 pub steps-le-operations : (trace : Trace) (size : ℕ) → length (script_of trace size).steps ≤ length trace.operations
 steps-le-operations trace size = omega (arith, walked size (begun trace.cut) trace.operations)

@@ -1,3 +1,4 @@
+-- Every walk over operations makes a well formed script: slots in order, each left once at most and after it was placed.
 use Rattle.std.proofs.Common.{◌≡◌, ◌≢◌, ℕ, ◌+◌, ◌<◌, Bool, true, false, cond, eqb, nat_lt, List, [], ◌∷◌, ◌++◌, length, get_or, take, drop}
 use Rattle.std.proofs.Common.{zero, suc, Option, Some, None, is_some, fold, refl, sym, ap, ◌∙◌, subst, ⊎_elim, inl, inr, ◌⊎◌, arith}
 use Rattle.std.proofs.Common.{length-append, append-nil, map-id, ◌==◌}
@@ -23,6 +24,7 @@ use Rattle.mtrace_reader.specs.Script.{begun, placed_slots, LeavesPlaced, IsWell
 
 -- ---- the slots that steps place
 
+-- the slots that two lists of steps place are those of the one and then of the other
 pub placed_slots-append : (xs ys : List Step) → placed_slots (xs ++ ys) ≡ placed_slots xs ++ placed_slots ys
 placed_slots-append [] ys = refl
 placed_slots-append (Place slot ∷ xs) ys = ap (λ slots. slot ∷ slots) (placed_slots-append xs ys)
@@ -33,6 +35,7 @@ pub range_with_len_more : (n : ℕ) → range_with_len 0 (n + 1) ≡ range_with_
 range_with_len_more n = sym (map-id (range_with_len 0 (n + 1))) ∙ map-range_with_len_more (λ k. k) 0 n n (omega arith)
     ∙ ap (λ slots. slots ++ n ∷ []) (map-id (range_with_len 0 n))
 
+-- a slot that a step places is among the placed slots
 pub placed_slots-at : (steps : List Step) (place slot : ℕ) → slice_get steps place ≡ Some (Place slot) → Contains (placed_slots steps) slot
 placed_slots-at [] place slot e = absurd cc
 placed_slots-at (Place first ∷ steps) zero slot e = (0, omega arith, cc)
@@ -51,6 +54,7 @@ placed_below steps news slot in_order placed =
 
 -- ---- leaves
 
+-- leaves stay in order by one step more, which leaves at most a slot that was placed and not left before
 pub LeavesPlaced-push : (steps : List Step) (step : Step) → LeavesPlaced steps
     → ((slot : ℕ) → step ≡ Leave slot → Contains steps (Place slot) × ¬ Contains steps (Leave slot))
     → LeavesPlaced (steps ++ step ∷ [])
@@ -72,6 +76,7 @@ left_was_placed steps slot leaves left =
 
 -- ---- what every walk keeps
 
+-- its slots are placed in order and left after that; a live address names a placed and not left slot, and no two name the same
 pub record Sound (walk : Walk) : Type 0 where
   pub in_order : placed_slots walk.script.steps ≡ range_with_len 0 walk.script.news
   pub leaves : LeavesPlaced walk.script.steps
@@ -79,6 +84,7 @@ pub record Sound (walk : Walk) : Type 0 where
       → Contains walk.script.steps (Place slot) × ¬ Contains walk.script.steps (Leave slot)
   pub one_name : (a b slot : ℕ) → named walk a ≡ Some (Slot slot) → named walk b ≡ Some (Slot slot) → a ≡ b
 
+-- before the first operation a walk is so
 pub Sound-begun : (cut : Bool) → Sound (begun cut)
 Sound-begun cut = record {
   in_order = refl;
@@ -122,6 +128,7 @@ named_less walk address q slot e =
 
 -- ---- each step keeps them
 
+-- an allocation too large for a block leaves a walk so
 pub Sound-with_big : (walk : Walk) (address : ℕ) → Sound walk → Sound (with_big walk address)
 Sound-with_big walk address sound =
     let earlier : (q slot : ℕ) → named (with_big walk address) q ≡ Some (Slot slot) → named walk q ≡ Some (Slot slot) =
@@ -143,6 +150,7 @@ not_left_more : (steps : List Step) (step : Step) (slot : ℕ) → ¬ Contains s
     → ¬ Contains (steps ++ step ∷ []) (Leave slot)
 not_left_more steps step slot before last left = ⊎_elim before last (Contains-push_cases steps step (Leave slot) left)
 
+-- a placed slot leaves a walk so, its address naming that slot alone
 pub Sound-with_place : (walk : Walk) (address : ℕ) → Sound walk → Sound (with_place walk address)
 Sound-with_place walk address sound =
     let steps = walk.script.steps in
@@ -205,6 +213,7 @@ Sound-without walk address (Some (Slot left)) is sound =
           sound.one_name a b slot (named_less walk address a slot names_a).1 (named_less walk address b slot names_b).1;
     }
 
+-- a release leaves a walk so, whatever it names
 pub Sound-after_release : (walk : Walk) (address : ℕ) → Sound walk → Sound (after_release walk address)
 Sound-after_release walk address sound = Sound-without walk address (named walk address) refl sound
 
@@ -212,6 +221,7 @@ either : (b : Bool) (x y : Walk) → Sound x → Sound y → Sound (cond b x y)
 either true x y p q = p
 either false x y p q = q
 
+-- any operation leaves a walk so
 pub Sound-after : (size : ℕ) (walk : Walk) (operation : Operation) → Sound walk → Sound (after size walk operation)
 Sound-after size walk (New address bytes) sound =
     either (address == 0) _ _
@@ -222,11 +232,13 @@ Sound-after size walk (New address bytes) sound =
 Sound-after size walk (Release address) sound = Sound-after_release walk address sound
 Sound-after size walk Failed sound = Sound-same walk (with_failed walk) refl refl refl sound
 
+-- any list of operations leaves a walk so
 pub Sound-fold : (size : ℕ) (walk : Walk) (operations : List Operation) → Sound walk → Sound (fold (after size) walk operations)
 Sound-fold size walk [] sound = sound
 Sound-fold size walk (operation ∷ operations) sound =
     Sound-fold size (after size walk operation) operations (Sound-after size walk operation sound)
 
+-- the script of any operations is well formed
 pub IsWellFormed-script_of : (size : ℕ) (cut : Bool) (operations : List Operation)
     → IsWellFormed (fold (after size) (begun cut) operations).script
 IsWellFormed-script_of size cut operations =

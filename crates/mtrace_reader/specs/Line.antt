@@ -14,6 +14,7 @@ use Rattle.mtrace_reader.specs.declared.trace.Operation.TheVariants.{New, Releas
 abbrev pub equals_sign : ℕ
 equals_sign = 61
 
+-- the byte that begins the text of a caller
 abbrev pub at_sign : ℕ
 at_sign = 64
 

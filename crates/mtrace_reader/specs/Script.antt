@@ -1,3 +1,4 @@
+-- Scripts: what a walk over a trace's operations makes of each, and when the steps of a script are in order.
 use Rattle.std.specs.Prelude.{◌≡◌, ℕ, ◌+◌, Bool, List, [], ◌∷◌, ◌++◌, Option, Some, None, is_some, nat_eq, ◌==◌, nat_lt, not, if◌then◌else◌}
 use Rattle.std.specs.Prelude.{fold, filter, take, slice_get, Contains}
 use Rattle.std.specs.List.{range_with_len}

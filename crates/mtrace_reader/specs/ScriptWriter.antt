@@ -1,3 +1,4 @@
+-- What a script writer keeps along the walk: the script, and its live addresses as the walk's pairs.
 use Rattle.std.specs.Prelude.{◌≡◌, ℕ}
 use Rattle.std.specs.Ordering.{nat_cmp}
 use Rattle.std.specs.BTreeMap.{get}

@@ -19,6 +19,7 @@ use Rattle.object_store.proofs.Known.{written_here, written_there, forgotten_the
 
 -- ---- writes after a call
 
+-- a call and so many writes after it make a step for each write beside those of the call
 pub counted_after : (quantum count before middle after : ℕ) (old between new : Passed) → Counted quantum before middle old between
     → after ≡ middle + count → new.moves ≡ between.moves + count → CountedWithin (count + 1) (quantum + (count + 1)) before after old new
 counted_after quantum count before middle after old between new counted steps moves = record {
@@ -71,6 +72,7 @@ stored_by count words_of value old between new object moves free entered unchang
 
 -- ---- reads before a call
 
+-- reads before a free leave the entry that it makes, and what its process has seen and holds after it
 pub entered_before : (block : ℕ) (old between new : Passed) (moves : ℕ) → between ≡ record old { moves = moves }
     → Entered (entry.Back between.number block) between new → Entered (entry.Back old.number block) old new
 entered_before block old between new moves is entered =
@@ -78,6 +80,7 @@ entered_before block old between new moves is entered =
     subst (λ (p : Passed). Entered (entry.Back p.number block) p new) is entered in
     record { own = at.own; seen = at.seen; held = at.held }
 
+-- reads and a free after them make a step for each read beside those of the free
 pub counted_before : (count before middle after : ℕ) (old between new : Passed) → middle ≡ before + count
     → between ≡ record old { moves = old.moves + count } → Counted between.sizes.quantum middle after between new
     → CountedWithin (count + 1) (old.sizes.quantum + 1 + count) before after old new
@@ -92,6 +95,7 @@ counted_before count before middle after old between new steps is counted =
       moves = omega (arith, counted.moves);
     }
 
+-- reads before a free leave what it forgets, the words of its block alone
 pub forgotten_before : (block : ℕ) (old between new : Passed) (moves : ℕ) → between ≡ record old { moves = moves }
     → new.known ≡ forget block between.known → new.known ≡ forget block old.known
 forgotten_before block old between new moves is known = known ∙ ap (λ (p : Passed). forget block p.known) is
@@ -108,6 +112,7 @@ others_freed block old new entered known = record {
 
 -- ---- writes alone
 
+-- so many writes to a held block leave it with these words
 pub kept_by_writes : (block count moves : ℕ) (words : List ℕ) (old new : Passed) → Contains old.held block
     → new ≡ record old { moves = moves; known = written block words count old.known } → HoldsWords count words block new
 kept_by_writes block count moves words old new held is = record {
@@ -115,6 +120,7 @@ kept_by_writes block count moves words old new held is = record {
   known = subst (λ (p : Passed). KnowsWords p.known block count words) (sym is) (written_here block words count old.known);
 }
 
+-- they leave what is held and known of all other blocks
 pub others_by_writes : (block count moves : ℕ) (words : List ℕ) (old new : Passed)
     → new ≡ record old { moves = moves; known = written block words count old.known } → KeepsOthers block old new
 others_by_writes block count moves words old new is = record {

@@ -26,6 +26,7 @@ pub record AreMade (sizes : Sizes) (table : TableId) (made steps : ℕ) (first :
 pub opening_first : (sizes : Sizes) → opening_seat sizes 0 ≡ seat_of_process sizes 0 sizes.processes
 opening_first sizes = refl
 
+-- each other process's seat is the one of its opening, which has made no seat
 pub opening_further : (sizes : Sizes) (process : ℕ) → 0 < process → opening_seat sizes process ≡ seat_of_process sizes process 0
 opening_further sizes process above = let ne : process ≢ 0 = omega arith in rw (ne_eqb process 0 ne) refl
 

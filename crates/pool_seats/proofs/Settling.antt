@@ -111,6 +111,7 @@ all_fit sizes words minds history seats list few holds each once is =
       few = subst (λ whole. length (held whole) ≤ blocks sizes) (sym is) (held_few sizes words minds history holds);
     }
 
+-- a seat with each process's mind once shows one legal history, which all minds fit, and the number of blocks held after it
 pub all_seats_fit : AllSeatsFit
 all_seats_fit v among e once =
     let h = among.held in

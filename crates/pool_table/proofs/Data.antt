@@ -45,6 +45,7 @@ nothing_either_way : (known : Option ℕ) (t : Bool) → known ≡ None → know
 nothing_either_way known true e = e
 nothing_either_way known false e = refl
 
+-- a free makes the list forget the freed block's words and no others, as the machine's look-up does
 pub forget_forgets : (freed : ℕ) (known : List KnownWord) → SameKnown (known_in (forget freed known)) (forgets freed (known_in known))
 forget_forgets freed [] block index = nothing_either_way None (block == freed) refl
 forget_forgets freed (word ∷ more) block index =
@@ -73,6 +74,7 @@ step_changes_by : (v : ProcessView) (known : List KnownWord) (t : Bool)
 step_changes_by v known true block index = refl
 step_changes_by v known false block index = stage_changes v.calls.stage v.calls.call known block index
 
+-- after any step the list knows what the machine's look-up does
 pub step_changes : (v : ProcessView) (known : List KnownWord)
     → SameKnown (known_in (words_known_after v known)) (changed_after v (known_in known))
 step_changes v known = step_changes_by v known (is_alone v.calls.way)

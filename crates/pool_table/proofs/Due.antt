@@ -24,6 +24,7 @@ views_move i mind minds = record {
   elsewhere = λ o ne. ap (λ m. m.view) (moved_elsewhere i o mind minds ne);
 }
 
+-- where one process's mind becomes another, whatever it was before, the machine's views move in that process's alone
 pub views_move_on : (i : ℕ) (first mind : Mind) (minds : Minds)
     → MovedProcess i mind.view (views_of (moved i first minds)) (views_of (moved i mind minds))
 views_move_on i first mind minds = record {
@@ -35,6 +36,7 @@ views_move_on i first mind minds = record {
 abbrev pub with_view : ProcessView → Mind → Mind
 with_view v mind = record mind { view = v }
 
+-- the minds of all once process i has begun what its step is about
 abbrev pub begun_minds : ℕ → ProcessView → Minds → Minds
 begun_minds i v minds = moved i (with_view v (minds i)) minds
 
@@ -48,6 +50,7 @@ pub mind_number : (sizes : Sizes) (words : List ℕ) (minds : Minds) (history : 
     → i < sizes.processes → number_of (minds i) ≡ i
 mind_number sizes words minds history i holds low = number_holds sizes (word_at sizes words) (views_of minds) history i low holds.meets
 
+-- by its entries a mind holds what the history says that its process holds
 pub mind_holds : (sizes : Sizes) (words : List ℕ) (minds : Minds) (history : List Entry) (i : ℕ) → MindsHold sizes words minds history
     → i < sizes.processes → held_in (minds i) ≡ grip (own history i)
 mind_holds sizes words minds history i holds low =

@@ -74,12 +74,14 @@ sees_own_after history [] i views seen long sees = rw (append-nil history) sees
 sees_own_after history (entry ∷ more) i views seen long sees =
     rw long (record { own_seen = refl; beginning = take-length (history ++ entry ∷ more) })
 
+-- after entries of its own it has seen all that any seat has, and these; without any, as much as before
 pub seen_goes_on : (history entries : List Entry) (i : ℕ) (views : List SeatView) (seen : List Entry) → longest views ≡ history
     → SeesOwn history i seen → SeenAfter entries seen (seen_after entries views seen)
 seen_goes_on history [] i views seen long sees = refl
 seen_goes_on history (entry ∷ more) i views seen long sees =
     record { past = longest views; ends = refl; begins = rw long sees.beginning }
 
+-- its own entries have become those and the new ones
 pub entries_go_on : (history entries : List Entry) (i : ℕ) (views : List SeatView) (seen : List Entry) → longest views ≡ history
     → AllOwn i entries → SeesOwn history i seen → own (seen_after entries views seen) i ≡ own seen i ++ entries
 entries_go_on history [] i views seen long mine sees = sym (append-nil (own seen i))
@@ -91,6 +93,7 @@ entries_go_on history (entry ∷ more) i views seen long mine sees =
 seen_within : (history seen : List Entry) → take (length seen) history ≡ seen → length seen ≤ length history
 seen_within history seen e = omega (arith, ap length e, length-take (length seen) history)
 
+-- a process that made none of the new entries has still seen all its own
 pub sees_on : (history entries : List Entry) (o : ℕ) (seen : List Entry) → own (history ++ entries) o ≡ own history o
     → SeesOwn history o seen → SeesOwn (history ++ entries) o seen
 sees_on history entries o seen same sees = record {
@@ -114,6 +117,7 @@ still_sees_all p minds history i mind low same sees = elim (cases_eq sees.proces
   }
 ]
 
+-- some process has seen the whole history with the new entries
 pub one_sees_all_after : (p : ℕ) (minds : Minds) (history entries : List Entry) (i : ℕ) (views : List SeatView) (mind : Mind) → i < p
     → longest views ≡ history → mind.seen ≡ seen_after entries views (minds i).seen
     → (0 < length history → OneSeesAll p minds history) → 0 < length (history ++ entries)

@@ -27,9 +27,11 @@ some_word sizes words e = omega (arith, e, place_below sizes State tt)
 pub left_of_process : (v : SeatView) → v.of_process ≡ true → left v ≡ one_more_made v
 left_of_process v e = ap (λ is. left_by is v) e
 
+-- a process's seat makes that of the next process, at its opening
 pub right_of_process : (v : SeatView) → v.of_process ≡ true → right v ≡ seat_of_process v.sizes v.made 0
 right_of_process v e = ap (λ is. right_by is v) e
 
+-- a seat that takes in a process's seat gets its mind
 pub both_of_process : (v w : SeatView) → w.of_process ≡ true → both v w ≡ takes_in w.mind v
 both_of_process v w e = ap (λ is. both_by is v w) e
 
@@ -45,14 +47,17 @@ split_holds words views place v can h at = record {
   numbered = split_keeps_numbered h.sizes h.minds views place v h.numbered at can.of_process can.first can.room;
 }
 
+-- a seat that may make one more does so within the rule
 pub splits : (number : ℕ) (v : SeatView) → CanSplit v → Splits Holds number v (left v) (right v)
 splits number v can = subst (λ is. Splits Holds number v (left_by is v) (right_by is v)) (sym can.of_process)
     (λ words views h at. split_holds words views number v can h at)
 
+-- and is itself still among words and views of the rule
 pub left_among : (v : SeatView) → CanSplit v → Among (one_more_made v)
 left_among v can = subst Among (left_of_process v can.of_process)
     (left_is_among Holds v (left v) (right v) (λ number. splits number v can) can.among)
 
+-- and so is the new seat
 pub right_among : (v : SeatView) → CanSplit v → Among (seat_of_process v.sizes v.made 0)
 right_among v can = subst Among (right_of_process v can.of_process)
     (right_is_among Holds v (left v) (right v) (λ number. splits number v can) can.among)
@@ -71,6 +76,7 @@ join_holds words views place other v w can h at ne still =
       numbered = join_keeps_numbered h.sizes h.minds views place other v w h.numbered at can.of_process ne there can.other can.bare;
     }
 
+-- a seat that may take in another one does so within the rule
 pub joins : (number other : ℕ) (v w : SeatView) → CanJoin v w → Joins Holds number v other w (both v w) spent
 joins number other v w can = subst (λ is. Joins Holds number v other w (both_by is v w) spent) (sym can.other)
     (λ words views h at ne still. join_holds words views number other v w can h at ne still)
@@ -79,6 +85,7 @@ joins number other v w can = subst (λ is. Joins Holds number v other w (both_by
 pub look_keeps : (number place : ℕ) (v : SeatView) → Keeps Holds number v place unchanged (λ _ _ u. looked u)
 look_keeps number place v words views h at small = rw (set-get_or words place 0) (rw (set_again views number v at) h)
 
+-- a load after a join tells the seat nothing new: it has both seats' minds, and is among words and views of the rule
 pub joined : (number met : ℕ) (v w after : SeatView) → CanJoin v w
     → Learned Holds (λ _ _ u. looked u) number 0 unchanged (both v w) met after
     → Joined v w after

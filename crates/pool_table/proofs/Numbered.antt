@@ -15,9 +15,11 @@ use Rattle.pool_table.specs.Rule.{Minds, EachMind, EachSeat, one_if, count_in, c
 abbrev pub moved : ℕ → Mind → Minds → Minds
 moved i mind minds = λ o. if o == i then mind else minds o
 
+-- that of process i is the new one
 pub moved_here : (i : ℕ) (mind : Mind) (minds : Minds) → moved i mind minds i ≡ mind
 moved_here i mind minds = rw (eq-eqb i i refl) refl
 
+-- that of any other process is as it was
 pub moved_elsewhere : (i o : ℕ) (mind : Mind) (minds : Minds) → o ≢ i → moved i mind minds o ≡ minds o
 moved_elsewhere i o mind minds ne = rw (ne_eqb o i ne) refl
 
@@ -25,9 +27,11 @@ moved_elsewhere i o mind minds ne = rw (ne_eqb o i ne) refl
 pub counts_for : (a b : ℕ) → a ≡ b → one_if (a == b) ≡ 1
 counts_for a b e = grind (arith, nat_tests)
 
+-- the mind of another process doesn't count
 pub counts_not : (a b : ℕ) → a ≢ b → one_if (a == b) ≡ 0
 counts_not a b ne = grind (arith, nat_tests)
 
+-- and one that doesn't count is of another process
 pub not_counted : (a b : ℕ) → one_if (a == b) ≡ 0 → a ≢ b
 not_counted a b e = λ same. grind (arith, nat_tests)
 
@@ -35,6 +39,7 @@ not_counted a b e = λ same. grind (arith, nat_tests)
 pub own_mind_first : (v : SeatView) → v.of_process ≡ true → minds_of v ≡ v.mind ∷ v.taken
 own_mind_first v e = rw e refl
 
+-- the mind of a process's seat counts once for its process, besides those that it took in
 pub count_of_own : (n : ℕ) (v : SeatView) → v.of_process ≡ true → number_of v.mind ≡ n → count_in n (minds_of v) ≡ 1 + count_in n v.taken
 count_of_own n v e is =
     ap (count_in n) (own_mind_first v e) ∙ ap (λ one. one + count_in n v.taken) (counts_for (number_of v.mind) n is)
@@ -68,6 +73,7 @@ minds_are_seated sizes minds views place v numbered at e =
     let Fact = IsSeated numbered.seats minds in
     subst (EachMind Fact) (own_mind_first v e) (each_at Fact place views v at numbered.each)
 
+-- the own mind of a process's seat is that of the process with its number, whose seat was made
 pub own_mind_is_seated : (sizes : Sizes) (minds : Minds) (views : List SeatView) (place : ℕ) (v : SeatView)
     → (numbered : Numbered sizes minds views) → get_elem? views place ≡ some v → v.of_process ≡ true
     → IsSeated numbered.seats minds v.mind

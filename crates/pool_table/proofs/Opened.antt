@@ -45,9 +45,11 @@ module _ (sizes : Sizes) (words : List ℕ) (shape : IsShape sizes) (opening : A
     };
   }
 
+  -- the rule holds of the opening words and the first seat alone
   pub first_holds : Holds words (first_seat sizes ∷ [])
   first_holds = record { sizes = sizes; minds = opening_mind sizes; history = []; holds = minds_open; numbered = first_numbered }
 
+-- so the first seat is among words and views of the rule
 pub first_among : (sizes : Sizes) (words : List ℕ) (v : SeatView) → IsShape sizes → AreOpening sizes words → v ≡ first_seat sizes → Among v
 first_among sizes words v shape opening e =
     subst Among (sym e) (first_is_among Holds words (first_seat sizes) (first_holds sizes words shape opening))

@@ -13,11 +13,13 @@ use Rattle.pool_table.specs.Turns.{turning, turned}
 use Rattle.pool_table.specs.Steps.{CanStep, answered, Stepped}
 use Rattle.pool_table.proofs.Steps.{action_keeps, action_tells}
 
+-- a seat's next step keeps the rule, made at the place that was worked out for the word it names
 pub keeps_at : (sizes : Sizes) (a : About) (number at : ℕ) (v : SeatView) (action : Action) → at ≡ place sizes (name_of action)
     → CanStep sizes a v → action ≡ next_action sizes (turning a v.mind.view) → Keeps Holds number v at (left_by action) (turned a)
 keeps_at sizes a number at v action placed can is =
     subst (λ n. Keeps Holds number v n (left_by action) (turned a)) (sym placed) (action_keeps sizes a number v action can is)
 
+-- and tells the seat that it was made, with the word that it met there
 pub tells_at : (sizes : Sizes) (a : About) (number at : ℕ) (v x : SeatView) (action : Action) (met : ℕ)
     → at ≡ place sizes (name_of action) → CanStep sizes a v → action ≡ next_action sizes (turning a v.mind.view)
     → Learned Holds (turned a) number at (left_by action) v met x → Stepped a v (answered action met) x

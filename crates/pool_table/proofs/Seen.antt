@@ -24,9 +24,11 @@ longer_begins_by : (a b history : List Entry) (t : Bool) → Begins a history �
 longer_begins_by a b history true first second = second
 longer_begins_by a b history false first second = first
 
+-- the longer of two beginnings of a history is a beginning of it
 pub longer_begins : (a b history : List Entry) → Begins a history → Begins b history → Begins (longer a b) history
 longer_begins a b history first second = longer_begins_by a b history (nat_lt (length a) (length b)) first second
 
+-- and no shorter than either
 pub longer_reaches : (a b : List Entry) → (length a ≤ length (longer a b)) × (length b ≤ length (longer a b))
 longer_reaches a b = by (nat_lt (length a) (length b)) refl
   where
@@ -50,6 +52,7 @@ longest_in_reaches seats n minds (mind ∷ list) each has = elim (cases_eq (numb
       omega arith
 ]
 
+-- what a process with a mind in a seat has seen is no longer than the longest that any seat has
 pub longest_reaches : (seats n : ℕ) (minds : Minds) (views : List SeatView) → EachSeat (IsSeated seats minds) views
     → 1 ≤ count_seated n views → length (minds n).seen ≤ length (longest views)
 longest_reaches seats n minds [] each has = absurd (omega arith)

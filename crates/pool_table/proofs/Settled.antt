@@ -26,12 +26,14 @@ among_seated v among e =
     let h = among.held in
     minds_are_seated h.sizes h.minds among.views among.number v h.numbered among.seated e
 
+-- each mind of a process's seat has its entries in the one history, and what it has seen begins that
 pub among_fits : (v : SeatView) (among : Among v) → v.of_process ≡ true → EachMind (FitsIn among.held.history) (v.mind ∷ v.taken)
 among_fits v among e =
     let h = among.held in
     each_mind_becomes (IsSeated h.numbered.seats h.minds) (FitsIn h.history)
     (fits_in h.sizes among.words h.minds h.history h.numbered.seats h.numbered.few h.holds) (v.mind ∷ v.taken) (among_seated v among e)
 
+-- one legal history fits the own mind of a process's seat and all minds that it took in
 pub settles : SeatsSettle
 settles v among e =
     let h = among.held in

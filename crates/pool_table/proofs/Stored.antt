@@ -143,6 +143,7 @@ same_met_by sizes v false name stored a b calls e =
       };
     }
 
+-- a store makes the same of its process and its entries, whatever word it replaces
 pub stores_meet_any : (sizes : Sizes) (v : ProcessView) (name : WordName) (stored a b : ℕ) → next_action sizes v ≡ Store name stored
     → SameMet sizes v a b
 stores_meet_any sizes v name stored a b e = same_met_by sizes v (is_alone v.calls.way) name stored a b refl e

@@ -92,6 +92,7 @@ due_on sizes a v words views place c h at =
       here = begun_here (number_of v.mind) w h.minds;
     }
 
+-- a seat that can make a step has one that is due, in the words and views that it is among
 pub due_there : (sizes : Sizes) (a : About) (v : SeatView) (c : CanStep sizes a v) → DueOn v.sizes c.among.words (turning a v.mind.view)
 due_there sizes a v c = due_on sizes a v c.among.words c.among.views c.among.number c c.among.held c.among.seated
 
@@ -105,6 +106,7 @@ step_due : (sizes : Sizes) (a : About) (v : SeatView) (c : CanStep sizes a v)
     → StepAllowed v.sizes (word_at v.sizes c.among.words) (turning a v.mind.view)
 step_due sizes a v c = due_allowed v.sizes c.among.words (turning a v.mind.view) (due_there sizes a v c)
 
+-- the next step of the transfer that a seat's step is about can be made
 pub transfer_can_act : (sizes : Sizes) (a : About) (v : SeatView) (t : TransferView) → CanStep sizes a v → Agrees a v t → CanAct sizes t
 transfer_can_act sizes a v t c agrees =
     let w = turning a v.mind.view in
@@ -118,6 +120,7 @@ going : (sizes : Sizes) (words : WordName → ℕ) (w : ProcessView) (alone : Bo
 going sizes words w true e moves allowed = allowed.busy e
 going sizes words w false e moves allowed = (subst (CanActCallAt sizes w) (in_moving_call w e moves) (allowed.call_act e)).go.busy
 
+-- such a transfer isn't at rest
 pub transfer_is_going : (sizes : Sizes) (a : About) (v : SeatView) (t : TransferView) → CanStep sizes a v → Agrees a v t → t.next ≢ Rest
 transfer_is_going sizes a v t c agrees =
     let w = turning a v.mind.view in
@@ -125,12 +128,14 @@ transfer_is_going sizes a v t c agrees =
     let goes = going v.sizes words w (is_alone w.calls.way) refl agrees.moves (step_due sizes a v c) in
     subst (λ (u : TransferView). u.next ≢ Rest) agrees.same goes
 
+-- its action is the process's next one
 pub transfer_acts_next : (sizes : Sizes) (a : About) (v : SeatView) (t : TransferView) (action : Action) → Agrees a v t
     → action ≡ action_of sizes t → action ≡ next_action sizes (turning a v.mind.view)
 transfer_acts_next sizes a v t action agrees e =
     let w = turning a v.mind.view in
     e ∙ (ap (action_of sizes) (sym agrees.same) ∙ sym (acts sizes w (is_alone w.calls.way) refl agrees.moves))
 
+-- it may meet the word that the step met
 pub transfer_can_meet : (sizes : Sizes) (a : About) (v x : SeatView) (t : TransferView) (word : ℕ) → CanStep sizes a v → Agrees a v t
     → Stepped a v word x → CanMeet sizes t word
 transfer_can_meet sizes a v x t word c agrees s =
@@ -138,6 +143,7 @@ transfer_can_meet sizes a v x t word c agrees s =
     let met = meets v.sizes w word (is_alone w.calls.way) refl agrees.moves s.can_meet in
     subst (λ z. CanMeet z t word) c.shape (subst (λ u. CanMeet v.sizes u word) agrees.same met)
 
+-- after the step the process has the transfer that the machine makes of that word
 pub transfer_steps : (sizes : Sizes) (a : About) (v x : SeatView) (t u : TransferView) (word : ℕ) → CanStep sizes a v → Agrees a v t
     → Stepped a v word x → u ≡ met_of sizes t word → x.mind.view.transfer ≡ u
 transfer_steps sizes a v x t u word c agrees s e =
@@ -186,15 +192,18 @@ stays_alone sizes w word e = rw e e
 may_use_alone : (way : Way) → is_alone way ≡ true → may_use_transfers way ≡ true
 may_use_alone way e = grind arith
 
-goes_alone : (sizes : Sizes) (wish : Wish) (x : ProcessView) → is_alone x.calls.way ≡ true → is_rest x.transfer.next ≡ false → may_go_alone sizes wish x ≡ true
+goes_alone : (sizes : Sizes) (wish : Wish) (x : ProcessView) → is_alone x.calls.way ≡ true → is_rest x.transfer.next ≡ false
+    → may_go_alone sizes wish x ≡ true
 goes_alone sizes wish x e rest = let may = may_use_alone x.calls.way e in rw (may, rest) refl
 
+-- a process in the middle of a transfer begins none
 pub turns_same : (wish : Wish) (x : ProcessView) → is_rest x.transfer.next ≡ false → moving_view wish x ≡ x
 turns_same wish x rest = rw rest refl
 
 moves_its_transfer : (x : ProcessView) → is_alone x.calls.way ≡ true → moves_transfer x ≡ true
 moves_its_transfer x e = rw e refl
 
+-- while a transfer alone hasn't ended, its seat can make its next step, whatever wish that names
 pub goes_on_alone : (sizes : Sizes) (wish next : Wish) (v x : SeatView) (t u : TransferView) (word : ℕ)
     → CanStep sizes (about.Alone wish) v → Agrees (about.Alone wish) v t → Stepped (about.Alone wish) v word x
     → u ≡ met_of sizes t word → is_rest u.next ≡ false → CanStep sizes (about.Alone next) x × Agrees (about.Alone next) x u

@@ -58,6 +58,7 @@ module _ (sizes : Sizes) (words : List ℕ) (minds : Minds) (history : List Entr
       let theirs = other_data_after sizes words begun history i o (known_in (minds o).known) due lo ne (holds.data_words o lo) in
       rw here at theirs)
 
+  -- after the step the words and the minds of all processes meet the invariant, with the history that it leaves
   pub minds_stepped : MindsHold sizes (words_after sizes words v) (moved i (mind_stepped sizes words views v (minds i)) minds)
       (history_after sizes words v history)
   minds_stepped =
@@ -93,6 +94,7 @@ pub record IsSeat (sizes : Sizes) (words : List ℕ) (minds : Minds) (history : 
     pub here : minds (number_of v.mind) ≡ v.mind
     pub low : number_of v.mind < sizes.processes
 
+-- a process's seat under the rule has the mind of the process with its number, and the rule's shape
 pub seat_of : (words : List ℕ) (views : List SeatView) (place : ℕ) (v : SeatView) (h : Holds words views)
     → get_elem? views place ≡ some v → v.of_process ≡ true → IsSeat v.sizes words h.minds h.history views v
 seat_of words views place v h at e =

@@ -37,6 +37,7 @@ number_of mind = mind.view.transfer.number
 abbrev pub entries_in : Mind → List Entry
 entries_in mind = own mind.seen (number_of mind)
 
+-- the blocks that its process holds by its entries
 abbrev pub held_in : Mind → List ℕ
 held_in mind = grip (entries_in mind)
 

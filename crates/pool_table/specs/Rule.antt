@@ -43,6 +43,7 @@ abbrev pub EachMind : (Mind → Type 0) → List Mind → Type 0
 EachMind Fact [] = Unit {0}
 EachMind Fact (mind ∷ more) = Fact mind × EachMind Fact more
 
+-- each mind that a seat has, its own or one that it took in, meets the fact
 abbrev pub EachSeat : (Mind → Type 0) → List SeatView → Type 0
 EachSeat Fact [] = Unit {0}
 EachSeat Fact (v ∷ more) = EachMind Fact (minds_of v) × EachSeat Fact more
@@ -51,10 +52,12 @@ EachSeat Fact (v ∷ more) = EachMind Fact (minds_of v) × EachSeat Fact more
 abbrev pub one_if : Bool → ℕ
 one_if is = if is then 1 else 0
 
+-- so many minds of a list are those of process n
 abbrev pub count_in : ℕ → List Mind → ℕ
 count_in n [] = 0
 count_in n (mind ∷ more) = one_if (number_of mind == n) + count_in n more
 
+-- and so many of all minds that seats have
 abbrev pub count_seated : ℕ → List SeatView → ℕ
 count_seated n [] = 0
 count_seated n (v ∷ more) = count_in n (minds_of v) + count_seated n more

@@ -12,6 +12,7 @@ pub record SeatView : Type 0 where
   pub made : ℕ
   pub taken : List Mind
 
+-- the sizes in a view that says nothing
 abbrev pub no_sizes : Sizes
 no_sizes = record { processes = 0; batches = 0; words = 0; quantum = 0; length = 0 }
 
@@ -42,6 +43,7 @@ abbrev pub left_by : Bool → SeatView → SeatView
 left_by true v = one_more_made v
 left_by false v = v
 
+-- a process's seat counts it, any other stays as it was
 abbrev pub left : SeatView → SeatView
 left v = left_by v.of_process v
 
@@ -50,6 +52,7 @@ abbrev pub right_by : Bool → SeatView → SeatView
 right_by true v = seat_of_process v.sizes v.made 0
 right_by false v = spent
 
+-- a seat that isn't a process's makes one that knows nothing
 abbrev pub right : SeatView → SeatView
 right v = right_by v.of_process v
 
@@ -66,6 +69,7 @@ abbrev pub both_by : Bool → SeatView → SeatView → SeatView
 both_by true v w = takes_in w.mind v
 both_by false v w = v
 
+-- it gets the mind of a process's seat, and nothing of any other
 abbrev pub both : SeatView → SeatView → SeatView
 both v w = both_by w.of_process v w
 
@@ -78,6 +82,7 @@ abbrev pub minds_by : Bool → Mind → List Mind → List Mind
 minds_by true mind taken = mind ∷ taken
 minds_by false mind taken = taken
 
+-- the minds of a seat, by whether it is a process's
 abbrev pub minds_of : SeatView → List Mind
 minds_of v = minds_by v.of_process v.mind v.taken
 
@@ -86,6 +91,7 @@ abbrev pub longest_in : List Mind → List Entry
 longest_in [] = []
 longest_in (mind ∷ more) = longer mind.seen (longest_in more)
 
+-- the longest list that a mind of any of these seats has seen
 abbrev pub longest : List SeatView → List Entry
 longest [] = []
 longest (v ∷ more) = longer (longest_in (minds_of v)) (longest more)

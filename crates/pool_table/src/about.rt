@@ -1,3 +1,5 @@
+//! What a step belongs to, a transfer alone or a call.
+
 use pool_machine::Call;
 use word_layout::Wish;
 

@@ -1,3 +1,5 @@
+//! What seats know, as a type whose values are in proofs alone.
+
 use std::marker::Model;
 
 /// What a seat knows. It exists in proofs alone: no value of it is ever made.

@@ -1,3 +1,5 @@
+//! The rule of a pool's table: the machine's invariant, how a seat learns by its step, and how seats are made and joined.
+
 use crate::about::About;
 use crate::facts::SeatFacts;
 use word_layout::Shape;

@@ -1,5 +1,6 @@
 -- The calls of a process for a script determine which of its puts of absent keys were refused.
-use Rattle.std.proofs.Common.{◌≡◌, ℕ, ◌+◌, ◌<◌, ◌≤◌, inl, inr, Bool, true, false, cond, Option, Some, None, List, [], ◌∷◌, ◌++◌, length, fold, refl, sym, ap, ◌∙◌, subst, arith}
+use Rattle.std.proofs.Common.{◌≡◌, ℕ, ◌+◌, ◌<◌, ◌≤◌, inl, inr, Bool, true, false, cond, Option, Some, None}
+use Rattle.std.proofs.Common.{List, [], ◌∷◌, ◌++◌, length, fold, refl, sym, ap, ◌∙◌, subst, arith}
 use Rattle.std.specs.List.{slice_index}
 use Rattle.std.proofs.lemmas.Bool.{cases_lt}
 use Rattle.std.proofs.lemmas.List.{get_or_default, same_lists}
@@ -10,7 +11,8 @@ use Rattle.store_script.specs.declared.command.Command.{Command}
 use Rattle.store_script.specs.declared.command.Command.TheVariants.{Put, Get, Set, Del}
 use Rattle.store_script.specs.declared.command.StoreScript.{StoreScript}
 use Rattle.store_script.specs.Fit.{Fits, calls_from, calls_of, calls_of_del, calls_of_put}
-use Rattle.store_script.specs.Replies.{Kept, Walk, after, after_del, after_get, after_put, after_set, begun, is_refused, kept, with_full, with_put}
+use Rattle.store_script.specs.Replies.{Kept, Walk, after, after_del, after_get, after_put}
+use Rattle.store_script.specs.Replies.{after_set, begun, is_refused, kept, with_full, with_put}
 
 -- the puts with these numbers are refused alike
 abbrev AreAlike : List Bool → List Bool → ℕ → ℕ → Type 0
@@ -23,7 +25,8 @@ same_answer i b c true false e = absurd cc
 same_answer i b c false true e = absurd cc
 same_answer i b c false false e = refl
 
-one_put_more : (walk : Walk) (key : ℕ) (value : Quad) (dry : Bool) → (cond dry (with_full walk) (with_put walk key value)).puts ≡ walk.puts + 1
+one_put_more : (walk : Walk) (key : ℕ) (value : Quad) (dry : Bool)
+    → (cond dry (with_full walk) (with_put walk key value)).puts ≡ walk.puts + 1
 one_put_more walk key value true = refl
 one_put_more walk key value false = refl
 
@@ -39,7 +42,9 @@ module _ (i : ℕ) (one other : List Bool) (blocks others : List ℕ) where
   put_tells walk key value None xs ys same =
       let answers : cond (is_refused one walk.puts) (Dry i) (Got i (slice_index blocks walk.puts))
       ≡ cond (is_refused other walk.puts) (Dry i) (Got i (slice_index others walk.puts)) = cc in
-      let here = same_answer i (slice_index blocks walk.puts) (slice_index others walk.puts) (is_refused one walk.puts) (is_refused other walk.puts) answers in (
+      let here =
+      same_answer i (slice_index blocks walk.puts) (slice_index others walk.puts) (is_refused one walk.puts)
+      (is_refused other walk.puts) answers in (
         cc,
         ap (λ dry. cond dry (with_full walk) (with_put walk key value)) here,
         λ put low high.
@@ -47,7 +52,8 @@ module _ (i : ℕ) (one other : List Bool) (blocks others : List ℕ) where
             subst (λ (n : ℕ). is_refused one n ≡ is_refused other n) it here,
       )
 
-  del_tells : (before : Option Kept) (xs ys : List Entry) → calls_of_del i blocks before ++ xs ≡ calls_of_del i others before ++ ys → xs ≡ ys
+  del_tells : (before : Option Kept) (xs ys : List Entry) → calls_of_del i blocks before ++ xs ≡ calls_of_del i others before ++ ys
+      → xs ≡ ys
   del_tells None xs ys same = same
   del_tells (Some before) xs ys same = cc
 
@@ -68,7 +74,8 @@ module _ (i : ℕ) (one other : List Bool) (blocks others : List ℕ) where
       → calls_of i one blocks walk command ++ xs ≡ calls_of i other others walk command ++ ys
       → SameAfter walk (after one walk command) (after other walk command) xs ys
   command_tells walk (Put key slot value) xs ys same = put_tells walk key value (kept walk key) xs ys same
-  command_tells walk (Get key slot) xs ys same = (same, refl, λ put low high. absurd (omega (arith, low, high, got_still (kept walk key) walk key)))
+  command_tells walk (Get key slot) xs ys same =
+      (same, refl, λ put low high. absurd (omega (arith, low, high, got_still (kept walk key) walk key)))
   command_tells walk (Set key slot index number) xs ys same =
       (same, refl, λ put low high. absurd (omega (arith, low, high, set_still (kept walk key) walk key index number)))
   command_tells walk (Del key slot) xs ys same =
@@ -76,16 +83,22 @@ module _ (i : ℕ) (one other : List Bool) (blocks others : List ℕ) where
 
   -- the same calls for commands are of the same refusals
   calls_tell : (walk : Walk) (commands : List Command) → calls_from i one blocks walk commands ≡ calls_from i other others walk commands
-      → (fold (after one) walk commands ≡ fold (after other) walk commands) × AreAlike one other walk.puts (fold (after one) walk commands).puts
+      → (fold (after one) walk commands ≡ fold (after other) walk commands)
+      × AreAlike one other walk.puts (fold (after one) walk commands).puts
   calls_tell walk [] same = (refl, λ put low high. absurd (omega arith))
   calls_tell walk (command ∷ commands) same =
       let first = command_tells walk command (calls_from i one blocks (after one walk command) commands)
       (calls_from i other others (after other walk command) commands) same in
       let rest = calls_tell (after one walk command) commands (first.0 ∙ ap (λ w. calls_from i other others w commands) (sym first.1)) in (
         rest.0 ∙ ap (λ w. fold (after other) w commands) first.1,
-        λ put low high. elim (cases_lt put (after one walk command).puts) [ inl less ↦ first.2 put low less | inr more ↦ rest.1 put more high ],
+        λ put low high. elim (cases_lt put (after one walk command).puts) [
+          | inl less ↦ first.2 put low less
+          | inr more ↦
+              rest.1 put more high
+        ],
       )
 
+-- calls that fit a script with two lists of refusals fit it with the same list
 pub only_refusals : (i : ℕ) (script : StoreScript) (one other : List Bool) (entries : List Entry) → Fits i script one entries
     → Fits i script other entries → one ≡ other
 only_refusals i script one other entries fits also =

@@ -30,6 +30,7 @@ kept_some : (o : Option Kept) (value : Quad) → Some value ≡ option_map (λ k
 kept_some None value is = cc
 kept_some (Some k) value is = (k, refl, cc)
 
+-- the test of two numbers is the same either way round
 pub eqb-sym : (x y : ℕ) → eqb x y ≡ eqb y x
 eqb-sym x y = grind (arith, nat_tests)
 

@@ -162,6 +162,7 @@ words_by_means line Skipped means = means
 words_by_means line (Says request) means = means
 words_by_means line Bad means = means
 
+-- a line means exactly what is computed as its meaning
 pub each_line_means_one_thing : (line : List ℕ) (meaning : Meaning Request)
     → (Means line meaning → meaning_of line ≡ meaning) × (meaning_of line ≡ meaning → Means line meaning)
 each_line_means_one_thing line meaning = (

@@ -65,11 +65,13 @@ module _ (bytes rest : List ℕ) (number : ℕ) (before now : ScriptWriter) (rea
       sym read.good ∙ ap (first_bad number) is ∙ first_bad-bad number meaning others stops.1 ∙ ap Some (sym stops.0)
   stops_at others meaning NoMemory is stops = tt
 
+  -- a reading that stops at a line with its end answers with that line's fault
   pub stops_at_line : (line after : List ℕ) (fault : TextFault) → HasNoEnd line → rest ≡ line ++ 10 ∷ after
       → StopsAt number (meaning_of line) fault → AnswersTo bytes (Err fault)
   stops_at_line line after fault open_end is stops =
       stops_at (meanings after) (meaning_of line) fault (meanings_at_end rest line after open_end is) stops
 
+  -- and so does one that stops at the last piece
   pub stops_at_last : (fault : TextFault) → HasNoEnd rest → StopsAt number (meaning_of rest) fault → AnswersTo bytes (Err fault)
   stops_at_last fault open_end stops = stops_at [] (meaning_of rest) fault (meanings_of_last rest open_end) stops
 
@@ -138,6 +140,7 @@ few_commands bytes script is =
       bytes_in-pieces bytes,
     )
 
+-- a reading that answers with a script has at most as many commands as bytes
 pub few_answered : (bytes : List ℕ) (result : Result StoreScript TextFault) → AnswersTo bytes result
     → IfOk result (λ script. length script.commands ≤ script.bytes)
 few_answered bytes (Ok script) answer = few_commands bytes script answer

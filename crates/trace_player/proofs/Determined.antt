@@ -1,5 +1,6 @@
 -- The calls of a process for a script determine which slots were refused.
-use Rattle.std.proofs.Common.{◌≡◌, ℕ, ◌+◌, ◌<◌, suc, Bool, true, false, cond, List, [], ◌∷◌, ◌++◌, length, get_or, refl, sym, ap, ◌∙◌, subst, ⊎_elim, arith, append_assoc, length-append, append-nil, Some}
+use Rattle.std.proofs.Common.{◌≡◌, ℕ, ◌+◌, ◌<◌, suc, Bool, true, false, cond, List, [], ◌∷◌, ◌++◌, length, get_or, refl}
+use Rattle.std.proofs.Common.{sym, ap, ◌∙◌, subst, ⊎_elim, arith, append_assoc, length-append, append-nil, Some}
 use Rattle.std.specs.Bool.{⊤}
 use Rattle.std.specs.List.{Contains, flat_map, slice_get, slice_index, range_with_len}
 use Rattle.std.proofs.lemmas.Bool.{cases_eq}
@@ -22,11 +23,14 @@ InOrder m [] = ⊤
 InOrder m (Place slot ∷ steps) = (slot ≡ m) × InOrder (m + 1) steps
 InOrder m (Leave slot ∷ steps) = (slot < m) × InOrder m steps
 
+-- the step between two lists stands at the length of the first
 pub slice_get_seam : (before rest : List Step) (step : Step) → slice_get (before ++ step ∷ rest) (length before) ≡ Some step
 slice_get_seam [] rest step = refl
 slice_get_seam (first ∷ before) rest step = slice_get_seam before rest step
 
-in_order_from : (before steps : List Step) (news : ℕ) → placed_slots (before ++ steps) ≡ range_with_len 0 news → LeavesPlaced (before ++ steps) → InOrder (length (placed_slots before)) steps
+in_order_from : (before steps : List Step) (news : ℕ) → placed_slots (before ++ steps) ≡ range_with_len 0 news
+    → LeavesPlaced (before ++ steps)
+    → InOrder (length (placed_slots before)) steps
 unfolding InOrder
 in_order_from before [] news in_order leaves = tt
 in_order_from before (Place slot ∷ steps) news in_order leaves =
@@ -34,15 +38,18 @@ in_order_from before (Place slot ∷ steps) news in_order leaves =
     let longer : length (placed_slots (before ++ Place slot ∷ [])) ≡ length (placed_slots before) + 1 =
     omega (arith, ap length (placed_slots-append before (Place slot ∷ [])), length-append (placed_slots before) (slot ∷ [])) in (
       place_at_seam before steps slot news in_order,
-      subst (λ (n : ℕ). InOrder n steps) longer (in_order_from (before ++ Place slot ∷ []) steps news (ap placed_slots same ∙ in_order) (subst LeavesPlaced (sym same) leaves)),
+      subst (λ (n : ℕ). InOrder n steps) longer (in_order_from (before ++ Place slot ∷ []) steps news (ap placed_slots same ∙ in_order)
+          (subst LeavesPlaced (sym same) leaves)),
     )
 in_order_from before (Leave slot ∷ steps) news in_order leaves =
     let same : (before ++ Leave slot ∷ []) ++ steps ≡ before ++ Leave slot ∷ steps = append_assoc before (Leave slot ∷ []) steps in
-    let as_long : length (placed_slots (before ++ Leave slot ∷ [])) ≡ length (placed_slots before) = ap length (placed_slots-append before (Leave slot ∷ []) ∙ append-nil (placed_slots before)) in
+    let as_long : length (placed_slots (before ++ Leave slot ∷ [])) ≡ length (placed_slots before) =
+    ap length (placed_slots-append before (Leave slot ∷ []) ∙ append-nil (placed_slots before)) in
     let placed = (leaves (length before) slot (slice_get_seam before steps (Leave slot))).0 in
     let P : List Step → Type 0 = λ xs. Contains xs (Place slot) in (
       placed_before before (Leave slot ∷ steps) slot news in_order (subst P (take-append_seam before (Leave slot ∷ steps)) placed),
-      subst (λ (n : ℕ). InOrder n steps) as_long (in_order_from (before ++ Leave slot ∷ []) steps news (ap placed_slots same ∙ in_order) (subst LeavesPlaced (sym same) leaves)),
+      subst (λ (n : ℕ). InOrder n steps) as_long (in_order_from (before ++ Leave slot ∷ []) steps news (ap placed_slots same ∙ in_order)
+          (subst LeavesPlaced (sym same) leaves)),
     )
 
 -- the answer to an allocate tells whether it was refused
@@ -68,11 +75,15 @@ agree_on : (i : ℕ) (steps : List Step) (m : ℕ) (refused other : List Bool) (
 unfolding InOrder
 agree_on i [] m refused other blocks others order so_far same s low = so_far s (omega arith)
 agree_on i (Place slot ∷ steps) m refused other blocks others order so_far same s low =
-    let answers : cond (is_refused refused slot) (Dry i) (Got i (slice_index blocks slot)) ≡ cond (is_refused other slot) (Dry i) (Got i (slice_index others slot)) = cc in
-    let here = same_answer i (slice_index blocks slot) (slice_index others slot) (is_refused refused slot) (is_refused other slot) answers in
+    let answers : cond (is_refused refused slot) (Dry i) (Got i (slice_index blocks slot)) ≡ cond (is_refused other slot) (Dry i)
+    (Got i (slice_index others slot)) =
+    cc in
+    let here =
+    same_answer i (slice_index blocks slot) (slice_index others slot) (is_refused refused slot) (is_refused other slot) answers in
     let rest : flat_map (calls_of i refused blocks) steps ≡ flat_map (calls_of i other others) steps = cc in
     agree_on i steps (m + 1) refused other blocks others order.1
-    (one_more (λ k. is_refused other k ≡ is_refused refused k) m so_far (subst (λ (k : ℕ). is_refused other k ≡ is_refused refused k) order.0 here))
+    (one_more (λ k. is_refused other k ≡ is_refused refused k) m so_far
+    (subst (λ (k : ℕ). is_refused other k ≡ is_refused refused k) order.0 here))
     rest s (omega arith)
 agree_on i (Leave slot ∷ steps) m refused other blocks others order so_far same s low =
     agree_on i steps m refused other blocks others order.1 so_far
@@ -89,9 +100,14 @@ same_list (x ∷ xs) (y ∷ ys) size same =
     let rest = same_list xs ys (omega arith) (λ k low. same (suc k) (omega arith)) in
     cc
 
-pub only_refusals : (i : ℕ) (script : Script) (refused other : List Bool) (entries : List Entry) → IsWellFormed script → Fits i script refused entries → Fits i script other entries → other ≡ refused
+-- the entries that fit a well formed script fit it with one list of refusals alone
+pub only_refusals : (i : ℕ) (script : Script) (refused other : List Bool) (entries : List Entry) → IsWellFormed script
+    → Fits i script refused entries → Fits i script other entries
+    → other ≡ refused
 only_refusals i script refused other entries formed fits also =
     let order = in_order_from [] script.steps script.news formed.in_order formed.leaves in
-    let all = agree_on i script.steps 0 refused other fits.blocks also.blocks order (λ s low. absurd (omega arith)) (sym fits.step_by_step ∙ also.step_by_step) in
+    let all =
+    agree_on i script.steps 0 refused other fits.blocks also.blocks order (λ s low. absurd (omega arith))
+    (sym fits.step_by_step ∙ also.step_by_step) in
     same_list other refused (also.one_each ∙ sym fits.one_each)
     (λ k low. all k (omega (arith, low, also.one_each, ap length formed.in_order, length-range_with_len 0 script.news)))

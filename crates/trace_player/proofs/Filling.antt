@@ -1,5 +1,6 @@
 -- What the slots of a script hold, one step on.
-use Rattle.std.proofs.Common.{◌≡◌, ◌≢◌, ℕ, ◌+◌, ◌<◌, ◌≤◌, ◌⊎◌, zero, suc, Bool, true, false, cond, Option, Some, None, is_some, List, [], ◌∷◌, ◌++◌, length, set, replicate, refl, sym, ap, ◌∙◌, subst, ⊎_elim, inl, inr, arith, length-append}
+use Rattle.std.proofs.Common.{◌≡◌, ◌≢◌, ℕ, ◌+◌, ◌<◌, ◌≤◌, ◌⊎◌, zero, suc, Bool, true, false, cond, Option, Some, None, is_some, List, []}
+use Rattle.std.proofs.Common.{◌∷◌, ◌++◌, length, set, replicate, refl, sym, ap, ◌∙◌, subst, ⊎_elim, inl, inr, arith, length-append}
 use Rattle.std.specs.List.{Contains, count_by}
 use Rattle.std.proofs.lemmas.Bool.{cases_eq}
 use Rattle.std.proofs.lemmas.List.{get_or-set_same, get_or-set_other, get_or_push}
@@ -19,7 +20,8 @@ block_in-replicate (suc n) zero = refl
 block_in-replicate (suc n) (suc slot) = block_in-replicate n slot
 
 -- a slot that was filled keeps its block at a step that does not leave it
-pub filled_on : (refused later : List Bool) (blocks after : List ℕ) (done : List Step) (step : Step) (Held New : ℕ → Type 0) (slot block : ℕ)
+pub filled_on : (refused later : List Bool) (blocks after : List ℕ) (done : List Step) (step : Step) (Held New : ℕ → Type 0)
+    (slot block : ℕ)
     → Keeps refused later blocks after (length refused) → length refused ≤ length later → step ≢ Leave slot → (Held block → New block)
     → IsFilled refused blocks done Held slot block → IsFilled later after (done ++ step ∷ []) New slot block
 filled_on refused later blocks after done step Held New slot block keeps longer_than stays still filled = record {
@@ -39,7 +41,10 @@ filled_now refused blocks done Held slot block next same below holds = record {
   given = get_or_push refused false false slot (sym next);
   block_of = get_or_push blocks block 0 slot (same ∙ sym next);
   not_left = λ left. ⊎_elim
-      (λ (c : Contains done (Leave slot)). absurd (omega (arith, All-contains (λ step. slot_of step < length refused) done (Leave slot) below c)))
+      (λ (c : Contains done (Leave slot)). absurd (omega (
+        arith,
+        All-contains (λ step. slot_of step < length refused) done (Leave slot) below c,
+      )))
       (λ (e : Place slot ≡ Leave slot). absurd cc)
       (Contains-push_cases done (Place slot) (Leave slot) left);
   held = holds;
@@ -67,6 +72,7 @@ pub count_by-set : (slots : List (Option ℕ)) (slot : ℕ) (new : Option ℕ) �
     → count_by is_some (set slots slot new) + cond (is_some (block_in slots slot)) 1 0 ≡ count_by is_some slots + cond (is_some new) 1 0
 count_by-set slots slot new within = sum_by-set (λ o. cond (is_some o) 1 0) slots slot new None within
 
+-- before the first step no slot has a block
 pub holds_none : (Held : ℕ → Type 0) (n : ℕ) → HoldsBlocks [] [] [] Held (replicate n None)
 holds_none Held n = record {
   filled = λ slot block e. absurd (none-some block (sym (block_in-replicate n slot) ∙ e));
@@ -84,8 +90,11 @@ next_is_empty refused blocks done Held slots slot holds next = cases (block_in s
     cases (Some block) e = absurd (omega (arith, next, (holds.filled slot block e).placed))
 
 -- a slot without a block was refused or left, also one step on
-empty_on : (refused later : List Bool) (blocks after : List ℕ) (done : List Step) (step : Step) (slot : ℕ) → Keeps refused later blocks after (length refused) → slot < length refused
-    → (is_refused refused slot ≡ true) ⊎ Contains done (Leave slot) → (is_refused later slot ≡ true) ⊎ Contains (done ++ step ∷ []) (Leave slot)
+empty_on : (refused later : List Bool) (blocks after : List ℕ) (done : List Step) (step : Step) (slot : ℕ)
+    → Keeps refused later blocks after (length refused)
+    → slot < length refused
+    → (is_refused refused slot ≡ true) ⊎ Contains done (Leave slot)
+    → (is_refused later slot ≡ true) ⊎ Contains (done ++ step ∷ []) (Leave slot)
 empty_on refused later blocks after done step slot keeps below was =
     ⊎_elim
     (λ (r : is_refused refused slot ≡ true). inl (keeps.refusals slot below ∙ r))
@@ -95,7 +104,8 @@ empty_on refused later blocks after done step slot keeps below was =
 -- no slot has a block that was just given, and wasn't held
 apart_got : (refused : List Bool) (blocks : List ℕ) (done : List Step) (Held : ℕ → Type 0) (slots : List (Option ℕ)) (slot block : ℕ)
     → slot < length slots → ¬ Held block → HoldsBlocks refused blocks done Held slots
-    → (a b other : ℕ) → block_in (set slots slot (Some block)) a ≡ Some other → block_in (set slots slot (Some block)) b ≡ Some other → a ≡ b
+    → (a b other : ℕ) → block_in (set slots slot (Some block)) a ≡ Some other → block_in (set slots slot (Some block)) b ≡ Some other
+    → a ≡ b
 apart_got refused blocks done Held slots slot block within free holds a b other ea eb =
     ⊎_elim
     (λ (q : (a ≡ slot) × (Some block ≡ Some other)). ⊎_elim
@@ -112,8 +122,10 @@ apart_got refused blocks done Held slots slot block within free holds a b other 
     not_new c e same = free (subst Held (sym same) (holds.filled c other e).held)
 
 -- a block that wasn't held is, and those that were still are
-pub holds_got : (refused : List Bool) (blocks : List ℕ) (done : List Step) (Held New : ℕ → Type 0) (slots : List (Option ℕ)) (slot block : ℕ)
-    → NamesSlots refused blocks done → slot ≡ length refused → slot < length slots → ¬ Held block → New block → ((other : ℕ) → Held other → New other)
+pub holds_got : (refused : List Bool) (blocks : List ℕ) (done : List Step) (Held New : ℕ → Type 0) (slots : List (Option ℕ))
+    (slot block : ℕ)
+    → NamesSlots refused blocks done → slot ≡ length refused → slot < length slots → ¬ Held block → New block
+    → ((other : ℕ) → Held other → New other)
     → HoldsBlocks refused blocks done Held slots
     → HoldsBlocks (refused ++ false ∷ []) (blocks ++ block ∷ []) (done ++ Place slot ∷ []) New (set slots slot (Some block))
 holds_got refused blocks done Held New slots slot block names next within free now still holds =
@@ -127,34 +139,39 @@ holds_got refused blocks done Held New slots slot block names next within free n
           subst (λ (s : ℕ). IsFilled (refused ++ false ∷ []) (blocks ++ block ∷ []) more New s c) (sym q.0)
           (subst (λ (b : ℕ). IsFilled (refused ++ false ∷ []) (blocks ++ block ∷ []) more New slot b) (same_Some block c q.1) new_block))
           (λ (q : (other ≢ slot) × (block_in slots other ≡ Some c)).
-          filled_on refused (refused ++ false ∷ []) blocks (blocks ++ block ∷ []) done (Place slot) Held New other c keeps (omega arith) (λ e. absurd cc)
+          filled_on refused (refused ++ false ∷ []) blocks (blocks ++ block ∷ []) done (Place slot) Held New other c keeps (omega arith)
+          (λ e. absurd cc)
           (still c) (holds.filled other c q.1))
           (after_set slots slot other (Some block) (Some c) within e);
       empty = λ other low e. ⊎_elim
           (λ (q : (other ≡ slot) × (Some block ≡ None)). absurd (none-some block (sym q.1)))
           (λ (q : (other ≢ slot) × (block_in slots other ≡ None)).
           let before : other < length refused = omega (arith, q.0) in
-          empty_on refused (refused ++ false ∷ []) blocks (blocks ++ block ∷ []) done (Place slot) other keeps before (holds.empty other before q.1))
+          empty_on refused (refused ++ false ∷ []) blocks (blocks ++ block ∷ []) done (Place slot) other keeps before
+          (holds.empty other before q.1))
           (after_set slots slot other (Some block) None within e);
       apart = apart_got refused blocks done Held slots slot block within free holds;
     }
 
 -- a Place was refused, and the blocks that were held still are
 pub holds_dry : (refused : List Bool) (blocks : List ℕ) (done : List Step) (Held New : ℕ → Type 0) (slots : List (Option ℕ)) (slot : ℕ)
-    → NamesSlots refused blocks done → slot ≡ length refused → ((other : ℕ) → Held other → New other) → HoldsBlocks refused blocks done Held slots
+    → NamesSlots refused blocks done → slot ≡ length refused → ((other : ℕ) → Held other → New other)
+    → HoldsBlocks refused blocks done Held slots
     → HoldsBlocks (refused ++ true ∷ []) (blocks ++ 0 ∷ []) (done ++ Place slot ∷ []) New slots
 holds_dry refused blocks done Held New slots slot names next still holds =
     let keeps = keeps_more refused blocks true 0 names.block_each in
     let size : length (refused ++ true ∷ []) ≡ length refused + 1 = omega (arith, length-append refused (true ∷ [])) in
     record {
       filled = λ other c e.
-          filled_on refused (refused ++ true ∷ []) blocks (blocks ++ 0 ∷ []) done (Place slot) Held New other c keeps (omega arith) (λ e. absurd cc)
+          filled_on refused (refused ++ true ∷ []) blocks (blocks ++ 0 ∷ []) done (Place slot) Held New other c keeps (omega arith)
+          (λ e. absurd cc)
           (still c) (holds.filled other c e);
       empty = λ other low e. ⊎_elim
           (λ (same : other ≡ slot). inl (get_or_push refused true false other (sym (same ∙ next))))
           (λ (differs : other ≢ slot).
           let before : other < length refused = omega arith in
-          empty_on refused (refused ++ true ∷ []) blocks (blocks ++ 0 ∷ []) done (Place slot) other keeps before (holds.empty other before e))
+          empty_on refused (refused ++ true ∷ []) blocks (blocks ++ 0 ∷ []) done (Place slot) other keeps before
+          (holds.empty other before e))
           (cases_eq other slot);
       apart = holds.apart;
     }
@@ -174,7 +191,8 @@ left_empty refused blocks done Held slots slot within own holds other low e =
     (after_set slots slot other None None within e)
 
 -- a slot gave its block back, and the others that were held still are
-pub holds_back : (refused : List Bool) (blocks : List ℕ) (done : List Step) (Held New : ℕ → Type 0) (slots : List (Option ℕ)) (slot block : ℕ)
+pub holds_back : (refused : List Bool) (blocks : List ℕ) (done : List Step) (Held New : ℕ → Type 0) (slots : List (Option ℕ))
+    (slot block : ℕ)
     → slot < length slots → block_in slots slot ≡ Some block → ((other : ℕ) → ¬ (other ≡ block) → Held other → New other)
     → HoldsBlocks refused blocks done Held slots
     → HoldsBlocks refused blocks (done ++ Leave slot ∷ []) New (set slots slot None)
@@ -199,7 +217,8 @@ holds_passed refused blocks done Held slots slot within dry holds =
     record {
       filled = λ other c e.
           let q = kept_block slots slot other c within e in
-          filled_on refused refused blocks blocks done (Leave slot) Held Held other c keeps (omega arith) (λ e. q.0 (sym (cc e))) (λ held. held) (holds.filled other c q.1);
+          filled_on refused refused blocks blocks done (Leave slot) Held Held other c keeps (omega arith) (λ e. q.0 (sym (cc e)))
+          (λ held. held) (holds.filled other c q.1);
       empty = left_empty refused blocks done Held slots slot within (inl dry) holds;
       apart = λ a b c ea eb. holds.apart a b c (kept_block slots slot a c within ea).1 (kept_block slots slot b c within eb).1;
     }

@@ -16,7 +16,9 @@ use Rattle.trace_player.specs.Playing.{slot_of}
 greatest_more : (f : ℕ → ℕ) (n : ℕ) → greatest (map f (range_with_len 0 (n + 1))) ≡ max (greatest (map f (range_with_len 0 n))) (f n)
 greatest_more f n = ap greatest (map-range_with_len_more f 0 n n (omega arith)) ∙ fold-append max 0 (map f (range_with_len 0 n)) (f n ∷ [])
 
-pub peak_more : (refused : List Bool) (steps : List Step) (step : Step) → peak_of refused (steps ++ step ∷ []) ≡ max (peak_of refused steps) (holding refused (steps ++ step ∷ []))
+-- the peak with one step more is the greater of the peak before and of what is held after it
+pub peak_more : (refused : List Bool) (steps : List Step) (step : Step)
+    → peak_of refused (steps ++ step ∷ []) ≡ max (peak_of refused steps) (holding refused (steps ++ step ∷ []))
 peak_more refused steps step =
     let all = steps ++ step ∷ [] in
     let long : length all ≡ length steps + 1 = omega (arith, length-append steps (step ∷ [])) in
@@ -33,9 +35,17 @@ pub holding-le-peak : (refused : List Bool) (steps : List Step) → holding refu
 holding-le-peak refused steps =
     let at : ℕ → ℕ = λ place. holding refused (take place steps) in
     let end : at (length steps) ≡ holding refused steps = ap (holding refused) (take_all (length steps) steps (omega arith)) in
-    omega (arith, greatest_more at (length steps), end, le-max_right (greatest (map at (range_with_len 0 (length steps)))) (at (length steps)))
+    omega (
+      arith,
+      greatest_more at (length steps),
+      end,
+      le-max_right (greatest (map at (range_with_len 0 (length steps))))
+          (at (length steps)),
+    )
 
-pub peak_kept : (refused later : List Bool) (blocks after : List ℕ) (m : ℕ) (steps : List Step) → Keeps refused later blocks after m → Below m steps
+-- the peak of steps that name only earlier slots is the same with later refusals
+pub peak_kept : (refused later : List Bool) (blocks after : List ℕ) (m : ℕ) (steps : List Step) → Keeps refused later blocks after m
+    → Below m steps
     → peak_of later steps ≡ peak_of refused steps
 peak_kept refused later blocks after m steps keeps below =
     ap greatest

@@ -13,5 +13,6 @@ sums_push tallies tally =
     simp all
 
 -- the sums over the first tallies, one tally on
-pub sums_more : (tallies : List Tally) (i : ℕ) (d : Tally) → i < length tallies → sums_of (take (i + 1) tallies) ≡ plus (sums_of (take i tallies)) (columns_of (get_or tallies i d))
+pub sums_more : (tallies : List Tally) (i : ℕ) (d : Tally) → i < length tallies
+    → sums_of (take (i + 1) tallies) ≡ plus (sums_of (take i tallies)) (columns_of (get_or tallies i d))
 sums_more tallies i d lt = ap sums_of (take_more tallies i d lt) ∙ sums_push (take i tallies) (get_or tallies i d)

@@ -1,5 +1,6 @@
 -- How many blocks some steps hold, and whether any of them was refused one, a step on.
-use Rattle.std.proofs.Common.{◌≡◌, ℕ, ◌-◌, ◌<◌, ◌≤◌, zero, suc, Bool, true, false, not, replicate, List, [], ◌∷◌, ◌++◌, length, refl, sym, ap, ◌∙◌, arith, append_assoc, append-nil, length-append}
+use Rattle.std.proofs.Common.{◌≡◌, ℕ, ◌-◌, ◌<◌, ◌≤◌, zero, suc, Bool, true, false, not, replicate, List, [], ◌∷◌}
+use Rattle.std.proofs.Common.{◌++◌, length, refl, sym, ap, ◌∙◌, arith, append_assoc, append-nil, length-append}
 use Rattle.std.specs.List.{count_by}
 use Rattle.std.proofs.lemmas.List.{replicate-append-replicate}
 use Rattle.std.proofs.Math.Nat.{le-max_left}
@@ -27,6 +28,7 @@ none_refused (suc n) (suc slot) = none_refused n slot
 keeps_none : (n m : ℕ) → Keeps [] (replicate n false) [] [] m
 keeps_none n m = record { refusals = λ slot below. none_refused n slot; given = λ slot below. refl }
 
+-- the peak of steps without refusals doesn't depend on how many slots there are
 pub peak_unrefused : (n m : ℕ) (steps : List Step) → Below m steps → peak_of (replicate n false) steps ≡ peak_of [] steps
 peak_unrefused n m steps below = peak_kept [] (replicate n false) [] [] m steps (keeps_none n m) below
 
@@ -35,21 +37,27 @@ peak_grows : (refused : List Bool) (done : List Step) (step : Step) → peak_of 
 peak_grows refused done step = rw (peak_more refused done step) (le-max_left (peak_of refused done) _)
 
 -- how many blocks are held after one more entry, and after none
-held_on : (past entries : List Entry) (entry : Entry) → length (held (past ++ (entries ++ entry ∷ []))) ≡ length (held ((past ++ entries) ++ entry ∷ []))
+held_on : (past entries : List Entry) (entry : Entry)
+    → length (held (past ++ (entries ++ entry ∷ []))) ≡ length (held ((past ++ entries) ++ entry ∷ []))
 held_on past entries entry = ap (λ es. length (held es)) (sym (append_assoc past entries (entry ∷ [])))
 
-unrefused_more : (refused : List Bool) → refused ≡ replicate (length refused) false → refused ++ false ∷ [] ≡ replicate (length (refused ++ false ∷ [])) false
+unrefused_more : (refused : List Bool) → refused ≡ replicate (length refused) false
+    → refused ++ false ∷ [] ≡ replicate (length (refused ++ false ∷ [])) false
 unrefused_more refused none =
-    ap (λ r. r ++ false ∷ []) none ∙ replicate-append-replicate (length refused) 1 false ∙ ap (λ n. replicate n false) (sym (length-append refused (false ∷ [])))
+    ap (λ r. r ++ false ∷ []) none ∙ replicate-append-replicate (length refused) 1 false
+    ∙ ap (λ n. replicate n false) (sym (length-append refused (false ∷ [])))
 
+-- before the first step no block more is held, and nothing was refused
 pub spared_none : (old : Plain) → IsSpared [] [] [] old
 spared_none old = record {
   few = λ past left. rw (append-nil past) (omega arith);
   enough = λ past left room. refl;
 }
 
+-- a Place that got a block holds one block more, as the steps do, and refuses nothing
 pub spared_got : (i : ℕ) (refused : List Bool) (blocks : List ℕ) (done : List Step) (entries : List Entry) (old : Plain) (slot block : ℕ)
-    → NamesSlots refused blocks done → is_refused (refused ++ false ∷ []) slot ≡ false → count_by (empties refused) done ≤ count_by (fills refused) done
+    → NamesSlots refused blocks done → is_refused (refused ++ false ∷ []) slot ≡ false
+    → count_by (empties refused) done ≤ count_by (fills refused) done
     → IsSpared refused done entries old → IsSpared (refused ++ false ∷ []) (done ++ Place slot ∷ []) (entries ++ Got i block ∷ []) old
 spared_got i refused blocks done entries old slot block names given balance spared =
     let after = refused ++ false ∷ [] in
@@ -58,7 +66,17 @@ spared_got i refused blocks done entries old slot block names given balance spar
     let more = fills_more refused after blocks (blocks ++ block ∷ []) done (Place slot) keeps names.below in
     let less = empties_more refused after blocks (blocks ++ block ∷ []) done (Place slot) keeps names.below in
     record {
-      few = λ past left. omega (arith, gain, more, less, balance, held_on past entries (Got i block), held_got (past ++ entries) i block, spared.few past left);
+      few =
+          λ past left. omega (
+            arith,
+            gain,
+            more,
+            less,
+            balance,
+            held_on past entries (Got i block),
+            held_got (past ++ entries) i block,
+            spared.few past left,
+          );
       enough = λ past left room. unrefused_more refused (spared.enough past left (omega (arith, room, peak_grows [] done (Place slot))));
     }
 
@@ -83,9 +101,12 @@ refused_in_want refused blocks done slot names balance none =
       holding-le-peak [] (done ++ Place slot ∷ []),
     )
 
+-- a refused Place holds no block more, and comes only where the blocks don't suffice for the peak
 pub spared_dry : (i : ℕ) (refused : List Bool) (blocks : List ℕ) (done : List Step) (entries : List Entry) (old pool : Plain) (slot : ℕ)
-    → NamesSlots refused blocks done → is_refused (refused ++ true ∷ []) slot ≡ true → count_by (empties refused) done ≤ count_by (fills refused) done
-    → IsFull pool → Leads i entries old pool → IsSpared refused done entries old → IsSpared (refused ++ true ∷ []) (done ++ Place slot ∷ []) (entries ++ Dry i ∷ []) old
+    → NamesSlots refused blocks done → is_refused (refused ++ true ∷ []) slot ≡ true
+    → count_by (empties refused) done ≤ count_by (fills refused) done
+    → IsFull pool → Leads i entries old pool → IsSpared refused done entries old
+    → IsSpared (refused ++ true ∷ []) (done ++ Place slot ∷ []) (entries ++ Dry i ∷ []) old
 spared_dry i refused blocks done entries old pool slot names given balance full leads spared =
     let after = refused ++ true ∷ [] in
     let keeps = keeps_more refused blocks true 0 names.block_each in
@@ -93,7 +114,16 @@ spared_dry i refused blocks done entries old pool slot names given balance full 
     let more = fills_more refused after blocks (blocks ++ 0 ∷ []) done (Place slot) keeps names.below in
     let less = empties_more refused after blocks (blocks ++ 0 ∷ []) done (Place slot) keeps names.below in
     record {
-      few = λ past left. omega (arith, gain, more, less, held_on past entries (Dry i), ap length (held_more (past ++ entries) (Dry i)), spared.few past left);
+      few =
+          λ past left. omega (
+            arith,
+            gain,
+            more,
+            less,
+            held_on past entries (Dry i),
+            ap length (held_more (past ++ entries) (Dry i)),
+            spared.few past left,
+          );
       enough = λ past left room.
           let none = spared.enough past left (omega (arith, room, peak_grows [] done (Place slot))) in
           absurd (omega (
@@ -106,7 +136,9 @@ spared_dry i refused blocks done entries old pool slot names given balance full 
           ));
     }
 
-pub spared_back : (i : ℕ) (refused : List Bool) (blocks : List ℕ) (done : List Step) (entries : List Entry) (old pool : Plain) (slot block : ℕ)
+-- a Leave of a held block holds one block less, as the steps do
+pub spared_back : (i : ℕ) (refused : List Bool) (blocks : List ℕ) (done : List Step) (entries : List Entry) (old pool : Plain)
+    (slot block : ℕ)
     → NamesSlots refused blocks done → is_refused refused slot ≡ false → IsHeld pool block → Leads i entries old pool
     → IsSpared refused done entries old → IsSpared refused (done ++ Leave slot ∷ []) (entries ++ Back i block ∷ []) old
 spared_back i refused blocks done entries old pool slot block names given holds leads spared =
@@ -121,8 +153,10 @@ spared_back i refused blocks done entries old pool slot block names given holds 
       enough = λ past left room. spared.enough past left (omega (arith, room, peak_grows [] done (Leave slot)));
     }
 
+-- a Leave of a refused slot holds as many as before
 pub spared_passed : (refused : List Bool) (blocks : List ℕ) (done : List Step) (entries : List Entry) (old : Plain) (slot : ℕ)
-    → NamesSlots refused blocks done → is_refused refused slot ≡ true → IsSpared refused done entries old → IsSpared refused (done ++ Leave slot ∷ []) entries old
+    → NamesSlots refused blocks done → is_refused refused slot ≡ true → IsSpared refused done entries old
+    → IsSpared refused (done ++ Leave slot ∷ []) entries old
 spared_passed refused blocks done entries old slot names given spared =
     let keeps = keeps_all refused blocks (length refused) in
     let lose : one_if (empties refused (Leave slot)) ≡ 0 = ap (λ t. one_if (not t)) given in

@@ -1,5 +1,6 @@
 -- Scripts that are played in turn, one script on.
-use Rattle.std.proofs.Common.{◌≡◌, ◌≢◌, ℕ, ◌+◌, ◌<◌, ◌≤◌, true, false, eqb, List, [], ◌∷◌, ◌++◌, length, take, get_or, refl, sym, ap, ◌∙◌, subst, ⊎_elim, arith, length-append, append-nil, Some}
+use Rattle.std.proofs.Common.{◌≡◌, ◌≢◌, ℕ, ◌+◌, ◌<◌, ◌≤◌, true, false, eqb, List, [], ◌∷◌, ◌++◌, length, take}
+use Rattle.std.proofs.Common.{get_or, refl, sym, ap, ◌∙◌, subst, ⊎_elim, arith, length-append, append-nil, Some}
 use Rattle.std.specs.List.{AllByRecursion, flat_map, slice_get, range_with_len}
 use Rattle.std.proofs.lemmas.Bool.Decides.{nat_tests}
 use Rattle.std.proofs.lemmas.Option.{same_Some, get_or_from_slice_get}
@@ -28,14 +29,16 @@ use Rattle.trace_player.specs.Plain.{IsInTurn, peaks_without_refusals, tallies_w
 -- where the blocks are enough for these scripts, nothing was refused, and no more blocks are held than the sum of the peaks
 abbrev Spares : ℕ → List Script → List Entry → List Tally → Type 0
 Spares blocks scripts history tallies =
-    peaks_without_refusals scripts ≤ blocks → (tallies ≡ tallies_without_refusals scripts) × (length (held history) ≤ peaks_without_refusals scripts)
+    peaks_without_refusals scripts ≤ blocks → (tallies ≡ tallies_without_refusals scripts)
+    × (length (held history) ≤ peaks_without_refusals scripts)
 
 -- the first scripts were played in turn, which left the pool as it is
 pub record PlayedSoFar (blocks : ℕ) (scripts : List Script) (count : ℕ) (pool : Plain) (tallies : List Tally) : Type 0 where
   pub history : List Entry
   pub size : pool.blocks ≡ blocks
   pub left : IsLeftBy history pool
-  pub exact : (limits : Limits) → limits.processes ≡ length scripts → limits.blocks ≡ blocks → 0 < limits.batch_length → IsExact limits history
+  pub exact : (limits : Limits) → limits.processes ≡ length scripts → limits.blocks ≡ blocks → 0 < limits.batch_length
+      → IsExact limits history
   pub in_turn : IsInTurn count history
   pub spares : Spares blocks (take count scripts) history tallies
   pub fresh : (i : ℕ) → count ≤ i → own history i ≡ []
@@ -43,7 +46,9 @@ pub record PlayedSoFar (blocks : ℕ) (scripts : List Script) (count : ℕ) (poo
   pub each : (i : ℕ) (script : Script) (tally : Tally) → slice_get scripts i ≡ Some script → slice_get tallies i ≡ Some tally
       → IsTallied i script (own history i) tally
 
-pub none_so_far : (blocks : ℕ) (scripts : List Script) → PlayedSoFar blocks scripts 0 (record { blocks = blocks; given = 0; returned = [] }) []
+-- no script was played yet: the pool is opened and holds nothing
+pub none_so_far : (blocks : ℕ) (scripts : List Script)
+    → PlayedSoFar blocks scripts 0 (record { blocks = blocks; given = 0; returned = [] }) []
 none_so_far blocks scripts = record {
   history = [];
   size = refl;
@@ -57,7 +62,8 @@ none_so_far blocks scripts = record {
 }
 
 -- entries that are all of one process have none of another
-none_of_others : (entries : List Entry) (j i : ℕ) → AllByRecursion (λ entry. eqb (process_of entry) j ≡ true) entries → i ≢ j → own entries i ≡ []
+none_of_others : (entries : List Entry) (j i : ℕ) → AllByRecursion (λ entry. eqb (process_of entry) j ≡ true) entries → i ≢ j
+    → own entries i ≡ []
 none_of_others [] j i mine differs = refl
 none_of_others (entry ∷ entries) j i mine differs =
     let not_his : eqb (process_of entry) i ≡ false = grind (arith, nat_tests, mine.0) in
@@ -66,7 +72,8 @@ none_of_others (entry ∷ entries) j i mine differs =
 own_of_others : (entries : List Entry) (j i : ℕ) → own entries j ≡ entries → i ≢ j → own entries i ≡ []
 own_of_others entries j i mine differs =
     none_of_others entries j i
-    (recursion_from_All _ entries (subst (λ (es : List Entry). (k : ℕ) (d : Entry) → k < length es → eqb (process_of (get_or es k d)) j ≡ true) mine
+    (recursion_from_All _ entries (subst (λ (es : List Entry). (k : ℕ) (d : Entry) → k < length es
+    → eqb (process_of (get_or es k d)) j ≡ true) mine
     (filter_passes (λ (entry : Entry). eqb (process_of entry) j) entries)))
     differs
 
@@ -82,7 +89,8 @@ below_range P n below =
 in_turn_more : (history entries : List Entry) (n : ℕ) → own entries n ≡ entries → own history n ≡ []
     → IsInTurn n history → IsInTurn (n + 1) (history ++ entries)
 in_turn_more history entries n mine fresh in_turn =
-    let both : (i : ℕ) → own (history ++ entries) i ≡ own history i ++ own entries i = λ i. filter-append (λ (entry : Entry). eqb (process_of entry) i) history entries in
+    let both : (i : ℕ) → own (history ++ entries) i ≡ own history i ++ own entries i =
+    λ i. filter-append (λ (entry : Entry). eqb (process_of entry) i) history entries in
     let earlier : flat_map (own (history ++ entries)) (range_with_len 0 n) ≡ flat_map (own history) (range_with_len 0 n) =
     flat_map_same (own (history ++ entries)) (own history) (range_with_len 0 n)
     (below_range (λ i. own (history ++ entries) i ≡ own history i) n
@@ -96,7 +104,8 @@ in_turn_more history entries n mine fresh in_turn =
     ∙ ap (flat_map (own (history ++ entries))) (sym (range_with_len_more n))
 
 -- where the blocks are enough for these scripts, one script on
-spared_more : (blocks n : ℕ) (scripts : List Script) (script : Script) (history : List Entry) (pool new : Plain) (tallies : List Tally) (tally : Tally)
+spared_more : (blocks n : ℕ) (scripts : List Script) (script : Script) (history : List Entry) (pool new : Plain) (tallies : List Tally)
+    (tally : Tally)
     → pool.blocks ≡ blocks → IsLeftBy history pool → (whole : IsPlayedWhole n script pool new tally)
     → Spares blocks scripts history tallies → Spares blocks (scripts ++ script ∷ []) (history ++ whole.entries) (tallies ++ tally ∷ [])
 spared_more blocks n scripts script history pool new tallies tally size left whole spares room =
@@ -109,8 +118,11 @@ spared_more blocks n scripts script history pool new tallies tally size left who
       omega (arith, whole.few history left, before.1, peak, ap (λ (t : Tally). t.peak) same),
     )
 
-pub one_more_played : (blocks : ℕ) (scripts : List Script) (n : ℕ) (pool new : Plain) (tallies : List Tally) (script : Script) (tally : Tally)
-    → n < length scripts → slice_get scripts n ≡ Some script → PlayedSoFar blocks scripts n pool tallies → IsPlayedWhole n script pool new tally
+-- where the next script was played whole after these, one script more was played so far
+pub one_more_played : (blocks : ℕ) (scripts : List Script) (n : ℕ) (pool new : Plain) (tallies : List Tally) (script : Script)
+    (tally : Tally)
+    → n < length scripts → slice_get scripts n ≡ Some script → PlayedSoFar blocks scripts n pool tallies
+    → IsPlayedWhole n script pool new tally
     → PlayedSoFar blocks scripts (n + 1) new (tallies ++ tally ∷ [])
 one_more_played blocks scripts n pool new tallies script tally within at so_far whole =
     let history = so_far.history in
@@ -118,16 +130,19 @@ one_more_played blocks scripts n pool new tallies script tally within at so_far 
     let leads = whole.leads in
     let next : take (n + 1) scripts ≡ take n scripts ++ script ∷ []
     = take_more scripts n script within ∙ ap (λ s. take n scripts ++ s ∷ []) (get_or_from_slice_get scripts n script script at) in
-    let both : (i : ℕ) → own (history ++ entries) i ≡ own history i ++ own entries i = λ i. filter-append (λ (entry : Entry). eqb (process_of entry) i) history entries in
+    let both : (i : ℕ) → own (history ++ entries) i ≡ own history i ++ own entries i =
+    λ i. filter-append (λ (entry : Entry). eqb (process_of entry) i) history entries in
     let others : (i : ℕ) → i ≢ n → own (history ++ entries) i ≡ own history i =
     λ i differs. both i ∙ ap (λ es. own history i ++ es) (own_of_others entries n i leads.own_only differs) ∙ append-nil (own history i) in
-    let its : own (history ++ entries) n ≡ entries = both n ∙ ap (λ es. es ++ own entries n) (so_far.fresh n (omega arith)) ∙ leads.own_only in
+    let its : own (history ++ entries) n ≡ entries =
+    both n ∙ ap (λ es. es ++ own entries n) (so_far.fresh n (omega arith)) ∙ leads.own_only in
     record {
       history = history ++ entries;
       size = leads.blocks ∙ so_far.size;
       left = leads.leaves history so_far.left;
       exact = λ limits processes same long.
-          leads.exact limits history (omega arith) (same ∙ sym so_far.size) long (so_far.fresh n (omega arith)) so_far.left (so_far.exact limits processes same long);
+          leads.exact limits history (omega arith) (same ∙ sym so_far.size) long (so_far.fresh n (omega arith)) so_far.left
+          (so_far.exact limits processes same long);
       in_turn = in_turn_more history entries n leads.own_only (so_far.fresh n (omega arith)) so_far.in_turn;
       spares = subst (λ (done : List Script). Spares blocks done (history ++ entries) (tallies ++ tally ∷ [])) (sym next)
           (spared_more blocks n (take n scripts) script history pool new tallies tally so_far.size so_far.left whole so_far.spares);

@@ -21,36 +21,54 @@ use Rattle.trace_player.specs.Playing.{tally_after, HeldIn, IsPlayed, IsPlayedWh
 count_by-is_place : (steps : List Step) → length (placed_slots steps) ≡ count_by is_place steps
 count_by-is_place steps = is_count_by (λ (xs : List Step). length (placed_slots xs)) is_place refl more steps
   where
-    more : (step : Step) (steps : List Step) → length (placed_slots (step ∷ steps)) ≡ cond (is_place step) (1 + length (placed_slots steps)) (length (placed_slots steps))
+    more : (step : Step) (steps : List Step)
+        → length (placed_slots (step ∷ steps)) ≡ cond (is_place step) (1 + length (placed_slots steps)) (length (placed_slots steps))
     more (Place slot) steps = omega arith
     more (Leave slot) steps = refl
 
 -- where each slot was answered, the tally after all steps is that of the script
 tally_whole : (script : Script) (refused : List Bool) → IsWellFormed script → length refused ≡ script.news
-    → count_by (fills refused) script.steps + count_by (λ (value : Bool). value) refused ≡ length refused → tally_after script refused script.steps ≡ tally_of script refused
+    → count_by (fills refused) script.steps + count_by (λ (value : Bool). value) refused ≡ length refused
+    → tally_after script refused script.steps ≡ tally_of script refused
 tally_whole script refused formed one_each answered =
-    let news : script.news ≡ count_by is_place script.steps = sym (length-range_with_len 0 script.news) ∙ ap length (sym formed.in_order) ∙ count_by-is_place script.steps in
-    let left : holding refused script.steps ≡ count_by is_place script.steps - count_by (λ (value : Bool). value) refused - count_by (empties refused) script.steps = omega (arith, news, one_each, answered) in
+    let news : script.news ≡ count_by is_place script.steps =
+    sym (length-range_with_len 0 script.news) ∙ ap length (sym formed.in_order) ∙ count_by-is_place script.steps in
+    let left : holding refused script.steps ≡ count_by is_place script.steps - count_by (λ (value : Bool). value) refused - count_by
+    (empties refused) script.steps =
+    omega (arith, news, one_each, answered) in
     cc
 
 -- as many slots were answered as the script has
-one_answer_each : (i : ℕ) (script : Script) (refused : List Bool) (blocks : List ℕ) (entries : List Entry) (Held : ℕ → Type 0) (slots : List (Option ℕ)) (tally : Tally) → IsWellFormed script
+one_answer_each : (i : ℕ) (script : Script) (refused : List Bool) (blocks : List ℕ) (entries : List Entry) (Held : ℕ → Type 0)
+    (slots : List (Option ℕ)) (tally : Tally)
+    → IsWellFormed script
     → (p : PlaysSteps i script refused blocks script.steps entries Held slots tally) → length refused ≡ script.news
 one_answer_each i script refused blocks entries Held slots tally formed p =
-    sym (length-range_with_len 0 (length refused)) ∙ ap length (sym p.names.in_order ∙ formed.in_order) ∙ length-range_with_len 0 script.news
+    sym (length-range_with_len 0 (length refused)) ∙ ap length (sym p.names.in_order ∙ formed.in_order)
+    ∙ length-range_with_len 0 script.news
 
 -- after all steps the tally is that of the refusals
-tally_at_end : (i : ℕ) (script : Script) (refused : List Bool) (blocks : List ℕ) (entries : List Entry) (Held : ℕ → Type 0) (slots : List (Option ℕ)) (tally : Tally) → IsWellFormed script
+tally_at_end : (i : ℕ) (script : Script) (refused : List Bool) (blocks : List ℕ) (entries : List Entry) (Held : ℕ → Type 0)
+    (slots : List (Option ℕ)) (tally : Tally)
+    → IsWellFormed script
     → (p : PlaysSteps i script refused blocks script.steps entries Held slots tally) → tally ≡ tally_of script refused
 tally_at_end i script refused blocks entries Held slots tally formed p =
-    p.counts.tallied ∙ tally_whole script refused formed (one_answer_each i script refused blocks entries Held slots tally formed p) p.counts.answered
+    p.counts.tallied ∙ tally_whole script refused formed (one_answer_each i script refused blocks entries Held slots tally formed p)
+    p.counts.answered
 
 -- calls for all steps of a script fit it, with refusals that they determine
-pub plays_whole : (i : ℕ) (script : Script) (refused : List Bool) (blocks : List ℕ) (entries : List Entry) (Held : ℕ → Type 0) (slots : List (Option ℕ)) (tally : Tally) → IsWellFormed script
+pub plays_whole : (i : ℕ) (script : Script) (refused : List Bool) (blocks : List ℕ) (entries : List Entry) (Held : ℕ → Type 0)
+    (slots : List (Option ℕ)) (tally : Tally)
+    → IsWellFormed script
     → PlaysSteps i script refused blocks script.steps entries Held slots tally → IsTallied i script entries tally
 plays_whole i script refused blocks entries Held slots tally formed p =
     let fits : Fits i script refused entries
-    = record { one_each = one_answer_each i script refused blocks entries Held slots tally formed p; blocks = blocks; step_by_step = p.made } in
+    =
+    record {
+      one_each = one_answer_each i script refused blocks entries Held slots tally formed p;
+      blocks = blocks;
+      step_by_step = p.made;
+    } in
     record {
       refused = refused;
       fits = fits;
@@ -58,7 +76,10 @@ plays_whole i script refused blocks entries Held slots tally formed p =
       tallied = tally_at_end i script refused blocks entries Held slots tally formed p;
     }
 
-pub played_whole : (i : ℕ) (script : Script) (old new : Plain) (slots : List (Option ℕ)) (tally : Tally) → IsWellFormed script → IsPlayed i script script.steps old new slots tally → IsPlayedWhole i script old new tally
+-- a well formed script whose steps were all played was played whole
+pub played_whole : (i : ℕ) (script : Script) (old new : Plain) (slots : List (Option ℕ)) (tally : Tally) → IsWellFormed script
+    → IsPlayed i script script.steps old new slots tally
+    → IsPlayedWhole i script old new tally
 played_whole i script old new slots tally formed p =
     let plays = p.plays in
     let Held = HeldIn p.entries new in

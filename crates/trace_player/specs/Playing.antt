@@ -1,5 +1,6 @@
 -- A script that is being played.
-use Rattle.std.specs.Prelude.{◌≡◌, ℕ, ◌+◌, ◌-◌, ◌^◌, ◌<◌, ◌≤◌, ◌⊎◌, Bool, true, false, Option, Some, None, is_some, List, [], ◌∷◌, ◌++◌, length, count_by, flat_map, slice_index, slice_index_or, All, Contains, replicate}
+use Rattle.std.specs.Prelude.{◌≡◌, ℕ, ◌+◌, ◌-◌, ◌^◌, ◌<◌, ◌≤◌, ◌⊎◌, Bool, true, false, Option, Some, None, is_some, List, []}
+use Rattle.std.specs.Prelude.{◌∷◌, ◌++◌, length, count_by, flat_map, slice_index, slice_index_or, All, Contains, replicate}
 use Rattle.std.specs.List.{range_with_len}
 use Rattle.pool_model.specs.declared.entry.Entry.{Entry}
 use Rattle.pool_model.specs.Limits.{Limits}
@@ -61,7 +62,8 @@ pub record NamesSlots (refused : List Bool) (blocks : List ℕ) (done : List Ste
   pub block_each : length blocks ≡ length refused
 
 -- the slots have the blocks that were given to them, until they are left, and no two have the same
-pub record HoldsBlocks (refused : List Bool) (blocks : List ℕ) (done : List Step) (Held : ℕ → Type 0) (slots : List (Option ℕ)) : Type 0 where
+pub record HoldsBlocks (refused : List Bool) (blocks : List ℕ) (done : List Step) (Held : ℕ → Type 0)
+    (slots : List (Option ℕ)) : Type 0 where
   pub filled : (slot block : ℕ) → block_in slots slot ≡ Some block → IsFilled refused blocks done Held slot block
   pub empty : (slot : ℕ) → slot < length refused → block_in slots slot ≡ None
       → (is_refused refused slot ≡ true) ⊎ Contains done (Leave slot)

@@ -7,7 +7,8 @@ use mir.Val.{Val, vptr, has_ty, WT}
 use base.Logic.{SProp, ent, id⊢}
 use base.Fml.{ftrue, fsep, flft}
 use prog.Wp.{WpFn}
-use types.Kit.{at_ret, ‵, raw, ◌⊛◌, some, later, ◌$◌, ◌∵◌, !, qed, move, drop, use1, split, split3, join, fsplit, fjoin, feq_i, pick, rewrite, suffices, await, done}
+use types.Kit.{at_ret, ‵, raw, ◌⊛◌, some, later, ◌$◌, ◌∵◌, !, qed, move, drop, use1, split}
+use types.Kit.{split3, join, fsplit, fjoin, feq_i, pick, rewrite, suffices, await, done}
 use types.Part.{sub, whole}
 use types.Run.{stop, fld, of_opd, no_more, and_then, returns, enter, first, blocks, exec}
 use types.ByLocal.{alloc_all, pass_all, free_all, look_at, get, get_in, sets, lands_last, env}
@@ -61,7 +62,8 @@ into_box_spec 𝓤 𝓛 𝓜 𝓡 wired T' A LT LA g d drop_a allocator glue_a =
     parts_out E ! parts z.0.4.0 (λ b o h at words fits.
     -- [the value in its block; the allocator; no further parameter; the tokens; what is asked]
     let y : shuts.Ghost = ((κs, qs, tt, (parts.alloc, (block_ptr b o, tt)), (h ∷ [], (vptr b o ∷ [], tt))), parts.value) in
-    suffices ! (Runs (word E h b o ∷ [])) (subst (λ (vs : List Val). ent 𝓤 (Runs (word E h b o ∷ [])) (Runs (vs ++ []))) (sym words) (id⊢ 𝓤 _)) $
+    suffices ! (Runs (word E h b o ∷ [])) (subst (λ (vs : List Val). ent 𝓤 (Runs (word E h b o ∷ [])) (Runs (vs ++ []))) (sym words)
+    (id⊢ 𝓤 _)) $
     enter ! 𝓣.C 𝓣.Λ body (word E h b o ∷ []) Post $ alloc_all ! (λ locals. pass_all ! refl (box_typed E h b o fits, tt) $
     sets ! (of_opd ! (get_in ! (fld ! refl (stop !)) (sub ! 0 refl (whole !)))) refl (tt, tt) $
     sets ! (of_opd ! (get_in ! (fld ! refl (stop !)) (sub ! 1 refl (whole !)))) refl fits $
@@ -78,7 +80,8 @@ into_box_spec 𝓤 𝓛 𝓜 𝓡 wired T' A LT LA g d drop_a allocator glue_a =
     -- [the box; the tokens]
     box_out E ! r (u ∷ []) (λ b' o' h' at' words' fits'. box_in E ! r b' o' r.value at' refl $
     rewrite ! 0 (λ (vs : List Val). ‵ ((B E).own_val r vs)) (sym words') refl $
-    let typed : T (has_ty (box_ty E) u) × WT u = subst (λ (v : Val). T (has_ty (box_ty E) v) × WT v) (sym (ap only words')) (box_typed E h' b' o' fits') in
+    let typed : T (has_ty (box_ty E) u) × WT u =
+    subst (λ (v : Val). T (has_ty (box_ty E) v) × WT v) (sym (ap only words')) (box_typed E h' b' o' fits') in
     lands_last ! refl typed $ exec ! 𝓣.C 𝓣.Λ (env body.locals locals) rest (at_ret (env body.locals locals) Post) $
     sets ! (of_opd ! (get ! refl)) refl typed $ returns ! (look_at ! 0 refl) $ free_all ! refl $
     suffices ! _ (ends_at 𝓛 ended stays clauses z u r ((tt, (tt, tt)), tt) (tt, tt)) $ says ! same $

@@ -10,9 +10,11 @@ loop-script-preserved c =
     let before : c.loop-script.most ≤ c.max-most.result = grind arith in
     let this : c.script-item.result.news ≤ c.max-most.result = grind arith in
     All-more enough c.args.scripts.now c.loop-script.script-index c.script-item.result c.loop-script-test.true
-    (All-weaker (λ script. script.news ≤ c.loop-script.most) enough (λ script le. omega (arith, le, before)) (take c.loop-script.script-index c.args.scripts.now) c.loop-script.invariant)
+    (All-weaker (λ script. script.news ≤ c.loop-script.most) enough (λ script le. omega (arith, le, before))
+    (take c.loop-script.script-index c.args.scripts.now) c.loop-script.invariant)
     (subst enough c.script-item.is this)
 
 pub returns : goal.returns
 returns c =
-    All-same (λ script. script.news ≤ c.loop-script.most) c.args.scripts.now (take c.loop-script.script-index c.args.scripts.now) (sym (take_all c.loop-script.script-index c.args.scripts.now c.loop-script-test.false)) c.loop-script.invariant
+    All-same (λ script. script.news ≤ c.loop-script.most) c.args.scripts.now (take c.loop-script.script-index c.args.scripts.now)
+    (sym (take_all c.loop-script.script-index c.args.scripts.now c.loop-script-test.false)) c.loop-script.invariant

@@ -17,7 +17,8 @@ play_step-requires c =
     let e = c.as_slice-step-items.ensures in
     let within = rw e at c.loop-step-test.true in
     let size = length-take-le place script.steps (omega arith) in
-    let slots : length c.loop-step.slots ≡ script.news = c.loop-step.auto.slots ∙ ap length c.requires.empty ∙ length-replicate script.news _ in
+    let slots : length c.loop-step.slots ≡ script.news =
+    c.loop-step.auto.slots ∙ ap length c.requires.empty ∙ length-replicate script.news _ in
     rw e (record {
       script = script;
       done = take place script.steps;

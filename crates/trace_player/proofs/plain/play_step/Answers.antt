@@ -21,12 +21,14 @@ pub returns-in-Some : goal.returns-in-Some
 returns-in-Some c = λ script done old may played.
     let within = place_within c.requires.done _ _ (rw c.in-Place.is at c.requires.may_come) (rw c.in-Place.is at c.requires.room) in
     let next = rw c.in-Place.is at may in
-    rw c.in-Place.is (played_got _ script done old _ _ _ _ _ c.in-Place.slot c.in-Some.block next within c.in-Some.ensures.some c.count_given.ensures played)
+    rw c.in-Place.is (played_got _ script done old _ _ _ _ _ c.in-Place.slot c.in-Some.block next within c.in-Some.ensures.some
+    c.count_given.ensures played)
 
 pub returns-in-None : goal.returns-in-None
 returns-in-None c = λ script done old may played.
     let next = rw c.in-Place.is at may in
-    rw (c.in-Place.is, c.in-None.ensures.none) (played_dry _ script done old _ _ _ _ c.in-Place.slot next (c.in-None.ensures.full.0 refl) c.count_refused.ensures played)
+    rw (c.in-Place.is, c.in-None.ensures.none) (played_dry _ script done old _ _ _ _ c.in-Place.slot next
+    (c.in-None.ensures.full.0 refl) c.count_refused.ensures played)
 
 pub returns-in-Some-take : goal.returns-in-Some-take
 returns-in-Some-take c = λ script done old may played.
@@ -34,7 +36,8 @@ returns-in-Some-take c = λ script done old may played.
     let within = leave_within _ _ c.requires.done _ _ c.requires.played.plays.names own.0 (rw c.in-Leave.is at c.requires.room) in
     let next = rw c.in-Leave.is at may in
     rw (c.in-Leave.is, c.take.ensures.after)
-    (played_back _ script done old _ _ _ _ _ c.in-Leave.slot c.in-Some-take.block next.0 within (sym c.in-Some-take.ensures.value) c.back.ensures.freed c.count_freed.ensures played)
+    (played_back _ script done old _ _ _ _ _ c.in-Leave.slot c.in-Some-take.block next.0 within
+    (sym c.in-Some-take.ensures.value) c.back.ensures.freed c.count_freed.ensures played)
 
 pub returns-in_default : goal.returns-in_default
 returns-in_default c = λ script done old may played.

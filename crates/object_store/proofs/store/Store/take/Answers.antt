@@ -12,5 +12,6 @@ pub returns-clause-others : goal.returns-clause-others
 returns-clause-others g c =
     let block = ap (λ o. o.block) c.object.view_is in
     let read = c.read_words-words in
-    others_freed _ _ _ (entered_before _ c.args.pass.now read.new.pass c.free.new.pass _ read.ensures.pass (rw block at c.free.ensures.entry))
+    others_freed _ _ _ (entered_before _ c.args.pass.now read.new.pass c.free.new.pass _ read.ensures.pass
+    (rw block at c.free.ensures.entry))
     (forgotten_before _ c.args.pass.now read.new.pass c.free.new.pass _ read.ensures.pass (rw block at c.free.ensures.known))
