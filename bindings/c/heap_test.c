@@ -1,5 +1,6 @@
 /* The archive over a heap of the program's own, for pools of several shapes: each allocation of loskebri_open fails in turn and
- * nothing is left; the other calls use no heap; and the last close gives all of it back. */
+ * nothing is left; an opening over open handles gives back what they had; the other calls use no heap; and the last close gives
+ * all of it back. */
 #include "loskebri.h"
 #include <stdio.h>
 #include <stdlib.h>
@@ -33,6 +34,17 @@ static const struct shape { uint32_t batches, words, quantum, processes; } shape
     {2, 0, 8, 1}, {4, 0, 16, 2}, {6, 2, 8, 3}, {20, 1, 4, 4}, {40, 8, 2, 8}, {64, 1, 1, 32},
 };
 
+/* Opens handles that are open: the first pool's memory goes back then, but for nothing that the second one has. */
+static int open_again(const struct shape *s, loskebri_pass *p) {
+    long once = taken;
+    calls = 0;
+    if (loskebri_open(s->batches, s->words, s->quantum, p, s->processes) != LOSKEBRI_DONE || taken != once) {
+        printf("heap_test: %ld pieces for one pool, and %ld where another was opened over it\n", once, taken);
+        return 1;
+    }
+    return 0;
+}
+
 /* Makes calls on the passes of an open pool of so many processes, and closes it. */
 static int run(loskebri_pass *p, uint32_t processes) {
     printf("heap_test: open takes %ld pieces of memory in %ld calls for %u processes\n", taken, calls, (unsigned)processes);
@@ -53,7 +65,10 @@ static int open_each(const struct shape *s) {
         loskebri_pass p[32] = {0};
         calls = 0;
         uint32_t status = loskebri_open(s->batches, s->words, s->quantum, p, s->processes);
-        if (status == LOSKEBRI_DONE) return run(p, s->processes);
+        if (status == LOSKEBRI_DONE) {
+            failing = -1;
+            return open_again(s, p) || run(p, s->processes);
+        }
         if (status != LOSKEBRI_NO_MEMORY || taken != 0) {
             printf("heap_test: allocation %ld fails: status %u, %ld pieces are left\n", failing, status, taken);
             return 1;

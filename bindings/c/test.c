@@ -3,6 +3,7 @@
 #include <pthread.h>
 #include <stdatomic.h>
 #include <stdio.h>
+#include <string.h>
 
 #define CHECK(c) do { if (!(c)) { printf("line %d: %s\n", __LINE__, #c); return 1; } } while (0)
 enum { THREADS = 4, BATCHES = 16, BLOCKS = 16 * 10, ROUNDS = 200000, MOST = 24 };
@@ -50,17 +51,64 @@ static int refused(void) {
     return 0;
 }
 
+/* Every call of a closed handle, or of NULL in its place: CLOSED and nothing else. */
+static int closed_at(loskebri_pass *p) {
+    loskebri_slots slots = {p, 8, 1};
+    loskebri_shape_numbers s = loskebri_shape(p);
+    loskebri_block a = loskebri_allocate(p);
+    loskebri_slot slot = loskebri_slot_get(p, &slots);
+    const loskebri_number numbers[] = {loskebri_read(p, 0, 0), loskebri_age(p), loskebri_most_age(p), loskebri_has_age(p),
+        loskebri_holding(p)};
+    CHECK(a.status == LOSKEBRI_CLOSED && a.block == 0);
+    CHECK(slot.status == LOSKEBRI_CLOSED && slot.at == NULL);
+    CHECK(loskebri_free(p, 0) == LOSKEBRI_CLOSED);
+    CHECK(loskebri_slot_put(p, &slots, p) == LOSKEBRI_CLOSED);
+    CHECK(loskebri_slot_put(p, &slots, NULL) == LOSKEBRI_CLOSED);
+    CHECK(loskebri_write(p, 0, 0, 1) == LOSKEBRI_CLOSED);
+    for (size_t i = 0; i < sizeof numbers / sizeof *numbers; i++) CHECK(numbers[i].status == LOSKEBRI_CLOSED && numbers[i].number == 0);
+    CHECK(s.status == LOSKEBRI_CLOSED && s.process == 0 && s.processes == 0 && s.batches == 0 && s.batch_length == 0);
+    CHECK(s.blocks == 0 && s.words == 0 && s.quantum == 0 && s.slack == 0 && s.window == 0 && s.most_age == 0);
+    loskebri_close(p);
+    return 0;
+}
+
 static int closed(void) {
     loskebri_pass p = {0};
-    CHECK(loskebri_allocate(&p).status == LOSKEBRI_CLOSED);
-    CHECK(loskebri_free(&p, 0) == LOSKEBRI_CLOSED);
-    CHECK(loskebri_read(&p, 0, 0).status == LOSKEBRI_CLOSED);
-    CHECK(loskebri_write(&p, 0, 0, 1) == LOSKEBRI_CLOSED);
-    CHECK(loskebri_age(&p).status == LOSKEBRI_CLOSED);
-    CHECK(loskebri_holding(&p).status == LOSKEBRI_CLOSED);
-    CHECK(loskebri_shape(&p).status == LOSKEBRI_CLOSED);
-    loskebri_close(&p);
+    if (closed_at(&p) || closed_at(NULL)) return 1;
     CHECK(p.at == 0);
+    CHECK(loskebri_open(4, 0, 8, NULL, 2) == LOSKEBRI_NO_PROCESS);
+    return 0;
+}
+
+/* Every status has a text of its own, and no other number has one. */
+static int texts(void) {
+    const char *none = loskebri_status_text(LOSKEBRI_NO_SLOT + 1);
+    CHECK(none == loskebri_status_text(UINT32_MAX));
+    for (uint32_t i = 0; i <= LOSKEBRI_NO_SLOT; i++) {
+        CHECK(strcmp(loskebri_status_text(i), none) != 0);
+        for (uint32_t j = 0; j < i; j++) CHECK(strcmp(loskebri_status_text(i), loskebri_status_text(j)) != 0);
+    }
+    return 0;
+}
+
+/* A pass alone has 4 batches of 4 blocks: 8 * 4 >= 16 + 15. Its blocks lie in slots of 24 bytes. */
+static int slots(void) {
+    static char memory[16 * 24];
+    loskebri_pass p = {0};
+    loskebri_slots all = {memory, 24, 16}, few = {memory, 24, 0}, none = {memory, 0, 16};
+    CHECK(loskebri_open(4, 0, 8, &p, 1) == LOSKEBRI_DONE);
+    void *a = loskebri_slot_get(&p, &all).at, *b = loskebri_slot_get(&p, &all).at;
+    CHECK(a && b && a != b && ((char *)a - memory) % 24 == 0 && (char *)a < memory + sizeof memory);
+    const void *wrong[] = {NULL, (char *)a + 1, (void *)((uintptr_t)memory - 24), memory + sizeof memory, &p, (void *)UINTPTR_MAX};
+    for (size_t i = 0; i < sizeof wrong / sizeof *wrong; i++) CHECK(loskebri_slot_put(&p, &all, wrong[i]) == LOSKEBRI_NOT_HELD);
+    CHECK(loskebri_slot_put(&p, &none, a) == LOSKEBRI_NOT_HELD);
+    CHECK(loskebri_slot_put(&p, &few, a) == LOSKEBRI_NOT_HELD);
+    CHECK(loskebri_slot_get(&p, &few).status == LOSKEBRI_NO_SLOT);
+    CHECK(loskebri_holding(&p).number == 2);
+    CHECK(loskebri_slot_put(&p, &all, a) == LOSKEBRI_DONE);
+    CHECK(loskebri_slot_put(&p, &all, a) == LOSKEBRI_NOT_HELD);
+    CHECK(loskebri_slot_put(&p, &all, b) == LOSKEBRI_DONE);
+    loskebri_close(&p);
     return 0;
 }
 
@@ -71,8 +119,11 @@ static int alone(void) {
     for (uint32_t i = 0; i < 2; i++) {
         loskebri_shape_numbers s = loskebri_shape(&p[i]);
         CHECK(s.status == LOSKEBRI_DONE && s.process == i && s.processes == 2 && s.batches == 4 && s.batch_length == 6);
-        CHECK(s.blocks == 24 && s.words == 2 && s.quantum == 8);
+        CHECK(s.blocks == 24 && s.words == 2 && s.quantum == 8 && s.slack == 60 && s.window == 12);
+        CHECK(s.most_age == 549755813886u && loskebri_most_age(&p[i]).number == s.most_age);
+        CHECK(loskebri_has_age(&p[i]).status == LOSKEBRI_DONE && loskebri_has_age(&p[i]).number == 1);
     }
+    void *const before[] = {p[0].at, p[1].at};
     loskebri_block a = loskebri_allocate(&p[0]), b = loskebri_allocate(&p[1]);
     CHECK(a.status == LOSKEBRI_DONE && b.status == LOSKEBRI_DONE && a.block != b.block && a.block < 24 && b.block < 24);
     CHECK(loskebri_holding(&p[0]).number == 1);
@@ -87,7 +138,8 @@ static int alone(void) {
     CHECK(loskebri_free(&p[0], a.block) == LOSKEBRI_DONE);
     CHECK(loskebri_free(&p[0], a.block) == LOSKEBRI_NOT_HELD);
     CHECK(loskebri_holding(&p[0]).number == 0);
-    CHECK(loskebri_age(&p[0]).status == LOSKEBRI_DONE);
+    CHECK(loskebri_age(&p[0]).status == LOSKEBRI_DONE && loskebri_age(&p[0]).number == 0);
+    CHECK(p[0].at == before[0] && p[1].at == before[1]);
     loskebri_close(&p[0]);
     loskebri_close(&p[1]);
     CHECK(loskebri_free(&p[1], b.block) == LOSKEBRI_CLOSED);
@@ -130,7 +182,7 @@ static int threads(void) {
 }
 
 int main(void) {
-    if (refused() || closed() || alone() || dry() || threads()) return 1;
+    if (refused() || closed() || texts() || slots() || alone() || dry() || threads()) return 1;
     puts("test: ok");
     return 0;
 }

@@ -42,10 +42,12 @@ impl Error for OpenError {}
 
 /// Why no block was got.
 #[derive(Debug, Clone, Copy, PartialEq, Eq)]
+#[non_exhaustive]
 pub enum Refusal {
-    /// The pass's own pool is empty. Within its last few calls there was a moment with few unheld blocks.
+    /// The pass's own pool is empty. Within its last [`window`](crate::Numbers::window) calls there was a moment with at most
+    /// [`slack`](crate::Numbers::slack) unheld blocks.
     Dry,
-    /// The pass has begun 2^32 transfers and can't make more calls.
+    /// A transfer is due, and the pass has begun as many as it may ([`Numbers::most_age`](crate::Numbers::most_age)).
     Spent,
 }
 
@@ -62,10 +64,11 @@ impl Error for Refusal {}
 
 /// Why a block wasn't given back.
 #[derive(Debug, Clone, Copy, PartialEq, Eq)]
+#[non_exhaustive]
 pub enum FreeFault {
     /// It is held by another pass.
     NotHeld,
-    /// The pass has begun 2^32 transfers and can't make more calls.
+    /// A transfer is due, and the pass has begun as many as it may ([`Numbers::most_age`](crate::Numbers::most_age)).
     Spent,
 }
 
@@ -92,6 +95,7 @@ impl Error for FreeError {}
 
 /// Why a data word wasn't read or written.
 #[derive(Debug, Clone, Copy, PartialEq, Eq)]
+#[non_exhaustive]
 pub enum WordFault {
     /// The block is held by another pass.
     NotHeld,

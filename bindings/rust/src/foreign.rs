@@ -37,6 +37,9 @@ pub struct ShapeNumbers {
     pub blocks: u32,
     pub words: u32,
     pub quantum: u32,
+    pub slack: u32,
+    pub window: u32,
+    pub most_age: u64,
 }
 
 pub const DONE: u32 = 0;
@@ -67,6 +70,7 @@ unsafe extern "C" {
     pub safe fn loskebri_read(pass: &mut Handle, block: u32, index: u32) -> NumberAnswer;
     pub safe fn loskebri_write(pass: &mut Handle, block: u32, index: u32, value: u64) -> u32;
     pub safe fn loskebri_age(pass: &mut Handle) -> NumberAnswer;
+    pub safe fn loskebri_has_age(pass: &mut Handle) -> NumberAnswer;
     pub safe fn loskebri_holding(pass: &mut Handle) -> NumberAnswer;
     pub safe fn loskebri_shape(pass: &mut Handle) -> ShapeNumbers;
     pub safe fn loskebri_close(pass: &mut Handle);

@@ -1,9 +1,10 @@
 //! A block allocator in constant time for a fixed number of processes.
 //!
-//! A [`Pool`] has numbered blocks and a [`Pass`] for each process. A pass goes to a thread; its [`allocate`](Pass::allocate)
-//! and [`free`](Pass::free) take at most `quantum + 1` counted steps whatever other threads do and wherever they stop: no
-//! call waits, takes a lock or uses the heap. What stands behind these calls is proved, down to the words that the threads
-//! share; this crate is a wrapper over that library and is itself only tested.
+//! A process here is a thread's place in one program. A [`Pool`] has numbered blocks and a [`Pass`] for each process. A pass
+//! goes to a thread; its [`allocate`](Pass::allocate) and [`free`](Pass::free) take at most `quantum + 1` counted steps
+//! whatever other threads do and wherever they stop: no call waits, takes a lock or uses the heap. What stands behind these
+//! calls is proved, down to the words that the threads share; this crate is a wrapper over that library and is itself only
+//! tested.
 //!
 //! ```
 //! use loskebri::{Pool, Shape};

@@ -7,8 +7,9 @@ use std::sync::atomic::{AtomicU64, Ordering};
 
 /// What a pool is asked to be.
 #[derive(Debug, Clone, Copy, PartialEq, Eq)]
+#[non_exhaustive]
 pub struct Shape {
-    /// How many processes it has, each with a pass: 1 to 32.
+    /// How many processes it has, each with a pass: 1 to 32. A process is a thread's place in this program.
     pub processes: u32,
     /// How many batches of blocks it has: at least two for each process. A batch has the least number `l` of blocks
     /// with `quantum * l >= 16 * processes + 15`, and the pool at most 2^22 blocks.
@@ -46,6 +47,7 @@ impl Shape {
 
 /// The numbers of a pool that is open.
 #[derive(Debug, Clone, Copy, PartialEq, Eq)]
+#[non_exhaustive]
 pub struct Numbers {
     /// How many processes it has.
     pub processes: u32,
@@ -59,6 +61,17 @@ pub struct Numbers {
     pub words: u32,
     /// How many steps of a transfer a call makes at most.
     pub quantum: u32,
+    /// While more blocks than these are unheld, no allocate is refused.
+    pub slack: u32,
+    /// One that is refused had a moment with at most [`slack`](Numbers::slack) unheld blocks, fewer than so many calls of its
+    /// pass before.
+    pub window: u32,
+    /// How many transfers a pass may begin in all ([`Pass::has_age`]):
+    ///
+    /// | processes | 1 | 2 | 4 | 8 | 16 | 32 |
+    /// |---|---|---|---|---|---|---|
+    /// | `most_age` | 1099511627773 | 549755813886 | 274877906943 | 137438953471 | 68719476735 | 34359738367 |
+    pub most_age: u64,
 }
 
 /// A pool that was opened, with the passes of all its processes.
@@ -179,6 +192,9 @@ impl Pass {
                 blocks: shape.blocks,
                 words: shape.words,
                 quantum: shape.quantum,
+                slack: shape.slack,
+                window: shape.window,
+                most_age: shape.most_age,
             },
         }
     }
@@ -201,26 +217,31 @@ impl Pass {
         foreign::loskebri_holding(&mut self.handle).number
     }
 
-    /// How many transfers it has begun.
+    /// How many transfers it has begun, of [`Numbers::most_age`].
     #[must_use]
     pub fn age(&mut self) -> u64 {
         foreign::loskebri_age(&mut self.handle).number
+    }
+
+    /// Whether an allocate, or a free of a block that it holds, would be made now. It would not exactly where a transfer is
+    /// due and the pass has begun [`Numbers::most_age`] of them: a transfer that is pending runs to its end, and calls that
+    /// begin none go on.
+    #[must_use]
+    pub fn has_age(&mut self) -> bool {
+        foreign::loskebri_has_age(&mut self.handle).number == 1
     }
 
     /// Gets a block that nobody holds, in at most `quantum + 1` counted steps.
     ///
     /// # Errors
     ///
-    /// [`Refusal::Dry`] where the pass's own pool has no block after this call's steps, [`Refusal::Spent`] after 2^32
-    /// transfers. The pass stays usable after `Dry`.
+    /// [`Refusal::Dry`] where the pass's own pool has no block after this call's steps: at a moment within its last
+    /// [`Numbers::window`] calls at most [`Numbers::slack`] blocks were unheld. [`Refusal::Spent`] where the pass isn't
+    /// [of an age](Pass::has_age) to make this call; nothing changes then. The pass stays usable after both.
     pub fn allocate(&mut self) -> Result<Block, Refusal> {
         let answer = foreign::loskebri_allocate(&mut self.handle);
         match answer.status {
-            foreign::DONE => Ok(Block {
-                number: answer.block,
-                process: self.process,
-                pool: self.pool,
-            }),
+            foreign::DONE => Ok(self.block(answer.block)),
             foreign::DRY => Err(Refusal::Dry),
             _ => Err(Refusal::Spent),
         }
@@ -230,7 +251,8 @@ impl Pass {
     ///
     /// # Errors
     ///
-    /// The block comes back where another pass holds it, and where this pass has begun 2^32 transfers.
+    /// The block comes back where another pass holds it, and where this pass isn't [of an age](Pass::has_age) to make this
+    /// call; nothing changes then.
     pub fn free(&mut self, block: Block) -> Result<(), FreeError> {
         if !self.holds(&block) {
             let fault = FreeFault::NotHeld;
@@ -275,6 +297,15 @@ impl Pass {
             index,
             value,
         ))
+    }
+
+    /// The block of this number, for whoever knows that this pass holds it.
+    pub(crate) fn block(&self, number: u32) -> Block {
+        Block {
+            number,
+            process: self.process,
+            pool: self.pool,
+        }
     }
 
     /// Whether the block was got by this pass.

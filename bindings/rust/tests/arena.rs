@@ -1,6 +1,6 @@
 //! Values in the slots of a pool.
 
-use loskebri::{Arena, Refusal, Shape};
+use loskebri::{Arena, OpenError, Refusal, Shape};
 use std::sync::Arc;
 use std::thread;
 
@@ -80,4 +80,58 @@ fn lists_of_boxes_are_kept_on_threads() {
     let first = first.expect("there is a slot");
     let next = first.next.as_ref().expect("it has a next");
     assert_eq!((first.value, next.value), (1, 2));
+}
+
+#[test]
+fn a_value_of_16_megabytes_is_made_in_its_slot() {
+    const SIZE: usize = 1 << 24;
+    let arenas = Arena::<[u8; SIZE]>::open(&Shape::new(1, 2)).expect("the shape has no fault");
+    let mut slot = arenas[0].place_uninit().expect("there is a slot");
+    // SAFETY: the bytes are those of the slot, and a value of bytes is whole once each is set.
+    let mut placed = unsafe {
+        slot.as_mut_ptr().cast::<u8>().write_bytes(7, SIZE);
+        slot.assume_init()
+    };
+    placed[SIZE - 1] = 8;
+    assert_eq!((placed[0], placed[SIZE - 1]), (7, 8));
+    drop(placed);
+    assert!(arenas[0].is_empty());
+}
+
+#[test]
+fn slots_larger_than_any_memory_are_refused() {
+    let error = Arena::<[u8; 1 << 44]>::open(&Shape::new(1, 2)).map(|_| ());
+    assert_eq!(error, Err(OpenError::NoMemory));
+    // Four terabytes, which a system that promises more than it has may give, since nothing of them is touched.
+    let opened = Arena::<[u64; 1 << 17]>::open(&Shape::new(1, 1 << 20)).map(|_| ());
+    assert!(matches!(opened, Ok(()) | Err(OpenError::NoMemory)));
+}
+
+#[test]
+fn a_value_is_made_once_there_is_a_slot() {
+    let arenas = Arena::<String>::open(&Shape::new(1, 2)).expect("the shape has no fault");
+    let arena = &arenas[0];
+    let made = arena.place_with(|| "made".to_owned());
+    assert_eq!(*made.expect("there is a slot"), "made");
+    let panicked = std::panic::catch_unwind(std::panic::AssertUnwindSafe(|| {
+        let _ = arena.place_with(|| panic!("as it is meant to"));
+    }));
+    assert!(panicked.is_err());
+    assert!(arena.is_empty());
+    let all: Vec<_> = (0..8).filter_map(|_| arena.place_uninit().ok()).collect();
+    let refused = arena.place_with(|| unreachable!("there is no slot"));
+    assert_eq!(refused.map(|_| ()), Err(Refusal::Dry));
+    drop(all);
+}
+
+#[test]
+fn a_box_comes_back_by_its_address() {
+    let arenas = Arena::<Arc<()>>::open(&Shape::new(1, 2)).expect("the shape has no fault");
+    let value = Arc::new(());
+    let placed = arenas[0].place(Arc::clone(&value));
+    let at = placed.expect("there is a slot").into_raw();
+    assert_eq!((arenas[0].len(), Arc::strong_count(&value)), (1, 2));
+    // SAFETY: the address came from this arena's box.
+    drop(unsafe { arenas[0].from_raw(at) });
+    assert_eq!((arenas[0].len(), Arc::strong_count(&value)), (0, 1));
 }

@@ -52,6 +52,34 @@ fn shapes_are_refused_by_their_first_fault() {
 }
 
 #[test]
+fn the_numbers_say_when_a_pass_is_refused_and_how_long_it_lives() {
+    // The slack is five times the processes times the blocks of a batch, the window twice these; the tags end at 2^40.
+    let cases = [
+        (Shape::new(1, 2), (4, 20, 8, 1_099_511_627_773)),
+        (Shape::new(4, 8), (10, 200, 20, 274_877_906_943)),
+        (
+            Shape::new(32, 64).with_quantum(16),
+            (33, 5280, 66, 34_359_738_367),
+        ),
+    ];
+    for (shape, expected) in cases {
+        let mut passes = Pool::open(&shape)
+            .expect("the shape has no fault")
+            .into_passes();
+        let numbers = passes[0].numbers();
+        let told = (
+            numbers.batch_length,
+            numbers.slack,
+            numbers.window,
+            numbers.most_age,
+        );
+        assert_eq!(told, expected, "{shape:?}");
+        assert!(passes[0].has_age());
+        assert_eq!(passes[0].age(), 0);
+    }
+}
+
+#[test]
 fn a_block_of_another_pass_stays_as_it_is() {
     let [mut first, mut second] = passes(&Shape::new(2, 4).with_words(1));
     let [mut foreign] = passes(&Shape::new(1, 2).with_words(1));
