@@ -24,7 +24,7 @@ use Rattle.pool_machine.specs.declared.view.ProcessView.{ProcessView}
 use Rattle.call_invariant.specs.Phases.{changes_pool}
 use Rattle.interleaving_core.specs.Invariant.{BlockIsHeld}
 use Rattle.interleaving_core.specs.Runs.{entries_of}
-use Rattle.interleaving_core.specs.Steps.{is_alone, is_in_call, next_met, next_answer}
+use Rattle.interleaving_core.specs.Steps.{is_alone, is_at_step, next_met, next_answer}
 use Rattle.interleaving_core.specs.TransferLaws.{moves_transfer}
 use Rattle.interleaving_core.proofs.Busy.{begun_calls}
 use Rattle.interleaving_core.proofs.Holds.{is_alone_way}
@@ -42,7 +42,7 @@ use Rattle.batch_stack.specs.Running.{GoesOnInCalls}
 
 -- what the machine says of the view of a seat: it is in no call where it makes transfers alone, and at rest where nothing pends
 pub record StandsSo (v : ProcessView) : Type 0 where
-  pub between : is_alone v.calls.way ≡ true → is_in_call v.calls.stage ≡ false
+  pub between : is_alone v.calls.way ≡ true → is_at_step v.calls.stage ≡ false
   pub rests : v.pool.plan.pending ≡ Idle → v.transfer.next ≡ Rest
 
 stands_so : (sizes : Sizes) (a : About) (v : SeatView) → CanStep sizes a v → StandsSo v.mind.view
@@ -60,7 +60,7 @@ stands_so sizes a v c =
     subst (λ (m : Mind). StandsSo m.view) seat.here here
 
 -- so a step about a call isn't one of transfers alone
-calling_by : (call : Call) (v : ProcessView) (t : Bool) → is_in_call v.calls.stage ≡ t → StandsSo v
+calling_by : (call : Call) (v : ProcessView) (t : Bool) → is_at_step v.calls.stage ≡ t → StandsSo v
     → is_alone (if t then v else call_begun call v).calls.way ≡ false
 calling_by call v false e s = begun_calls call v
 calling_by call v true e s = by (is_alone v.calls.way) refl
@@ -71,7 +71,7 @@ calling_by call v true e s = by (is_alone v.calls.way) refl
 
 in_a_call : (sizes : Sizes) (call : Call) (v : SeatView) → CanStep sizes (InCall call) v
     → is_alone (turning (InCall call) v.mind.view).calls.way ≡ false
-in_a_call sizes call v c = calling_by call v.mind.view (is_in_call v.mind.view.calls.stage) refl (stands_so sizes (InCall call) v c)
+in_a_call sizes call v c = calling_by call v.mind.view (is_at_step v.mind.view.calls.stage) refl (stands_so sizes (InCall call) v c)
 
 -- and one that moves a transfer is at that stage
 at_moving : (stage : CallStage) (w : ProcessView) → w.calls.stage ≡ stage → is_alone w.calls.way ≡ false → moves_transfer w ≡ true
@@ -147,7 +147,7 @@ goes_on_in_calls sizes call v x t u word c agrees s mirrors part goes =
     ap (λ (z : ProcessView). z.calls.stage) s.view ∙ stage in
     record {
       now = λ is.
-          let inside : is_in_call x.mind.view.calls.stage ≡ true = rw is refl in
+          let inside : is_at_step x.mind.view.calls.stage ≡ true = rw is refl in
           let stays : turning (InCall call) x.mind.view ≡ x.mind.view = rw inside refl in
           let can : CanStep sizes (InCall call) x = record {
             of_process = ap (λ (z : SeatView). z.of_process) s.stays ∙ c.of_process;

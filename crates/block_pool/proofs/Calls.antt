@@ -30,7 +30,7 @@ use Rattle.pool_machine.proofs.Plans.{choice_is_the_plans}
 use Rattle.interleaving_core.specs.Invariant.{BlockIsHeld}
 use Rattle.interleaving_core.specs.Moves.{may_go, may_start_at, calling_view}
 use Rattle.interleaving_core.specs.Runs.{entries_of}
-use Rattle.interleaving_core.specs.Steps.{is_in_call, next_answer}
+use Rattle.interleaving_core.specs.Steps.{is_at_step, next_answer}
 use Rattle.interleaving_core.proofs.CallLawsData.{begun_first}
 use Rattle.pool_table.specs.declared.about.About.TheVariants.{InCall}
 use Rattle.pool_table.specs.Minds.{number_of, entries_in, held_in}
@@ -63,7 +63,7 @@ both_hold a b c e f g = rw (e, f, g) refl
 may_begin : (sizes : Sizes) (call : Call) (v : ProcessView) → v.calls.stage ≡ Between → may_call sizes true call v ≡ true
     → may_go sizes true call v ≡ true
 may_begin sizes call v e may =
-    ap (λ stage. is_in_call stage || may_start_at stage sizes true call v) e ∙ may
+    ap (λ stage. is_at_step stage || may_start_at stage sizes true call v) e ∙ may
 
 call_starts : (sizes : Sizes) (call : Call) (x : Process) → BetweenCalls sizes x → is_young_for sizes call x.seat.view.mind.view ≡ true
     → names_fit sizes true call ≡ true → BlockIsHeld (held_in x.seat.view.mind) call → is_paced (Some call) ≡ true

@@ -26,7 +26,7 @@ use Rattle.pool_invariant.proofs.Moved.{step_stays}
 use Rattle.interleaving_core.specs.Invariant.{BlockIsHeld}
 use Rattle.interleaving_core.specs.Moves.{may_go, calling_view}
 use Rattle.interleaving_core.specs.Runs.{entries_of}
-use Rattle.interleaving_core.specs.Steps.{is_in_call, next_answer, next_met}
+use Rattle.interleaving_core.specs.Steps.{is_at_step, next_answer, next_met}
 use Rattle.pool_table.specs.declared.about.About.TheVariants.{InCall}
 use Rattle.pool_table.specs.Minds.{entries_in, held_in}
 use Rattle.pool_table.specs.Turns.{words_known_after}
@@ -90,10 +90,10 @@ runs_owning sizes most n call x plan e is go =
     subst (λ w. CanGo sizes call w x.seat.view) same go
 
 -- a process that is in its call may go on with it
-inside_may : (sizes : Sizes) (call : Call) (v : ProcessView) → is_in_call v.calls.stage ≡ true → may_go sizes true call v ≡ true
+inside_may : (sizes : Sizes) (call : Call) (v : ProcessView) → is_at_step v.calls.stage ≡ true → may_go sizes true call v ≡ true
 inside_may sizes call v e = rw e refl
 
-inside_view : (call : Call) (v : ProcessView) → is_in_call v.calls.stage ≡ true → calling_view call v ≡ v
+inside_view : (call : Call) (v : ProcessView) → is_at_step v.calls.stage ≡ true → calling_view call v ≡ v
 inside_view call v e = rw e refl
 
 -- a step of the transfer makes no entry
@@ -105,11 +105,11 @@ no_entries sizes call n word x v go s =
 
 -- and leaves it in its call
 pub goes_on : (sizes : Sizes) (call : Call) (n word : ℕ) (x : Process) (v : SeatView) (w : ProcessView) → IsMoving sizes call n x
-    → Stepped (InCall call) x.seat.view word v → next_met sizes (moving call n x) word ≡ w → is_in_call w.calls.stage ≡ true
+    → Stepped (InCall call) x.seat.view word v → next_met sizes (moving call n x) word ≡ w → is_at_step w.calls.stage ≡ true
     → CanGo sizes call w v
 goes_on sizes call n word x v w go s is inside =
     let view : v.mind.view ≡ w = becomes sizes call (moving call n x) x.seat.view v word go s ∙ is in
-    let stage : is_in_call v.mind.view.calls.stage ≡ true = ap (λ z. is_in_call z.calls.stage) view ∙ inside in
+    let stage : is_at_step v.mind.view.calls.stage ≡ true = ap (λ z. is_at_step z.calls.stage) view ∙ inside in
     let held : BlockIsHeld (held_in v.mind) call =
     subst (λ l. BlockIsHeld (grip l) call) (sym (no_entries sizes call n word x v go s)) go.can.may.1 in
     record {
@@ -160,7 +160,7 @@ moved_view sizes call n x y ended go m =
     ∙ (ap (λ z. view_moved sizes.quantum call (n + 1) ended z pool) (sym m.transfer)
     ∙ ap (view_moved sizes.quantum call (n + 1) ended y.transfer) (sym m.pool.pool)))
 
-in_call_moved : (t : Bool) → is_in_call (if t then Own else Moving) ≡ true
+in_call_moved : (t : Bool) → is_at_step (if t then Own else Moving) ≡ true
 in_call_moved true = refl
 in_call_moved false = refl
 

@@ -49,7 +49,7 @@ use Rattle.interleaving_core.specs.EmptyTakes.{TakesHadFew}
 use Rattle.interleaving_core.proofs.EmptyTakes.{few_same, begun_dry, due_dry}
 use Rattle.interleaving_core.specs.Invariant.{Ghosts, Holds, Meets, BlockIsHeld, KnowsOfNothing, held_in}
 use Rattle.interleaving_core.specs.Moves.{may_go_alone, may_wish, may_go, may_start_at, started_at, started}
-use Rattle.interleaving_core.specs.Steps.{is_in_call}
+use Rattle.interleaving_core.specs.Steps.{is_at_step}
 use Rattle.interleaving_core.proofs.Joins.{transfers, keeps, scheduled, same_ledgers}
 use Rattle.interleaving_core.proofs.Standing.{less, both_first, both_second, wish_fits_at, call_way, call_young, call_names, call_can}
 
@@ -112,14 +112,16 @@ pub alone_begins : (sizes : Sizes) (words : Words) (views after : ProcessViews) 
     → MovedProcess i (alone_begun wish (views i)) views after → Meets sizes words after history
 alone_begins sizes words views after history i wish shape li (ghosts, h) rest may moved =
     let v = views i in
-    let tests : (may_use_transfers v.calls.way && (nat_lt v.transfer.age (most_age sizes) && may_wish wish v.pool)) ≡ true = rw rest at may in
+    let tests : (may_use_transfers v.calls.way && (nat_lt v.transfer.age (most_age sizes) && may_wish wish v.pool)) ≡ true =
+    rw rest at may in
     let both = both_second (may_use_transfers v.calls.way) (nat_lt v.transfer.age (most_age sizes) && may_wish wish v.pool) tests in
     let fits = wish_fits_at sizes words views history ghosts i wish shape li h
     (both_second (nat_lt v.transfer.age (most_age sizes)) (may_wish wish v.pool) both) in (
       ghosts,
       alone_begins_at sizes words views after history ghosts i wish shape li h
           (both_first (may_use_transfers v.calls.way) (nat_lt v.transfer.age (most_age sizes) && may_wish wish v.pool) tests)
-          rest fits.1 (less v.transfer.age (most_age sizes) (both_first (nat_lt v.transfer.age (most_age sizes)) (may_wish wish v.pool) both)) moved,
+          rest fits.1 (less v.transfer.age (most_age sizes) (both_first (nat_lt v.transfer.age (most_age sizes))
+          (may_wish wish v.pool) both)) moved,
     )
 
 -- the transfer that begins with a call, if any
@@ -403,7 +405,7 @@ may_second false b e h = h
 
 starts_at : (sizes : Sizes) (words : Words) (views after : ProcessViews) (history : List Entry) (i : ℕ) (call : Call) (holds : Bool)
     (stage : CallStage) → IsShape sizes → i < sizes.processes
-    → Meets sizes words views history → (views i).calls.stage ≡ stage → is_in_call stage ≡ false
+    → Meets sizes words views history → (views i).calls.stage ≡ stage → is_at_step stage ≡ false
     → may_start_at stage sizes holds call (views i) ≡ true → (holds ≡ true → BlockIsHeld (grip (own history i)) call)
     → MovedProcess i (started_at stage call (views i)) views after → Meets sizes words after history
 starts_at sizes words views after history i call holds Between shape li meets e outside may held moved =
@@ -415,10 +417,10 @@ starts_at sizes words views after history i call holds Own shape li meets e outs
 
 pub call_starts : (sizes : Sizes) (words : Words) (views after : ProcessViews) (history : List Entry) (i : ℕ) (call : Call) (holds : Bool)
     → IsShape sizes → i < sizes.processes
-    → Meets sizes words views history → is_in_call (views i).calls.stage ≡ false → may_go sizes holds call (views i) ≡ true
+    → Meets sizes words views history → is_at_step (views i).calls.stage ≡ false → may_go sizes holds call (views i) ≡ true
     → (holds ≡ true → BlockIsHeld (grip (own history i)) call)
     → MovedProcess i (started call (views i)) views after → Meets sizes words after history
 call_starts sizes words views after history i call holds shape li meets outside may held moved =
     let stage = (views i).calls.stage in
     starts_at sizes words views after history i call holds stage shape li meets refl outside
-    (may_second (is_in_call stage) (may_start_at stage sizes holds call (views i)) outside may) held moved
+    (may_second (is_at_step stage) (may_start_at stage sizes holds call (views i)) outside may) held moved

@@ -14,7 +14,7 @@ use Rattle.pool_machine.specs.declared.call.CallStage.TheVariants.{Between, Choo
 use Rattle.pool_machine.specs.declared.call.Way.{Way}
 use Rattle.pool_machine.specs.declared.call.Way.TheVariants.{Fresh, Alone, Calls}
 use Rattle.pool_machine.specs.declared.view.ProcessView.{ProcessView}
-use Rattle.interleaving_core.specs.Steps.{is_alone, is_busy, is_in_call}
+use Rattle.interleaving_core.specs.Steps.{is_alone, is_busy, is_at_step}
 
 -- one that makes transfers alone, and goes on or begins with this wish
 pub moving_busy : (wish : Wish) (v : ProcessView) (way : Way) (t : Bool) → v.calls.way ≡ way
@@ -26,18 +26,18 @@ moving_busy wish v Alone false e fresh rest may = rw (e, rest) refl
 moving_busy wish v Calls false e fresh rest may = grind arith
 
 -- one that begins a call
-pub first_inside : (t : Bool) → is_in_call (if t then Own else Moving) ≡ true
+pub first_inside : (t : Bool) → is_at_step (if t then Own else Moving) ≡ true
 first_inside true = refl
 first_inside false = refl
 
-pub begun_in_call : (call : Call) (v : ProcessView) → is_in_call (call_begun call v).calls.stage ≡ true
+pub begun_in_call : (call : Call) (v : ProcessView) → is_at_step (call_begun call v).calls.stage ≡ true
 begun_in_call Allocate v = first_inside (is_idle (before_call v).pool.plan.pending)
 begun_in_call (Free block) v = first_inside (is_idle (before_call v).pool.plan.pending)
 begun_in_call (Read block index) v = refl
 begun_in_call (Write block index value) v = refl
 begun_in_call Search v = searching (is_idle v.pool.plan.pending)
   where
-    searching : (t : Bool) → is_in_call (search_begun_by t v).calls.stage ≡ true
+    searching : (t : Bool) → is_at_step (search_begun_by t v).calls.stage ≡ true
     searching true = first_inside (is_idle (before_call v).pool.plan.pending)
     searching false = refl
 
@@ -63,8 +63,8 @@ started_busy call v Own = begun_busy call v
 
 -- and one that goes on with its call, or begins this one
 pub calling_busy : (call : Call) (v : ProcessView) (way : Way) (t : Bool) → v.calls.way ≡ way
-    → (way ≡ Alone → is_in_call v.calls.stage ≡ false)
-    → is_in_call v.calls.stage ≡ t → is_busy (if t then v else started call v) ≡ true
+    → (way ≡ Alone → is_at_step v.calls.stage ≡ false)
+    → is_at_step v.calls.stage ≡ t → is_busy (if t then v else started call v) ≡ true
 calling_busy call v Fresh true e alone inside = rw (e, inside) refl
 calling_busy call v Alone true e alone inside = let h = alone refl in grind arith
 calling_busy call v Calls true e alone inside = rw (e, inside) refl

@@ -30,7 +30,7 @@ use Rattle.call_invariant.proofs.Uses.{calls_used}
 use Rattle.interleaving_core.specs.Kept.{kept_by, kept}
 use Rattle.interleaving_core.specs.Moves.{CoreState, view_at, holder_of, is_holder}
 use Rattle.interleaving_core.specs.Runs.{opens, turns, is_made}
-use Rattle.interleaving_core.specs.Steps.{is_in_call}
+use Rattle.interleaving_core.specs.Steps.{is_at_step}
 use Rattle.interleaving_core.specs.CallLaws as laws
 use Rattle.interleaving_core.proofs.Standing.{alone_between}
 use Rattle.interleaving_core.proofs.Joins.{scheduled, keeps}
@@ -203,7 +203,7 @@ quanta_here history s fits i li moving paced =
     (alone_between s.sizes (word_at s.sizes s.words) (view_at s) history i li fits.meets alone) moving in
     (calls_used s.sizes i v (ghosts.ledgers i) v.calls.way calls (h.pools i li)).stage.few moving paced
   where
-    in_no_call : (stage : CallStage) → is_in_call stage ≡ false → stage ≡ Moving → ⊥
+    in_no_call : (stage : CallStage) → is_at_step stage ≡ false → stage ≡ Moving → ⊥
     in_no_call stage outside e = grind arith
 
 pub quanta_are_kept : laws.QuantaAreKept

@@ -16,7 +16,6 @@ use Rattle.pool_machine.specs.declared.call.Way.TheVariants.{Calls}
 use Rattle.pool_machine.specs.declared.view.ProcessView.{ProcessView}
 use Rattle.transfer_machine.specs.declared.stage.NextStep.{NextStep}
 use Rattle.transfer_machine.specs.declared.stage.NextStep.TheVariants.{Rest}
-use Rattle.pool_machine.specs.Beginning.{call_begun}
 use Rattle.pool_machine.specs.Conditions.{may_use_transfers}
 use Rattle.pool_machine.specs.Steps.{call_met_at}
 use Rattle.pool_machine.specs.declared.event.Happened.{Happened}
@@ -25,7 +24,7 @@ use Rattle.transfer_invariant.specs.Progress.{is_moving}
 use Rattle.call_invariant.proofs.Uses.{idle_pool_rests}
 use Rattle.interleaving_core.specs.Moves.{CoreState, view_at, started_at}
 use Rattle.interleaving_core.specs.Runs.{Turn, Moves, Events, IsRun, turns, is_made, turning_view, after_turn, turn_answer, entries_of}
-use Rattle.interleaving_core.specs.Steps.{is_in_call, next_action}
+use Rattle.interleaving_core.specs.Steps.{is_at_step, next_action}
 use Rattle.interleaving_core.specs.CallLaws.{IsIdle, HasPending, PendsSince, pends_first, pends_on, pends_still, pends_too}
 use Rattle.interleaving_core.specs.CallLaws.{TransfersAreShort}
 use Rattle.interleaving_core.proofs.Joins.{keeps}
@@ -40,7 +39,7 @@ use Rattle.interleaving_core.proofs.Withheld.{idle_is}
 -- the view with which a process turns has the age of its pending transfer
 turning_ages : (quantum n : ℕ) (v : ProcessView) (call : Call) (stage : CallStage) → v.calls.stage ≡ stage
     → (stage ≡ Choosing → v.pool.plan.pending ≡ Idle)
-    → is_idle v.pool.plan.pending ≡ false → Aged quantum n v → Aged quantum n (if is_in_call stage then v else started_at stage call v)
+    → is_idle v.pool.plan.pending ≡ false → Aged quantum n v → Aged quantum n (if is_at_step stage then v else started_at stage call v)
 turning_ages quantum n v call Between e rests busy aged = begun_ages quantum v n call e busy aged
 turning_ages quantum n v call Choosing e rests busy aged = absurd (both_ways (ap is_idle (rests refl)) busy)
   where
@@ -58,7 +57,8 @@ choosing_is_idle history s fits i li choosing =
     let (ghosts, h) = fits.meets in
     let v = view_at s i in
     let kept = keeps s.sizes (word_at s.sizes s.words) (view_at s) history ghosts i fits.shape li h in
-    kept.runs.kept.idle (at_rest v.transfer.next ((choosing_in_calls s.sizes i v (ghosts.ledgers i) choosing (h.pools i li)).stage.rests choosing))
+    kept.runs.kept.idle (at_rest v.transfer.next ((choosing_in_calls s.sizes i v (ghosts.ledgers i) choosing (h.pools i li)).stage.rests
+    choosing))
   where
     at_rest : (s : NextStep) → s ≡ Rest → is_moving s ≡ false
     at_rest s e = rw e refl
@@ -83,8 +83,8 @@ idle_stays sizes v word Own k e idle = own_step_pending sizes v word Own refl �
 
 first_turn_ages : (quantum : ℕ) (v : ProcessView) (call : Call) (stage : CallStage) → v.pool.plan.pending ≡ Idle
     → v.pool.plan.done ≡ 0
-    → Aged quantum 0 (if is_in_call stage then v else started_at stage call v)
-    ⊎ ((if is_in_call stage then v else started_at stage call v).pool.plan.pending ≡ Idle)
+    → Aged quantum 0 (if is_at_step stage then v else started_at stage call v)
+    ⊎ ((if is_at_step stage then v else started_at stage call v).pool.plan.pending ≡ Idle)
 first_turn_ages quantum v call Between idle none = elim (first_ages quantum v call idle none) [
   | inl aged ↦ inl aged
   | inr rest ↦ inr rest.0

@@ -95,7 +95,8 @@ moving_many s i v pends value e f =
     (announced_many (s.applied i == v.age) v.wish (reply_of (s.reply i))))
 
 -- the reply that the words of a table say
-pub value_said : (sizes : Sizes) (table : List ℕ) (s : StackState) (i : ℕ) → Shows sizes.processes (word_at sizes table) s → i < sizes.processes
+pub value_said : (sizes : Sizes) (table : List ℕ) (s : StackState) (i : ℕ) → Shows sizes.processes (word_at sizes table) s
+    → i < sizes.processes
     → reply_value_at sizes table i ≡ s.reply i
 unfolding current_record word_value
 value_said sizes table s i h li = h.reply i li

@@ -1,5 +1,6 @@
 -- a transfer that a call begins ends within `length` calls
-use Rattle.std.proofs.Common.{◌≡◌, ◌≢◌, ℕ, ◌+◌, ◌*◌, ◌≤◌, ◌==◌, ap, subst, Bool, true, false, Option, None, Some, length, refl, inl, inr, ◌⊎◌, arith}
+use Rattle.std.proofs.Common.{◌≡◌, ◌≢◌, ℕ, ◌+◌, ◌*◌, ◌≤◌, ◌==◌, ap, subst, Bool, true, false}
+use Rattle.std.proofs.Common.{Option, None, Some, length, refl, inl, inr, ◌⊎◌, arith}
 use Rattle.std.specs.Prelude.{◌||◌, if◌then◌else◌}
 use Rattle.std.proofs.lemmas.Bool.Decides.{nat_tests}
 use Rattle.word_layout.specs.Sizes.{Sizes}
@@ -207,7 +208,8 @@ first_ages quantum v (Write block index value) idle none = inr (idle, refl)
 first_ages quantum v Search idle none = searching (is_idle v.pool.plan.pending) (ap is_idle idle)
   where
     searching : (t : Bool) → t ≡ true
-        → Aged quantum 0 (search_begun_by t v) ⊎ ((search_begun_by t v).pool.plan.pending ≡ Idle) × ((search_begun_by t v).calls.stage ≡ Own)
+        → Aged quantum 0 (search_begun_by t v) ⊎ ((search_begun_by t v).pool.plan.pending ≡ Idle)
+        × ((search_begun_by t v).calls.stage ≡ Own)
     searching true e = chosen_ages quantum v none
     searching false e = cc
 

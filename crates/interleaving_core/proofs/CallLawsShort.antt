@@ -1,5 +1,6 @@
 -- a call needs few turns of its process: an allocate or a free a quantum and its own one, a search those of two transfers and its own one
-use Rattle.std.proofs.Common.{◌≡◌, ◌≢◌, ℕ, ◌+◌, ◌-◌, ◌*◌, ◌<◌, ◌≤◌, ◌==◌, Bool, true, false, List, ◌∷◌, [], ◌++◌, length, refl, sym, ap, ◌∙◌, arith}
+use Rattle.std.proofs.Common.{◌≡◌, ◌≢◌, ℕ, ◌+◌, ◌-◌, ◌*◌, ◌<◌, ◌≤◌, ◌==◌, Bool, true, false}
+use Rattle.std.proofs.Common.{List, ◌∷◌, [], ◌++◌, length, refl, sym, ap, ◌∙◌, arith}
 use Rattle.std.proofs.Common.{get_or-set_other, get_or-set_same, get_or, set}
 use Rattle.std.specs.Prelude.{nat_lt, ◌&&◌, ◌||◌, if◌then◌else◌}
 use Rattle.std.proofs.lemmas.Bool.Decides.{nat_tests}
@@ -29,10 +30,11 @@ use Rattle.pool_machine.specs.Laws.{most_moves}
 use Rattle.pool_machine.specs.Steps.{is_paced, stage_after, steps_after, call_met_at, call_answer_at}
 use Rattle.call_invariant.specs.Phases.{changes_pool}
 use Rattle.call_invariant.proofs.Uses.{calls_used, idle_pool_rests}
-use Rattle.interleaving_core.specs.CallLaws.{moving_left, left_at, steps_left, is_within, GoesOnWith, starts, steps, others, ignored, CallsAreShort}
+use Rattle.interleaving_core.specs.CallLaws.{moving_left, left_at, steps_left, is_in_call, GoesOnWith}
+use Rattle.interleaving_core.specs.CallLaws.{starts, steps, others, ignored, CallsAreShort}
 use Rattle.interleaving_core.specs.Moves.{CoreState, view_at, holds_for, may_start_at, started_at, started, calling_view, with_step}
 use Rattle.interleaving_core.specs.Runs.{Turn, Events, IsRun, turns, by_of, is_made, turning_view, after_turn, turn_answer}
-use Rattle.interleaving_core.specs.Steps.{is_alone, is_busy, is_in_call, next_action, next_met, next_answer}
+use Rattle.interleaving_core.specs.Steps.{is_alone, is_busy, is_at_step, next_action, next_met, next_answer}
 use Rattle.interleaving_core.proofs.Standing.{isnt_alone, alone_stage}
 use Rattle.interleaving_core.proofs.Joins.{keeps, given}
 use Rattle.interleaving_core.proofs.Busy.{begun_calls}
@@ -73,7 +75,7 @@ moving_step false false quantum bound count done after next few low counts =
 pub record Turning (sizes : Sizes) (v : ProcessView) : Type 0 where
   pub calls : is_alone v.calls.way ≡ false
   pub way : v.calls.way ≡ Calls
-  pub inside : is_in_call v.calls.stage ≡ true
+  pub inside : is_at_step v.calls.stage ≡ true
   pub few : v.calls.stage ≡ Moving → is_paced v.calls.call ≡ true → v.calls.steps < sizes.quantum
   pub busy : v.calls.stage ≡ Moving → is_rest v.transfer.next ≡ false
   pub low : v.calls.stage ≡ Moving → v.pool.plan.done + 1 ≤ transfer_bound sizes
@@ -81,8 +83,8 @@ pub record Turning (sizes : Sizes) (v : ProcessView) : Type 0 where
   pub waits : v.calls.stage ≡ Moving → v.transfer.next ≢ Rest
   pub rest : v.pool.plan.pending ≡ Idle → v.transfer.next ≡ Rest
 
-outside : (at stage : CallStage) → at ≡ stage → is_in_call stage ≡ false → is_in_call at ≡ true → ⊥
-outside at stage e off inside = both_ways off (ap is_in_call (sym e) ∙ inside)
+outside : (at stage : CallStage) → at ≡ stage → is_at_step stage ≡ false → is_at_step at ≡ true → ⊥
+outside at stage e off inside = both_ways off (ap is_at_step (sym e) ∙ inside)
   where
     both_ways : {t : Bool} → t ≡ false → t ≡ true → ⊥
     both_ways e f = grind arith
@@ -98,7 +100,8 @@ step_left sizes v word Moving e k =
     met.pool.plan.done met.transfer.next (k.few e) (k.low e) (step_counts sizes v word v.transfer.next (k.busy e))
 step_left sizes v word Own e k = omega arith
 
-next_left : (sizes : Sizes) (v : ProcessView) (word : ℕ) → Turning sizes v → steps_left sizes (next_met sizes v word) + 1 ≤ steps_left sizes v
+next_left : (sizes : Sizes) (v : ProcessView) (word : ℕ) → Turning sizes v
+    → steps_left sizes (next_met sizes v word) + 1 ≤ steps_left sizes v
 next_left sizes v word k = rw k.calls (step_left sizes v word v.calls.stage refl k)
 
 -- what begins leaves as many turns as it needs at most, and those of a search that is to choose
@@ -121,7 +124,8 @@ search_left : (sizes : Sizes) (v : ProcessView) (t : Bool) → (t ≡ true → (
     → steps_left sizes (search_begun_by t v) ≤ 2 * transfer_bound sizes + 1
 search_left sizes v true none =
     more_left (transfer_bound sizes)
-    (chooses_left (transfer_bound sizes) sizes.quantum (is_idle (before_call v).pool.plan.pending) (search_chosen v).pool.plan.done (none refl))
+    (chooses_left (transfer_bound sizes) sizes.quantum (is_idle (before_call v).pool.plan.pending) (search_chosen v).pool.plan.done
+    (none refl))
 search_left sizes v false none = met_within sizes.quantum (transfer_bound sizes) v.pool.plan.done
 
 call_left : (sizes : Sizes) (call : Call) (v : ProcessView)
@@ -153,24 +157,24 @@ ignored_state s turn off = rw off refl
 low_test : (a b : ℕ) → a < b → nat_lt a b ≡ true
 low_test a b lt = grind (arith, nat_tests)
 
-within_goes : (s : CoreState) (i : ℕ) (call : Call) (low : Bool) (stage : CallStage) → low ≡ true → is_within stage ≡ true
-    → (low && (is_in_call stage || may_start_at stage s.sizes (holds_for s.holders i call) call (view_at s i))) ≡ true
+within_goes : (s : CoreState) (i : ℕ) (call : Call) (low : Bool) (stage : CallStage) → low ≡ true → is_in_call stage ≡ true
+    → (low && (is_at_step stage || may_start_at stage s.sizes (holds_for s.holders i call) call (view_at s i))) ≡ true
 within_goes s i call low Between e within = cc
 within_goes s i call low Choosing e within = rw e refl
 within_goes s i call low Moving e within = rw e refl
 within_goes s i call low Own e within = rw e refl
 
-pub within_made : (s : CoreState) (i : ℕ) (call : Call) → i < s.sizes.processes → is_within (view_at s i).calls.stage ≡ true
+pub within_made : (s : CoreState) (i : ℕ) (call : Call) → i < s.sizes.processes → is_in_call (view_at s i).calls.stage ≡ true
     → is_made (Events i call) s ≡ true
 within_made s i call li within =
     within_goes s i call (nat_lt i s.sizes.processes) (view_at s i).calls.stage (low_test i s.sizes.processes li) within
 
 -- a turn of a call that is made
-not_alone : (way : Way) (stage : CallStage) → (way ≡ Alone → stage ≡ Between) → is_in_call stage ≡ true → is_alone way ≡ false
+not_alone : (way : Way) (stage : CallStage) → (way ≡ Alone → stage ≡ Between) → is_at_step stage ≡ true → is_alone way ≡ false
 not_alone Fresh stage alone inside = refl
 not_alone Alone stage alone inside = absurd (outside_alone stage (alone refl) inside)
   where
-    outside_alone : (stage : CallStage) → stage ≡ Between → is_in_call stage ≡ true → ⊥
+    outside_alone : (stage : CallStage) → stage ≡ Between → is_at_step stage ≡ true → ⊥
     outside_alone Between e inside = cc
     outside_alone Choosing e inside = cc
     outside_alone Moving e inside = cc
@@ -183,15 +187,15 @@ started_calls call v Choosing = refl
 started_calls call v Moving = begun_calls call v
 started_calls call v Own = begun_calls call v
 
-calling_calls : (call : Call) (v : ProcessView) (t : Bool) → is_in_call v.calls.stage ≡ t → (v.calls.way ≡ Alone → v.calls.stage ≡ Between)
+calling_calls : (call : Call) (v : ProcessView) (t : Bool) → is_at_step v.calls.stage ≡ t → (v.calls.way ≡ Alone → v.calls.stage ≡ Between)
     → is_alone (if t then v else started call v).calls.way ≡ false
 calling_calls call v true inside alone = not_alone v.calls.way v.calls.stage alone inside
 calling_calls call v false inside alone = started_calls call v v.calls.stage
 
-way_is : (way : Way) (stage : CallStage) → is_alone way ≡ false → (way ≡ Fresh → stage ≡ Between) → is_in_call stage ≡ true → way ≡ Calls
+way_is : (way : Way) (stage : CallStage) → is_alone way ≡ false → (way ≡ Fresh → stage ≡ Between) → is_at_step stage ≡ true → way ≡ Calls
 way_is Fresh stage calls fresh inside = absurd (none stage (fresh refl) inside)
   where
-    none : (stage : CallStage) → stage ≡ Between → is_in_call stage ≡ true → ⊥
+    none : (stage : CallStage) → stage ≡ Between → is_at_step stage ≡ true → ⊥
     none Between e inside = cc
     none Choosing e inside = cc
     none Moving e inside = cc
@@ -199,7 +203,7 @@ way_is Fresh stage calls fresh inside = absurd (none stage (fresh refl) inside)
 way_is Alone stage calls fresh inside = cc
 way_is Calls stage calls fresh inside = refl
 
-inside_is : (v : ProcessView) → is_alone v.calls.way ≡ false → is_busy v ≡ true → is_in_call v.calls.stage ≡ true
+inside_is : (v : ProcessView) → is_alone v.calls.way ≡ false → is_busy v ≡ true → is_at_step v.calls.stage ≡ true
 inside_is v calls busy = rw calls at busy
 
 pub turn_turns : (history : List Entry) (s : CoreState) (i : ℕ) (call : Call) → RunFits s history → is_made (Events i call) s ≡ true
@@ -213,7 +217,7 @@ turn_turns history s i call fits made =
     let words = word_at s.sizes s.words in
     let here : views i ≡ v = get_or-set_same s.views i v (opening_view s.sizes i) (rw fits.seats li) in
     let (ghosts, h) = turn_meets s history turn fits made li in
-    let calls = calling_calls call (view_at s i) (is_in_call (view_at s i).calls.stage) refl
+    let calls = calling_calls call (view_at s i) (is_at_step (view_at s i).calls.stage) refl
     (alone_stage s.sizes words (view_at s) history i li fits.meets) in
     let inside = inside_is v calls (turn_busy s history turn fits made li) in
     let pool = h.pools i li in
@@ -310,22 +314,24 @@ first_left history s fits i call between made =
 -- each later one leaves one fewer
 abbrev pub LaterStepsLeave : Sizes → List Entry → CoreState → Type 0
 LaterStepsLeave sizes history s =
-    (i : ℕ) (call : Call) → i < sizes.processes → is_within (view_at s i).calls.stage ≡ true
+    (i : ℕ) (call : Call) → i < sizes.processes → is_in_call (view_at s i).calls.stage ≡ true
     → steps_left sizes (view_at (after_turn (Events i call) s) i) + 1 ≤ steps_left sizes (view_at s i)
 
 at_stage : (paced chosen : Bool) (quantum bound count done : ℕ) (at stage : CallStage) → at ≡ stage
     → left_at paced chosen quantum bound count done at ≤ left_at paced chosen quantum bound count done stage
 at_stage paced chosen quantum bound count done at stage e = rw e (omega arith)
 
-inside_left : (sizes : Sizes) (call : Call) (v : ProcessView) (stage : CallStage) → v.calls.stage ≡ stage → is_within stage ≡ true
+inside_left : (sizes : Sizes) (call : Call) (v : ProcessView) (stage : CallStage) → v.calls.stage ≡ stage → is_in_call stage ≡ true
     → (stage ≡ Choosing → (search_chosen v).pool.plan.done ≡ 0)
-    → steps_left sizes (if is_in_call stage then v else started_at stage call v)
+    → steps_left sizes (if is_at_step stage then v else started_at stage call v)
     ≤ left_at (is_paced v.calls.call) v.calls.chosen sizes.quantum (transfer_bound sizes) v.calls.steps v.pool.plan.done stage
 inside_left sizes call v Between e within none = cc
 inside_left sizes call v Choosing e within none =
-    chooses_left (transfer_bound sizes) sizes.quantum (is_idle (before_call v).pool.plan.pending) (search_chosen v).pool.plan.done (none refl)
+    chooses_left (transfer_bound sizes) sizes.quantum (is_idle (before_call v).pool.plan.pending) (search_chosen v).pool.plan.done
+    (none refl)
 inside_left sizes call v Moving e within none =
-    at_stage (is_paced v.calls.call) v.calls.chosen sizes.quantum (transfer_bound sizes) v.calls.steps v.pool.plan.done v.calls.stage Moving e
+    at_stage (is_paced v.calls.call) v.calls.chosen sizes.quantum
+    (transfer_bound sizes) v.calls.steps v.pool.plan.done v.calls.stage Moving e
 inside_left sizes call v Own e within none =
     at_stage (is_paced v.calls.call) v.calls.chosen sizes.quantum (transfer_bound sizes) v.calls.steps v.pool.plan.done v.calls.stage Own e
 

@@ -1,39 +1,30 @@
 -- what a turn of a call makes of the age of its transfer
-use Rattle.std.proofs.Common.{◌≡◌, ◌≢◌, ℕ, ◌+◌, ◌*◌, ◌<◌, ◌≤◌, Bool, true, false, List, length, refl, sym, ap, ◌∙◌, arith, get_or, set}
-use Rattle.std.proofs.Common.{get_or-set_same}
-use Rattle.std.specs.Prelude.{if◌then◌else◌}
+use Rattle.std.proofs.Common.{◌≡◌, ◌≢◌, ℕ, ◌+◌, ◌*◌, ◌<◌, ◌≤◌, true, false, List, length, refl, sym, ap, ◌∙◌, arith}
 use Rattle.word_layout.specs.Sizes.{Sizes}
 use Rattle.word_layout.specs.Names.{word_at}
 use Rattle.pool_model.specs.declared.entry.Entry.{Entry}
 use Rattle.transfer_schedule.specs.declared.pending.Pending.{Pending}
 use Rattle.transfer_schedule.specs.declared.pending.Pending.TheVariants.{Idle}
-use Rattle.pool_machine.specs.Pools.{opening_view}
 use Rattle.pool_machine.specs.declared.call.Call.{Call}
 use Rattle.pool_machine.specs.declared.call.CallStage.{CallStage}
 use Rattle.pool_machine.specs.declared.call.CallStage.TheVariants.{Between, Choosing, Moving, Own}
-use Rattle.pool_machine.specs.declared.call.Way.{Way}
-use Rattle.pool_machine.specs.declared.call.Way.TheVariants.{Fresh, Alone, Calls}
+use Rattle.pool_machine.specs.declared.call.Way.TheVariants.{Calls}
 use Rattle.pool_machine.specs.declared.view.ProcessView.{ProcessView}
 use Rattle.transfer_machine.specs.declared.stage.NextStep.{NextStep}
 use Rattle.transfer_machine.specs.declared.stage.NextStep.TheVariants.{Rest, Announce, LoadFinalState, LoadReply, Try}
-use Rattle.pool_machine.specs.Beginning.{call_begun}
 use Rattle.pool_machine.specs.Steps.{call_met_at, call_answer_at}
-use Rattle.call_invariant.specs.Phases.{changes_pool}
 use Rattle.pool_machine.specs.declared.event.Happened.{Happened}
 use Rattle.call_invariant.proofs.Standing.{shape_fits, some_quantum}
-use Rattle.call_invariant.proofs.Uses.{calls_used, idle_pool_rests, steps_can_count}
-use Rattle.batch_invariant.specs.Batches.{ProcessViews}
+use Rattle.call_invariant.proofs.Uses.{steps_can_count}
 use Rattle.transfer_machine.specs.Words.{met_word}
 use Rattle.transfer_machine.specs.Stages.{is_rest}
 use Rattle.transfer_invariant.specs.Progress.{is_moving}
 use Rattle.interleaving_core.specs.Moves.{CoreState, view_at}
 use Rattle.interleaving_core.specs.Runs.{Events, is_made, turning_view, after_turn, turn_answer, entries_of}
-use Rattle.interleaving_core.specs.Steps.{is_alone, is_busy, is_in_call, next_action, next_met, next_answer}
+use Rattle.interleaving_core.specs.Steps.{next_action}
 use Rattle.interleaving_core.specs.CallLaws.{HasPending}
-use Rattle.interleaving_core.proofs.Busy.{begun_calls}
-use Rattle.interleaving_core.proofs.Standing.{isnt_alone, alone_between}
 use Rattle.interleaving_core.proofs.Joins.{keeps, given}
-use Rattle.interleaving_core.proofs.Runs.{RunFits, turn_low, turn_meets, turn_busy}
+use Rattle.interleaving_core.proofs.Runs.{RunFits}
 use Rattle.interleaving_core.proofs.CallLawsShort.{turn_turns, after_is, answer_is}
 use Rattle.interleaving_core.proofs.CallLawsPending.{Aged, step_ages}
 

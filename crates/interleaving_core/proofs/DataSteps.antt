@@ -1,5 +1,6 @@
 -- the data words under every step: those of blocks that its process doesn't hold stay, and what it knows of its own holds
-use Rattle.std.proofs.Common.{◌≡◌, ◌≢◌, ℕ, ◌<◌, Bool, true, false, Option, None, Some, List, [], ◌∷◌, ◌++◌, refl, sym, ap, ◌∙◌, subst, arith}
+use Rattle.std.proofs.Common.{◌≡◌, ◌≢◌, ℕ, ◌<◌, Bool, true, false, Option, None, Some}
+use Rattle.std.proofs.Common.{List, [], ◌∷◌, ◌++◌, refl, sym, ap, ◌∙◌, subst, arith}
 use Rattle.std.specs.Prelude.{if◌then◌else◌, Contains}
 use Rattle.std.proofs.lemmas.List.{append-nil}
 use Rattle.word_layout.specs.Sizes.{Sizes, IsShape, blocks}
@@ -31,8 +32,9 @@ use Rattle.history_invariant.proofs.Replacing.{replaced_with}
 use Rattle.interleaving_core.specs.DataWords.{known_by_call, changed_by_call, known_at_stage}
 use Rattle.interleaving_core.specs.Invariant.{Known, Ghosts, held_in, DataHolds, Holds}
 use Rattle.interleaving_core.specs.Runs.{entries_of}
-use Rattle.interleaving_core.specs.StepLaws.{word_met, words_after, history_after, StepIsDue, StepsLeaveData, StepsTellData, StepsKeepData, StepsEnterOwn, HoldersAreApart}
-use Rattle.interleaving_core.specs.Steps.{is_alone, is_in_call, next_action}
+use Rattle.interleaving_core.specs.StepLaws.{word_met, words_after, history_after, StepIsDue, StepsLeaveData}
+use Rattle.interleaving_core.specs.StepLaws.{StepsTellData, StepsKeepData, StepsEnterOwn, HoldersAreApart}
+use Rattle.interleaving_core.specs.Steps.{is_alone, is_at_step, next_action}
 use Rattle.interleaving_core.proofs.Holds.{in_its_call, step_allowed}
 use Rattle.interleaving_core.proofs.OwnData.{HeldAreLow, data_stays, others_words_stay, own_data, own_data_unread}
 use Rattle.interleaving_core.proofs.OwnLedgers.{due_of, own_history}
@@ -44,7 +46,7 @@ use Rattle.interleaving_core.proofs.TransferSteps as transfer_steps
 only_member : (block b : ℕ) → Contains (block ∷ []) b → b ≡ block
 only_member block b has = grind arith
 
-between_is_no_call : is_in_call Between ≡ true → ⊥
+between_is_no_call : is_at_step Between ≡ true → ⊥
 between_is_no_call e = grind arith
 
 -- the entries of a step are its process's
@@ -107,7 +109,7 @@ module _ (sizes : Sizes) (words new : Words) (views : ProcessViews) (history : L
   mine_low b has = (holders_apart b (of_held i b li has)).0
 
   -- a block that the process doesn't hold
-  call_leaves_data : (stage : CallStage) (block index : ℕ) → is_in_call stage ≡ true → block < blocks sizes → index < sizes.words
+  call_leaves_data : (stage : CallStage) (block index : ℕ) → is_at_step stage ≡ true → block < blocks sizes → index < sizes.words
       → ¬ Contains (held_in ghosts.ledgers i) block
       → Acted sizes (call_action_at sizes (views i) stage) words new → new (Data block index) ≡ words (Data block index)
   call_leaves_data Between block index inside lb lk isnt a = absurd (between_is_no_call inside)
@@ -118,7 +120,7 @@ module _ (sizes : Sizes) (words new : Words) (views : ProcessViews) (history : L
       (λ b has. rw (only_member block b has) lb) (λ b has one. isnt
       (subst (Contains (held_in ghosts.ledgers i)) (only_member block b one) has)) (h.names i li) a block index (grind arith) lk
 
-  way_leaves_data : (t : Bool) (block index : ℕ) → (t ≡ false → is_in_call (views i).calls.stage ≡ true) → block < blocks sizes
+  way_leaves_data : (t : Bool) (block index : ℕ) → (t ≡ false → is_at_step (views i).calls.stage ≡ true) → block < blocks sizes
       → index < sizes.words → ¬ Contains (grip (own history i)) block
       → Acted sizes (if t then action_of sizes (views i).transfer else call_action sizes (views i)) words new
       → new (Data block index) ≡ words (Data block index)
@@ -148,7 +150,7 @@ module _ (sizes : Sizes) (words new : Words) (views : ProcessViews) (history : L
       ∙ grip_by_call history i v.pool v.calls.call (ghosts.ledgers i)
 
   call_tells : (stage : CallStage) (known told : Known) → (views i).calls.way ≢ Alone → (views i).calls.stage ≡ stage
-      → is_in_call stage ≡ true → Acted sizes (call_action_at sizes (views i) stage) words new
+      → is_at_step stage ≡ true → Acted sizes (call_action_at sizes (views i) stage) words new
       → DataHolds sizes words (grip (own history i)) known → OwnTells sizes words new (views i) (held_in ghosts.ledgers i) told
       → (word : ℕ) → DataHolds sizes new (grip
       (own (history ++ entries_of (call_answer_at (views i) word stage)) i)) (known_at_stage told stage known)
@@ -157,7 +159,7 @@ module _ (sizes : Sizes) (words new : Words) (views : ProcessViews) (history : L
   call_tells Moving known told ne e inside a d tells word = transfer_tells known a d
   call_tells Own known told ne e inside a d tells word = rw (own_grip word ne e) (tells a)
 
-  way_tells : (t : Bool) (known told : Known) → is_alone (views i).calls.way ≡ t → (t ≡ false → is_in_call (views i).calls.stage ≡ true)
+  way_tells : (t : Bool) (known told : Known) → is_alone (views i).calls.way ≡ t → (t ≡ false → is_at_step (views i).calls.stage ≡ true)
       → Acted sizes (if t then action_of sizes (views i).transfer else call_action sizes (views i)) words new
       → DataHolds sizes words (grip (own history i)) known → OwnTells sizes words new (views i) (held_in ghosts.ledgers i) told
       → (word : ℕ) → DataHolds sizes new

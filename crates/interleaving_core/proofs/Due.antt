@@ -17,8 +17,9 @@ use Rattle.pool_machine.specs.declared.view.ProcessView.{ProcessView}
 use Rattle.batch_invariant.specs.Batches.{ProcessViews, MovedProcess}
 use Rattle.interleaving_core.specs.Invariant.{BlockIsHeld, MeetsInvariant}
 use Rattle.interleaving_core.specs.Moves.{may_go, started, calling_view, may_go_alone, moving_view}
-use Rattle.interleaving_core.specs.StepLaws.{TableMeets, StepIsDue, view_after, words_after, history_after, StepsKeepInvariant, CallsAreDue, CallsKeepInvariant, MovesAreDue, MovesKeepInvariant}
-use Rattle.interleaving_core.specs.Steps.{is_busy, is_in_call}
+use Rattle.interleaving_core.specs.StepLaws.{TableMeets, StepIsDue, view_after, words_after, history_after, StepsKeepInvariant}
+use Rattle.interleaving_core.specs.StepLaws.{CallsAreDue, CallsKeepInvariant, MovesAreDue, MovesKeepInvariant}
+use Rattle.interleaving_core.specs.Steps.{is_busy, is_at_step}
 use Rattle.interleaving_core.proofs.Begins.{alone_begins, call_starts}
 use Rattle.interleaving_core.proofs.Busy.{moving_busy, calling_busy}
 use Rattle.interleaving_core.proofs.Standing.{fresh_rests, alone_between, both_first}
@@ -67,7 +68,7 @@ due_with sizes words views begun history i x t meets moved busy = record {
 calling_kept : (sizes : Sizes) (words : List ℕ) (views begun : ProcessViews) (history : List Entry) (i : ℕ) (call : Call) (holds t : Bool)
     → TableMeets sizes words views history i
     → may_go sizes holds call (views i) ≡ true → (holds ≡ true → BlockIsHeld (grip (own history i)) call)
-    → is_in_call (views i).calls.stage ≡ t
+    → is_at_step (views i).calls.stage ≡ t
     → MovedProcess i (if t then views i else started call (views i)) views begun → MeetsInvariant sizes words begun history
 calling_kept sizes words views begun history i call holds true m may held inside moved = rw (replaced_by_itself i views begun moved) m.meets
 calling_kept sizes words views begun history i call holds false m may held inside moved =
@@ -77,8 +78,8 @@ pub calls_are_due : CallsAreDue
 calls_are_due sizes words views begun history i call holds m may held moved =
     let v = views i in
     due_with sizes words views begun history i (calling_view call v) m
-    (calling_kept sizes words views begun history i call holds (is_in_call v.calls.stage) m may held refl moved) moved
-    (calling_busy call v v.calls.way (is_in_call v.calls.stage) refl
+    (calling_kept sizes words views begun history i call holds (is_at_step v.calls.stage) m may held refl moved) moved
+    (calling_busy call v v.calls.way (is_at_step v.calls.stage) refl
     (alone_between sizes (word_at sizes words) views history i m.low m.meets) refl)
 
 -- a step from the views as the process goes on

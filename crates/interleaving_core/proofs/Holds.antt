@@ -30,7 +30,7 @@ use Rattle.interleaving_core.proofs.OwnSteps.{own_step_holds}
 use Rattle.interleaving_core.proofs.OwnAllowed.{own_step_allowed}
 use Rattle.interleaving_core.specs.Invariant.{Ghosts, Meets, Holds}
 use Rattle.interleaving_core.specs.Runs.{entries_of}
-use Rattle.interleaving_core.specs.Steps.{is_alone, is_busy, is_in_call, next_action, next_met, next_answer}
+use Rattle.interleaving_core.specs.Steps.{is_alone, is_busy, is_at_step, next_action, next_met, next_answer}
 
 -- ways and stages
 pub is_alone_way : (way : Way) → is_alone way ≡ true → way ≡ Alone
@@ -46,7 +46,7 @@ outside e = grind arith
 call_stage_holds : (sizes : Sizes) (words new : Words) (views after : ProcessViews) (history : List Entry) (ghosts : Ghosts) (i : ℕ)
     (stage : CallStage)
     → IsShape sizes → i < sizes.processes → Holds sizes words views history ghosts → (views i).calls.way ≢ Alone
-    → (views i).calls.stage ≡ stage → is_in_call stage ≡ true
+    → (views i).calls.stage ≡ stage → is_at_step stage ≡ true
     → Acted sizes (call_action_at sizes (views i) stage) words new
     → MovedProcess i (call_met_at sizes (views i) (words (name_of (call_action_at sizes (views i) stage))) stage) views after
     → Meets sizes new after
@@ -61,7 +61,7 @@ call_stage_holds sizes words new views after history ghosts i Own shape li h cal
 -- the step of a process, by its way
 way_holds : (sizes : Sizes) (words new : Words) (views after : ProcessViews) (history : List Entry) (ghosts : Ghosts) (i : ℕ) (t : Bool)
     → IsShape sizes → i < sizes.processes → Holds sizes words views history ghosts → is_alone (views i).calls.way ≡ t
-    → (t ≡ false → is_in_call (views i).calls.stage ≡ true)
+    → (t ≡ false → is_at_step (views i).calls.stage ≡ true)
     → Acted sizes (if t then action_of sizes (views i).transfer else call_action sizes (views i)) words new
     → MovedProcess i (if t then view_met sizes (views i)
     (words (name_of (if t then action_of sizes (views i).transfer else call_action sizes (views i)))) else call_met sizes (views i)
@@ -78,7 +78,7 @@ way_holds sizes words new views after history ghosts i false shape li h alone bu
     refl (busy refl) acted moved
 
 -- what a process with a next step is at
-pub in_its_call : (v : ProcessView) (t : Bool) → is_alone v.calls.way ≡ t → is_busy v ≡ true → t ≡ false → is_in_call v.calls.stage ≡ true
+pub in_its_call : (v : ProcessView) (t : Bool) → is_alone v.calls.way ≡ t → is_busy v ≡ true → t ≡ false → is_at_step v.calls.stage ≡ true
 in_its_call v true alone busy e = absurd (outside (sym e))
 in_its_call v false alone busy e = rw alone at busy
 

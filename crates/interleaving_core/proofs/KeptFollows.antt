@@ -1,14 +1,12 @@
 -- the answer of a call changes what its own process keeps, as much as what is held, and what no other does
-use Rattle.std.proofs.Common.{◌≡◌, ◌≢◌, ℕ, ◌+◌, ◌*◌, ◌<◌, Bool, true, false, List, [], ◌∷◌, ◌++◌, length, refl, sym, ap, ◌∙◌, subst, arith}
+use Rattle.std.proofs.Common.{◌≡◌, ◌≢◌, ℕ, ◌+◌, ◌*◌, ◌<◌, Bool, true, false, List, length, refl, sym, ap, ◌∙◌, subst, arith}
 use Rattle.std.specs.Prelude.{if◌then◌else◌}
 use Rattle.std.proofs.lemmas.Bool.{false≢true}
-use Rattle.word_layout.specs.Sizes.{Sizes, blocks}
+use Rattle.word_layout.specs.Sizes.{Sizes}
 use Rattle.word_layout.specs.Names.{word_at}
 use Rattle.word_layout.specs.declared.name.WordName.TheVariants.{Announcement}
-use Rattle.process_sums.specs.Sums.{total}
 use Rattle.process_sums.proofs.Sums.{total_moved}
 use Rattle.pool_model.specs.declared.entry.Entry.{Entry}
-use Rattle.pool_model.specs.History.{held}
 use Rattle.transfer_machine.specs.Tries.{is_pending}
 use Rattle.transfer_machine.specs.Words.{acted, met_word, stack}
 use Rattle.transfer_machine.specs.declared.action.Action.{Action}
@@ -16,14 +14,14 @@ use Rattle.pool_machine.specs.declared.call.CallStage.{CallStage}
 use Rattle.pool_machine.specs.declared.call.CallStage.TheVariants.{Between, Choosing, Moving, Own}
 use Rattle.pool_machine.specs.declared.view.ProcessView.{ProcessView}
 use Rattle.transfer_invariant.specs.Memory.{Acted}
-use Rattle.interleaving_core.specs.CallLaws.{answers_call, MovesBlocks, KeptFollowsCalls}
+use Rattle.interleaving_core.specs.CallLaws.{answers_call, KeptFollowsCalls}
 use Rattle.interleaving_core.specs.Kept.{kept, reply_value_at, announced_batches, given_batches}
 use Rattle.word_layout.specs.Packing.{reply_of}
 use Rattle.transfer_invariant.specs.Progress.{has_announced, has_only_begun}
 use Rattle.interleaving_core.specs.Moves.{CoreState, view_at, with_step}
-use Rattle.interleaving_core.specs.Runs.{IsRun, turns, Turn, by_of, is_made, turning_view, after_turn, turn_answer, entries_of}
+use Rattle.interleaving_core.specs.Runs.{turns, Turn, by_of, is_made, turning_view, after_turn, turn_answer}
 use Rattle.interleaving_core.specs.Steps.{is_alone, next_action, next_answer}
-use Rattle.interleaving_core.specs.TransferLaws.{content_of, moves_transfer, LeavesContent}
+use Rattle.interleaving_core.specs.TransferLaws.{content_of, moves_transfer}
 use Rattle.interleaving_core.proofs.OwnParts.{own_leaves_stack}
 use Rattle.interleaving_core.proofs.Runs.{RunFits, run_fits, turn_low, turn_busy}
 use Rattle.interleaving_core.proofs.RunTurns.{run_sizes, turn_sizes}
@@ -58,7 +56,8 @@ answer_owns s turn made answers =
     let v = turning_view turn s in
     let word = met_word s.sizes s.words (next_action s.sizes v) in
     let told : answers_call (next_answer v word) ≡ true = rw made at answers in
-    isnt_true (moves_transfer v) (λ moves. false≢true (sym (moves_silent v word (is_alone v.calls.way) v.calls.stage refl refl moves) ∙ told))
+    isnt_true (moves_transfer v) (λ moves. false≢true (sym (moves_silent v word (is_alone v.calls.way) v.calls.stage refl refl moves)
+    ∙ told))
 
 -- what the others keep
 announcement_stays : (s : CoreState) (history : List Entry) (turn : Turn) (o : ℕ) → RunFits s history → is_made turn s ≡ true
@@ -87,14 +86,16 @@ others_keep : (s : CoreState) (history : List Entry) (turn : Turn) (o : ℕ) →
     → kept (with_step (by_of turn) (turning_view turn s) s) o ≡ kept s o
 others_keep s history turn o fits made own lo ne =
     let after = with_step (by_of turn) (turning_view turn s) s in
-    same_kept s.sizes (view_at after o) (view_at s o) (word_at s.sizes s.words (Announcement o)) (word_at s.sizes after.words (Announcement o))
+    same_kept s.sizes (view_at after o) (view_at s o) (word_at s.sizes s.words (Announcement o))
+    (word_at s.sizes after.words (Announcement o))
     (reply_value_at s.sizes s.words o) (reply_value_at s.sizes after.words o)
     (other_view s turn o true (λ e. ne (sym e)))
     (announcement_stays s history turn o fits made own lo)
     ((own_step_leaves s history turn fits made own).replies o lo)
 
 -- so what its own process keeps changes as what is held
-moved : (all now old mine_kept mine_kept_now mine mine_now stack stack_now : ℕ) → now + mine_now + stack_now ≡ all → old + mine + stack ≡ all
+moved : (all now old mine_kept mine_kept_now mine mine_now stack stack_now : ℕ) → now + mine_now + stack_now ≡ all
+    → old + mine + stack ≡ all
     → stack_now ≡ stack → now + mine_kept ≡ old + mine_kept_now → mine_kept_now + mine_now ≡ mine_kept + mine
 moved all now old mine_kept mine_kept_now mine mine_now stack stack_now first second same sums = omega (arith, first, second, same, sums)
 
@@ -128,7 +129,8 @@ kept_follows_calls sizes past history s run turn answers =
     let second = all_are_counted sizes past history s run in
     let li = low_of sizes s i same (turn_low s turn made) in
     record {
-      own = moved _ _ _ _ _ _ _ _ _ first second (ap (λ (heads : List ℕ). sizes.length * length heads) (stack_same sizes s turn same content))
+      own =
+          moved _ _ _ _ _ _ _ _ _ first second (ap (λ (heads : List ℕ). sizes.length * length heads) (stack_same sizes s turn same content))
           (total_moved sizes.processes i (kept s) (kept (after_turn turn s)) li (λ o lo ne. others o (low_as sizes s o same lo) ne));
       others = others;
     }

@@ -33,7 +33,7 @@ use Rattle.std.proofs.lemmas.Bool.{false≢true}
 use Rattle.interleaving_core.specs.LabelLaws.{AnswerFits, AnswersFit, PhaseFits, PhasesFit}
 use Rattle.interleaving_core.specs.LabelLaws.{is_moving, WaitingFits, WaitingsFit}
 use Rattle.interleaving_core.specs.Moves.{CoreState, view_at}
-use Rattle.interleaving_core.specs.Steps.{is_alone, is_busy, is_in_call, next_action, next_answer, next_kind}
+use Rattle.interleaving_core.specs.Steps.{is_alone, is_busy, is_at_step, next_action, next_answer, next_kind}
 use Rattle.interleaving_core.proofs.Standing.{fresh_rests, alone_stage}
 use Rattle.interleaving_core.proofs.Runs.{RunFits}
 use Rattle.interleaving_core.proofs.CallLaws.{every_run}
@@ -141,7 +141,7 @@ own_answers v word (Some (Write block place value)) is e = e
 own_answers v word (Some Search) is e = allocate_answers v v.transfer.number (next_block v.pool) e
 
 call_answers : (v : ProcessView) (word : ℕ) (stage : CallStage) → v.calls.stage ≡ stage → is_alone v.calls.way ≡ false
-    → is_in_call stage ≡ true → AnswerFits v (call_answer_at v word stage)
+    → is_at_step stage ≡ true → AnswerFits v (call_answer_at v word stage)
 call_answers v word Between e calls inside = absurd (grind arith)
 call_answers v word Choosing e calls inside = absurd (grind arith)
 call_answers v word Moving e calls inside = rw (calls, e) refl
@@ -150,7 +150,7 @@ call_answers v word Own e calls inside = own_answers v word v.calls.call refl (r
 next_answers : (v : ProcessView) (word : ℕ) (t : Bool) → is_alone v.calls.way ≡ t → is_busy v ≡ true → AnswerFits v (next_answer v word)
 next_answers v word true alone busy = rw alone (rw alone refl)
 next_answers v word false alone busy =
-    let inside : is_in_call v.calls.stage ≡ true = rw alone at busy in
+    let inside : is_at_step v.calls.stage ≡ true = rw alone at busy in
     answer_calls (call_answers v word v.calls.stage refl alone inside)
   where
     answer_calls : AnswerFits v (call_answer_at v word v.calls.stage) → AnswerFits v (next_answer v word)

@@ -44,6 +44,7 @@ pub mod MovingAnswers
 pub mod Labels
 pub mod TurnLaws
 pub mod KeptFollows
+pub mod AnsweredAs
 pub mod MovesEnd
 pub mod DataSteps
 pub mod Due

@@ -24,17 +24,18 @@ use Rattle.pool_machine.specs.OwnSteps.{own_kind, own_answer}
 use Rattle.pool_machine.specs.Steps.{call_met_at, call_answer_at, happened}
 use Rattle.pool_machine.specs.declared.answer.OwnAnswer.{OwnAnswer}
 use Rattle.pool_machine.specs.declared.answer.OwnAnswer.TheVariants as answer
-use Rattle.interleaving_core.specs.CallLaws.{left_at, steps_left, is_within}
+use Rattle.interleaving_core.specs.CallLaws.{left_at, steps_left, is_in_call}
 use Rattle.interleaving_core.specs.Moves.{CoreState, view_at}
 use Rattle.interleaving_core.specs.MovingLaws.{is_event_of, events_of, is_answered, CallsAreAnswered}
 use Rattle.interleaving_core.specs.CallLaws.{answers_call}
 use Rattle.interleaving_core.specs.Runs.{Turn, Moves, Events, IsRun, turns, is_made, turning_view, after_turn, turn_answer}
-use Rattle.interleaving_core.specs.Steps.{is_in_call, next_action}
+use Rattle.interleaving_core.specs.Steps.{is_at_step, next_action}
 use Rattle.pool_machine.specs.Steps.{is_paced, stage_after}
 use Rattle.transfer_machine.specs.declared.stage.NextStep.{NextStep}
 use Rattle.interleaving_core.proofs.Runs.{RunFits, run_fits, turn_low}
 use Rattle.interleaving_core.proofs.CallLaws.{shapes_stay, every_run}
-use Rattle.interleaving_core.proofs.CallLawsShort.{FirstStepsLeave, first_left, LaterStepsLeave, later_left, within_made, turn_turns, after_is, answer_is}
+use Rattle.interleaving_core.proofs.CallLawsShort.{FirstStepsLeave, first_left, LaterStepsLeave, later_left}
+use Rattle.interleaving_core.proofs.CallLawsShort.{within_made, turn_turns, after_is, answer_is}
 use Rattle.interleaving_core.proofs.CallLawsShort.{other_view, ignored_state, low_here}
 
 -- the step of a call at its own step answers it, and the call goes on after any other
@@ -43,19 +44,19 @@ owns_answer kind (answer.Recorded entry) = refl
 owns_answer kind (answer.Loaded word) = refl
 owns_answer kind answer.Stored = refl
 
-step_answers : (sizes : Sizes) (v : ProcessView) (word : ℕ) (stage : CallStage) → is_in_call stage ≡ true
-    → (answers_call (call_answer_at v word stage) ≡ true) ⊎ (is_within (call_met_at sizes v word stage).calls.stage ≡ true)
+step_answers : (sizes : Sizes) (v : ProcessView) (word : ℕ) (stage : CallStage) → is_at_step stage ≡ true
+    → (answers_call (call_answer_at v word stage) ≡ true) ⊎ (is_in_call (call_met_at sizes v word stage).calls.stage ≡ true)
 step_answers sizes v word Between inside = absurd (grind arith)
 step_answers sizes v word Choosing inside = absurd (grind arith)
 step_answers sizes v word Moving inside =
     inr (stays_within (is_paced v.calls.call) v.calls.chosen sizes.quantum v.calls.steps (view_met sizes v word).transfer.next)
   where
-    either : (t : Bool) (a b : CallStage) → is_within a ≡ true → is_within b ≡ true → is_within (if t then a else b) ≡ true
+    either : (t : Bool) (a b : CallStage) → is_in_call a ≡ true → is_in_call b ≡ true → is_in_call (if t then a else b) ≡ true
     either true a b x y = x
     either false a b x y = y
 
     stays_within : (paced chosen : Bool) (quantum steps : ℕ) (next : NextStep)
-        → is_within (stage_after paced chosen quantum steps next) ≡ true
+        → is_in_call (stage_after paced chosen quantum steps next) ≡ true
     stays_within true chosen quantum steps next = either (is_rest next || (steps + 1 == quantum)) Own Moving refl refl
     stays_within false chosen quantum steps next =
         either (is_rest next) (if chosen then Own else Choosing) Moving (either chosen Own Choosing refl refl) refl
@@ -63,29 +64,29 @@ step_answers sizes v word Own inside = inl (owns_answer (own_kind v) (own_answer
 
 -- so does a turn of a call
 turn_answers : (s : CoreState) (history : List Entry) (i : ℕ) (call : Call) → RunFits s history → is_made (Events i call) s ≡ true
-    → (answers_call (turn_answer (Events i call) s) ≡ true) ⊎ (is_within (view_at (after_turn (Events i call) s) i).calls.stage ≡ true)
+    → (answers_call (turn_answer (Events i call) s) ≡ true) ⊎ (is_in_call (view_at (after_turn (Events i call) s) i).calls.stage ≡ true)
 turn_answers s history i call fits made =
     let v = turning_view (Events i call) s in
     let word = met_word s.sizes s.words (next_action s.sizes v) in
     let k = turn_turns history s i call fits made in
     elim (step_answers s.sizes v word v.calls.stage k.inside) [
       | inl told ↦ inl (ap answers_call (answer_is s i call made k.calls) ∙ told)
-      | inr inside ↦ inr (ap (λ x. is_within x.calls.stage) (after_is s history i call fits made k.calls) ∙ inside)
+      | inr inside ↦ inr (ap (λ x. is_in_call x.calls.stage) (after_is s history i call fits made k.calls) ∙ inside)
     ]
 
 -- a process in the middle of a call makes no transfers alone
-way_within : (way : Way) (stage : CallStage) → (way ≡ Alone → stage ≡ Between) → (way ≡ Fresh → stage ≡ Between) → is_within stage ≡ true
+way_within : (way : Way) (stage : CallStage) → (way ≡ Alone → stage ≡ Between) → (way ≡ Fresh → stage ≡ Between) → is_in_call stage ≡ true
     → way ≡ Calls
 way_within Fresh stage alone fresh within = absurd (none stage (fresh refl) within)
   where
-    none : (stage : CallStage) → stage ≡ Between → is_within stage ≡ true → ⊥
+    none : (stage : CallStage) → stage ≡ Between → is_in_call stage ≡ true → ⊥
     none Between e within = cc
     none Choosing e within = cc
     none Moving e within = cc
     none Own e within = cc
 way_within Alone stage alone fresh within = absurd (none stage (alone refl) within)
   where
-    none : (stage : CallStage) → stage ≡ Between → is_within stage ≡ true → ⊥
+    none : (stage : CallStage) → stage ≡ Between → is_in_call stage ≡ true → ⊥
     none Between e within = cc
     none Choosing e within = cc
     none Moving e within = cc
@@ -93,7 +94,7 @@ way_within Alone stage alone fresh within = absurd (none stage (alone refl) with
 way_within Calls stage alone fresh within = refl
 
 pub inside_calls : (s : CoreState) (history : List Entry) (i : ℕ) → RunFits s history → i < s.sizes.processes
-    → is_within (view_at s i).calls.stage ≡ true → (view_at s i).calls.way ≡ Calls
+    → is_in_call (view_at s i).calls.stage ≡ true → (view_at s i).calls.way ≡ Calls
 inside_calls s history i fits li within =
     let v = view_at s i in
     let (ghosts, h) = fits.meets in
@@ -132,7 +133,7 @@ apart : (a b : ℕ) → (a == b) ≡ false → a ≢ b
 apart a b off = grind (arith, nat_tests)
 
 other_turn : (s : CoreState) (history : List Entry) (i : ℕ) (turn : Turn) → RunFits s history → i < s.sizes.processes
-    → is_within (view_at s i).calls.stage ≡ true → is_event_of i turn ≡ false
+    → is_in_call (view_at s i).calls.stage ≡ true → is_event_of i turn ≡ false
     → view_at (after_turn turn s) i ≡ view_at s i
 other_turn s history i (Moves by wish) fits li inside none = elim (cases_eq by i) [
   | inl same ↦
@@ -167,7 +168,7 @@ unfolding events_of
 events_other i turn more none = rw none (omega arith)
 
 -- a call that isn't answered has a turn left
-some_left : (paced chosen : Bool) (quantum bound steps done : ℕ) (stage : CallStage) → is_within stage ≡ true
+some_left : (paced chosen : Bool) (quantum bound steps done : ℕ) (stage : CallStage) → is_in_call stage ≡ true
     → 1 ≤ left_at paced chosen quantum bound steps done stage
 some_left paced chosen quantum bound steps done Between within = absurd (grind arith)
 some_left paced chosen quantum bound steps done Choosing within = omega arith
@@ -179,7 +180,7 @@ some_left paced chosen quantum bound steps done Own within = omega arith
 -- a process in a call has it answered in these turns, if as many of them are its own as the call has turns left
 abbrev IsAnsweredInside : Sizes → ℕ → List Turn → Type 0
 IsAnsweredInside sizes i more =
-    (past : List Turn) (history : List Entry) (s : CoreState) → IsRun sizes past history s → is_within (view_at s i).calls.stage ≡ true
+    (past : List Turn) (history : List Entry) (s : CoreState) → IsRun sizes past history s → is_in_call (view_at s i).calls.stage ≡ true
     → steps_left sizes (view_at s i) ≤ events_of i more → is_answered i more s ≡ true
 
 -- by a turn of the call one step fewer is left, if it isn't the answer
@@ -203,7 +204,7 @@ other_inside sizes i turn more li none later past history s run inside left =
     let same = other_turn s history i turn (run_fits sizes past history s run)
     (low_there sizes s i (shapes_stay sizes past history s run) li) inside none in
     answered_later s i turn more
-    (later _ _ (after_turn turn s) (turns past history s turn run) (ap (λ x. is_within x.calls.stage) same ∙ inside)
+    (later _ _ (after_turn turn s) (turns past history s turn run) (ap (λ x. is_in_call x.calls.stage) same ∙ inside)
     (rw same (rw (events_other i turn more none) at left)))
 
 none_left : (sizes : Sizes) (i : ℕ) → IsAnsweredInside sizes i []

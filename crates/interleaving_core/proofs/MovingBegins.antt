@@ -22,7 +22,6 @@ use Rattle.pool_machine.specs.Beginning.{newest}
 use Rattle.pool_machine.specs.Conditions.{may_use_calls, may_use_transfers, IsYoungFor, is_young_for, names_fit}
 use Rattle.interleaving_core.specs.Moves.{CoreState, view_at, holder_of, is_holder, holds_for, may_wish}
 use Rattle.interleaving_core.specs.Runs.{Moves, Events, is_made}
-use Rattle.interleaving_core.specs.Steps.{is_in_call}
 use Rattle.interleaving_core.specs.MovingLaws as laws
 use Rattle.interleaving_core.specs.MovingLaws.{StandsBetween, StandsAtRest}
 use Rattle.interleaving_core.proofs.Joins.{keeps}
@@ -112,7 +111,9 @@ transfer_begins : (s : CoreState) (i : ℕ) (wish : Wish) → StandsAtRest s.siz
     → is_made (Moves i wish) s ≡ true
 transfer_begins s i wish stands may =
     let v = view_at s i in
-    let young = both_are (nat_lt v.transfer.age (most_age s.sizes)) (may_wish wish v.pool) (is_less v.transfer.age (most_age s.sizes) stands.young) may in
+    let young =
+    both_are (nat_lt v.transfer.age (most_age s.sizes)) (may_wish wish v.pool)
+    (is_less v.transfer.age (most_age s.sizes) stands.young) may in
     let first = second_is (not (is_rest v.transfer.next)) _ young in
     both_are (nat_lt i s.sizes.processes) _ (is_less i s.sizes.processes stands.low)
     (both_are (may_use_transfers v.calls.way) _ (uses_transfers v.calls.way stands.way) first)

@@ -194,15 +194,18 @@ own_data sizes words new pool held known (Some Search) low names a h =
     (λ b has. got_too (next_block pool) held b has)
 
 -- and so it does where it doesn't note a word that it read
-pub own_data_unread : (sizes : Sizes) (words new : Words) (pool : PoolView) (held : List ℕ) (known : Known) (call : Option Call) → HeldAreLow sizes held
+pub own_data_unread : (sizes : Sizes) (words new : Words) (pool : PoolView) (held : List ℕ) (known : Known) (call : Option Call)
+    → HeldAreLow sizes held
     → NamesHeld sizes held call → Acted sizes (own_action_for pool call) words new → DataHolds sizes words held known
     → DataHolds sizes new (held_by_call pool call held) (changed_by_call call known)
 own_data_unread sizes words new pool held known None low names a h = own_data sizes words new pool held known None low names a h
-own_data_unread sizes words new pool held known (Some Allocate) low names a h = own_data sizes words new pool held known (Some Allocate) low names a h
+own_data_unread sizes words new pool held known (Some Allocate) low names a h =
+    own_data sizes words new pool held known (Some Allocate) low names a h
 own_data_unread sizes words new pool held known (Some (Free block)) low names a h =
     own_data sizes words new pool held known (Some (Free block)) low names a h
 own_data_unread sizes words new pool held known (Some (Read block index)) low names a h =
     data_stays sizes words new held held known h (loads_data sizes block index words new held low a) (λ b has. has)
 own_data_unread sizes words new pool held known (Some (Write block index value)) low names a h =
     own_data sizes words new pool held known (Some (Write block index value)) low names a h
-own_data_unread sizes words new pool held known (Some Search) low names a h = own_data sizes words new pool held known (Some Search) low names a h
+own_data_unread sizes words new pool held known (Some Search) low names a h =
+    own_data sizes words new pool held known (Some Search) low names a h

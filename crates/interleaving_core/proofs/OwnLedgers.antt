@@ -30,7 +30,8 @@ use Rattle.history_invariant.proofs.Replacing.{replaced_with}
 use Rattle.history_invariant.proofs.Shared.{legal_shared}
 use Rattle.call_invariant.specs.InCalls.{Scheduled, InCalls}
 use Rattle.call_invariant.specs.Phases.{is_getting, own_phase}
-use Rattle.call_invariant.proofs.Owned.{phase_own, getting_asks, gets_leave, refusals_leave, frees_leave, keeping_steps_leave, block_has_source}
+use Rattle.call_invariant.proofs.Owned.{phase_own, getting_asks, gets_leave, refusals_leave}
+use Rattle.call_invariant.proofs.Owned.{frees_leave, keeping_steps_leave, block_has_source}
 use Rattle.call_invariant.proofs.Owned.{no_block_has_none}
 use Rattle.call_invariant.proofs.Uses.{calls_used}
 use Rattle.interleaving_core.specs.Invariant.{Ghosts, held_in, Holds}
@@ -101,7 +102,8 @@ module _ (sizes : Sizes) (words : Words) (views : ProcessViews) (history : List 
   unheld_block : (block : ℕ) → IsFree sizes (held_in ghosts.ledgers) block → ¬ Contains (held history) block
   unheld_block block free = λ c. let one = shares.holder block c in free.free one.process one.one one.holds
 
-  got_history : (call : Option Call) (block : ℕ) → (views i).calls.call ≡ call → is_getting call ≡ true → next_block (views i).pool ≡ Some block
+  got_history : (call : Option Call) (block : ℕ) → (views i).calls.call ≡ call → is_getting call ≡ true
+      → next_block (views i).pool ≡ Some block
       → HistoryHolds (limits_of sizes) (transfer_bound sizes) sizes.quantum (history ++ Got i block ∷ [])
       (with_ledger i (ledger_allocated history i (Some block) (ghosts.ledgers i)) ghosts.ledgers)
   got_history called block call gets e =
@@ -147,7 +149,8 @@ module _ (sizes : Sizes) (words : Words) (views : ProcessViews) (history : List 
   same_history = rw (append-nil history, joins.same_ledgers i ghosts.ledgers) d.holds.entries
 
   -- the history after the own step of any call
-  allocated_history : (by : ℕ) → by ≡ i → (call : Option Call) → (views i).calls.call ≡ call → is_getting call ≡ true → (block : Option ℕ) → next_block (views i).pool ≡ block
+  allocated_history : (by : ℕ) → by ≡ i → (call : Option Call) → (views i).calls.call ≡ call → is_getting call ≡ true → (block : Option ℕ)
+      → next_block (views i).pool ≡ block
       → HistoryHolds (limits_of sizes) (transfer_bound sizes) sizes.quantum
       (history ++ entries_of (happened (allocate_kind block) (allocate_answer by block)))
       (with_ledger i (ledger_allocated history i block (ghosts.ledgers i)) ghosts.ledgers)

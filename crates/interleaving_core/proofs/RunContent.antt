@@ -32,7 +32,7 @@ use Rattle.interleaving_core.specs.Invariant.{Ghosts, Holds}
 use Rattle.interleaving_core.specs.Moves.{CoreState, view_at, with_step, started_at, started}
 use Rattle.transfer_schedule.specs.Numbers.{is_idle}
 use Rattle.interleaving_core.specs.Runs.{Turn, Moves, Events, by_of, is_made, turning_view}
-use Rattle.interleaving_core.specs.Steps.{is_alone, is_busy, is_in_call, next_action, next_met}
+use Rattle.interleaving_core.specs.Steps.{is_alone, is_busy, is_at_step, next_action, next_met}
 use Rattle.interleaving_core.specs.TransferLaws.{next_step, announced_count, moves_transfer, ShowsState, LeavesContent, AppliesPending}
 use Rattle.interleaving_core.specs.TransferLaws.{IsExchange, ContentMoves}
 use Rattle.interleaving_core.proofs.Holds.{step_allowed}
@@ -79,7 +79,7 @@ calling_exchanges call v false at = started_exchanges call v v.calls.stage at
 
 turning_exchanges : (turn : Turn) (s : CoreState) → IsExchange (turning_view turn s).transfer.next → IsExchange (next_step s (by_of turn))
 turning_exchanges (Moves by wish) s at = moving_exchanges wish (view_at s by) (is_rest (view_at s by).transfer.next) at
-turning_exchanges (Events by call) s at = calling_exchanges call (view_at s by) (is_in_call (view_at s by).calls.stage) at
+turning_exchanges (Events by call) s at = calling_exchanges call (view_at s by) (is_at_step (view_at s by).calls.stage) at
 
 due_age : (wish : Option Wish) (v : ProcessView) → (begun_if_due wish v).transfer.age ≡ v.transfer.age
 due_age None v = refl
@@ -112,7 +112,7 @@ calling_age call v false = started_age call v v.calls.stage
 
 turning_age : (turn : Turn) (s : CoreState) → (turning_view turn s).transfer.age ≡ announced_count s (by_of turn)
 turning_age (Moves by wish) s = moving_age wish (view_at s by) (is_rest (view_at s by).transfer.next)
-turning_age (Events by call) s = calling_age call (view_at s by) (is_in_call (view_at s by).calls.stage)
+turning_age (Events by call) s = calling_age call (view_at s by) (is_at_step (view_at s by).calls.stage)
 
 ages_of : (sizes : Sizes) (xs : List ProcessView) (i : ℕ) (v : ProcessView) → i < length xs
     → v.transfer.age ≡ (get_or xs i (opening_view sizes i)).transfer.age → (o : ℕ)
@@ -131,7 +131,8 @@ moves_action sizes v false Choosing alone here moves = absurd (false≢true (rw 
 moves_action sizes v false Moving alone here moves = rw (alone, here) refl
 moves_action sizes v false Own alone here moves = absurd (false≢true (rw (alone, here) at moves))
 
-pub moves_met : (sizes : Sizes) (v : ProcessView) (word : ℕ) (t : Bool) (stage : CallStage) → is_alone v.calls.way ≡ t → v.calls.stage ≡ stage
+pub moves_met : (sizes : Sizes) (v : ProcessView) (word : ℕ) (t : Bool) (stage : CallStage) → is_alone v.calls.way ≡ t
+    → v.calls.stage ≡ stage
     → moves_transfer v ≡ true → (next_met sizes v word).transfer ≡ met_of sizes v.transfer word
 moves_met sizes v word true stage alone here moves = rw alone refl
 moves_met sizes v word false Between alone here moves = absurd (false≢true (rw (alone, here) at moves))

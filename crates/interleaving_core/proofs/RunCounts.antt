@@ -34,7 +34,7 @@ use Rattle.call_invariant.proofs.Uses.{calls_used, due_begins}
 use Rattle.interleaving_core.specs.Moves.{CoreState, view_at, with_step, started_at, started}
 use Rattle.transfer_schedule.specs.Numbers.{is_idle}
 use Rattle.interleaving_core.specs.Runs.{Turn, Moves, Events, by_of, is_made, turning_view, after_turn}
-use Rattle.interleaving_core.specs.Steps.{is_alone, is_busy, is_in_call, next_action, next_met}
+use Rattle.interleaving_core.specs.Steps.{is_alone, is_busy, is_at_step, next_action, next_met}
 use Rattle.interleaving_core.specs.TransferLaws.{rests, steps_made, moves_at, moves_transfer, is_step_of, StepsBounded, TransfersAreBounded}
 use Rattle.interleaving_core.specs.TransferLaws.{StepsCount}
 use Rattle.interleaving_core.proofs.Joins.{given, keeps}
@@ -186,7 +186,7 @@ turning_steps s history (Events by call) fits made =
     let (ghosts, h) = fits.meets in
     let pool = keeps s.sizes (word_at s.sizes s.words) (view_at s) history ghosts by fits.shape li h in
     let none = (bounded s history by fits li).none in
-    calling_steps call v (is_in_call v.calls.stage) (λ w e. none (ap is_rest (due_begins s.sizes v w pool e).0))
+    calling_steps call v (is_at_step v.calls.stage) (λ w e. none (ap is_rest (due_begins s.sizes v w pool e).0))
 
 -- a turn of a process
 made_counts : (s : CoreState) (history : List Entry) (turn : Turn) → RunFits s history → is_made turn s ≡ true

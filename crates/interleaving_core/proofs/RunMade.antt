@@ -15,7 +15,7 @@ use Rattle.pool_machine.specs.Beginning.{alone_begun}
 use Rattle.pool_machine.specs.Conditions.{may_use_transfers}
 use Rattle.interleaving_core.specs.Moves.{view_at, may_wish, moving_view, calling_view}
 use Rattle.interleaving_core.specs.Runs.{Moves, Events, is_made}
-use Rattle.interleaving_core.specs.Steps.{is_alone, is_busy, is_in_call}
+use Rattle.interleaving_core.specs.Steps.{is_alone, is_busy, is_at_step}
 use Rattle.interleaving_core.specs.TransferLaws.{moves_at, moves_transfer, RunsMakeSteps}
 use Rattle.interleaving_core.proofs.Standing.{fresh_rests, alone_between}
 use Rattle.interleaving_core.proofs.Runs.{run_fits}
@@ -38,18 +38,18 @@ both a b e f = rw (e, f) refl
 
 -- a process in a call goes on with it
 calling_at : (call : Call) (v : ProcessView) (way : Way) (stage : CallStage) → v.calls.way ≡ way
-    → (way ≡ Alone → is_in_call v.calls.stage ≡ false) → v.calls.stage ≡ stage → is_in_call stage ≡ true
+    → (way ≡ Alone → is_at_step v.calls.stage ≡ false) → v.calls.stage ≡ stage → is_at_step stage ≡ true
     → moves_transfer (calling_view call v) ≡ moves_at stage
 calling_at call v Fresh stage e alone here inside = rw (here, inside, e) refl
 calling_at call v Alone stage e alone here inside =
-    let h = alone refl in let outside : is_in_call stage ≡ false = rw here at h in grind arith
+    let h = alone refl in let outside : is_at_step stage ≡ false = rw here at h in grind arith
 calling_at call v Calls stage e alone here inside = rw (here, inside, e) refl
 
-calls_busy : (v : ProcessView) (way : Way) (stage : CallStage) → v.calls.way ≡ way → (way ≡ Alone → is_in_call v.calls.stage ≡ false)
-    → v.calls.stage ≡ stage → is_in_call stage ≡ true
+calls_busy : (v : ProcessView) (way : Way) (stage : CallStage) → v.calls.way ≡ way → (way ≡ Alone → is_at_step v.calls.stage ≡ false)
+    → v.calls.stage ≡ stage → is_at_step stage ≡ true
     → (is_alone v.calls.way ≡ false) × (is_busy v ≡ true)
 calls_busy v Fresh stage e alone here inside = rw e (refl, rw here inside)
-calls_busy v Alone stage e alone here inside = let h = alone refl in let outside : is_in_call stage ≡ false = rw here at h in grind arith
+calls_busy v Alone stage e alone here inside = let h = alone refl in let outside : is_at_step stage ≡ false = rw here at h in grind arith
 calls_busy v Calls stage e alone here inside = rw e (refl, rw here inside)
 
 none_second : (a b : Bool) → b ≡ false → (a && b) ≡ false

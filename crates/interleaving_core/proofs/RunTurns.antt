@@ -14,7 +14,7 @@ use Rattle.pool_machine.specs.declared.call.Way.{Way}
 use Rattle.pool_machine.specs.declared.call.Way.TheVariants.{Fresh, Alone, Calls}
 use Rattle.pool_machine.specs.declared.view.ProcessView.{ProcessView}
 use Rattle.pool_machine.specs.Conditions.{may_use_transfers}
-use Rattle.interleaving_core.specs.Steps.{is_alone, is_in_call, next_action, next_met}
+use Rattle.interleaving_core.specs.Steps.{is_alone, is_at_step, next_action, next_met}
 use Rattle.interleaving_core.specs.Moves.{CoreState, view_at, with_step, may_wish, holds_for, may_start_at}
 use Rattle.interleaving_core.specs.Runs.{IsRun, Turn, by_of, is_made, turning_view, after_turn, turn_answer, entries_of, opens, turns}
 use Rattle.interleaving_core.specs.Runs.{opened}
@@ -118,12 +118,14 @@ pub busy_go_on : BusyProcessesGoOn
 busy_go_on s process low busy =
     let v = view_at s process in (
       λ alone wish. is_low process s.sizes.processes
-          (may_use_transfers v.calls.way && (not (is_rest v.transfer.next) || (nat_lt v.transfer.age (most_age s.sizes) && may_wish wish v.pool))) low
+          (may_use_transfers v.calls.way && (not (is_rest v.transfer.next) ||
+          (nat_lt v.transfer.age (most_age s.sizes) && may_wish wish v.pool))) low
           (moves_on v.calls.way (is_rest v.transfer.next) (nat_lt v.transfer.age (most_age s.sizes) && may_wish wish v.pool) alone
           (rw alone at busy)),
       λ calls call. is_low process s.sizes.processes
-          (is_in_call v.calls.stage || may_start_at v.calls.stage s.sizes (holds_for s.holders process call) call v) low
-          (goes_on (is_in_call v.calls.stage) (may_start_at v.calls.stage s.sizes (holds_for s.holders process call) call v) (rw calls at busy)),
+          (is_at_step v.calls.stage || may_start_at v.calls.stage s.sizes (holds_for s.holders process call) call v) low
+          (goes_on (is_at_step v.calls.stage) (may_start_at v.calls.stage s.sizes (holds_for s.holders process call) call v)
+          (rw calls at busy)),
     )
 
 -- the views after a turn

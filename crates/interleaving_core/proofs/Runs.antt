@@ -23,8 +23,9 @@ use Rattle.pool_machine.specs.declared.event.Happened.{Happened}
 use Rattle.pool_machine.specs.declared.event.Happened.TheVariants.{Ignored}
 use Rattle.interleaving_core.specs.Turned.{Turned}
 use Rattle.interleaving_core.specs.Invariant.{MeetsInvariant, IsAmong, IsAmongHolding, with_view}
-use Rattle.interleaving_core.specs.Steps.{is_busy, is_in_call, next_action, next_met}
-use Rattle.interleaving_core.specs.Moves.{CoreState, view_at, may_go_alone, moving_view, holds_for, may_go, started, calling_view, step_answer}
+use Rattle.interleaving_core.specs.Steps.{is_busy, is_at_step, next_action, next_met}
+use Rattle.interleaving_core.specs.Moves.{CoreState, view_at, may_go_alone, moving_view, holds_for}
+use Rattle.interleaving_core.specs.Moves.{may_go, started, calling_view, step_answer}
 use Rattle.interleaving_core.specs.Moves.{holder_of, with_step, holders_after}
 use Rattle.interleaving_core.specs.Runs.{Turn, Moves, Events, IsRun, opens, turns, opening_views, opened, by_of, is_made, turning_view}
 use Rattle.interleaving_core.specs.Runs.{after_turn, turn_answer, entries_of}
@@ -121,7 +122,7 @@ moving_meets s history i wish true fits li may rest =
 moving_meets s history i wish false fits li may rest = rw (set-get_or s.views i (opening_view s.sizes i)) fits.meets
 
 calling_meets : (s : CoreState) (history : List Entry) (i : ℕ) (call : Call) (t : Bool) → RunFits s history → i < s.sizes.processes
-    → may_go s.sizes (holds_for s.holders i call) call (view_at s i) ≡ true → is_in_call (view_at s i).calls.stage ≡ t
+    → may_go s.sizes (holds_for s.holders i call) call (view_at s i) ≡ true → is_at_step (view_at s i).calls.stage ≡ t
     → MeetsInvariant s.sizes s.words
     (λ o. get_or (set s.views i (if t then view_at s i else started call (view_at s i))) o (opening_view s.sizes o)) history
 calling_meets s history i call true fits li may inside = rw (set-get_or s.views i (opening_view s.sizes i)) fits.meets
@@ -138,7 +139,7 @@ turn_meets s history (Moves by wish) fits made li =
     moving_meets s history by wish (is_rest (view_at s by).transfer.next) fits li
     (both_may (nat_lt by s.sizes.processes) (may_go_alone s.sizes wish (view_at s by)) made) refl
 turn_meets s history (Events by call) fits made li =
-    calling_meets s history by call (is_in_call (view_at s by).calls.stage) fits li (both_may (nat_lt by s.sizes.processes) _ made) refl
+    calling_meets s history by call (is_at_step (view_at s by).calls.stage) fits li (both_may (nat_lt by s.sizes.processes) _ made) refl
 
 pub turn_busy : (s : CoreState) (history : List Entry) (turn : Turn) → RunFits s history → is_made turn s ≡ true
     → by_of turn < s.sizes.processes → is_busy (turning_view turn s) ≡ true
@@ -150,7 +151,7 @@ turn_busy s history (Moves by wish) fits made li =
     (first_may (may_use_transfers v.calls.way) _ may)
 turn_busy s history (Events by call) fits made li =
     let v = view_at s by in
-    calling_busy call v v.calls.way (is_in_call v.calls.stage) refl
+    calling_busy call v v.calls.way (is_at_step v.calls.stage) refl
     (alone_between s.sizes (word_at s.sizes s.words) (view_at s) history by li fits.meets) refl
 
 pub turn_low : (s : CoreState) (turn : Turn) → is_made turn s ≡ true → by_of turn < s.sizes.processes
@@ -335,7 +336,8 @@ turned_answer s now turn b words seats happened same can holds turned =
     rw (sym same) (rw made turned.answers)
 
 -- a process among the others that turns has a next step
-pub moving_next : (sizes : Sizes) (table : List ℕ) (v : ProcessView) (wish : Wish) → may_go_alone sizes wish v ≡ true → IsAmong sizes table v
+pub moving_next : (sizes : Sizes) (table : List ℕ) (v : ProcessView) (wish : Wish) → may_go_alone sizes wish v ≡ true
+    → IsAmong sizes table v
     → is_busy (moving_view wish v) ≡ true
 moving_next sizes table v wish may among =
     let here = with_view_here v among.others in
@@ -347,7 +349,7 @@ pub calling_next : (sizes : Sizes) (table : List ℕ) (v : ProcessView) (call : 
 calling_next sizes table v call among =
     let here = with_view_here v among.others in
     let alone = alone_between sizes (word_at sizes table) (with_view v among.others) among.past v.transfer.number among.low among.meets in
-    calling_busy call v v.calls.way (is_in_call v.calls.stage) refl (rw here at alone) refl
+    calling_busy call v v.calls.way (is_at_step v.calls.stage) refl (rw here at alone) refl
 
 -- whether a process of the shape moves, or goes on with a call
 is_low : (a b : ℕ) → a < b → nat_lt a b ≡ true

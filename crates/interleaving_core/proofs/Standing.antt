@@ -30,7 +30,7 @@ use Rattle.call_invariant.proofs.Uses.{calls_can_begin, calls_used, transfers_us
 use Rattle.interleaving_core.proofs.Joins.{transfers, keeps}
 use Rattle.interleaving_core.specs.Invariant.{Ghosts, Holds, Meets, held_in}
 use Rattle.interleaving_core.specs.Moves.{may_wish}
-use Rattle.interleaving_core.specs.Steps.{is_alone, is_in_call}
+use Rattle.interleaving_core.specs.Steps.{is_alone, is_at_step}
 
 -- the view of a process has its number
 pub numbered : (sizes : Sizes) (words : Words) (views : ProcessViews) (history : List Entry) (ghosts : Ghosts) (i : ℕ) → i < sizes.processes
@@ -60,9 +60,9 @@ fresh_rests sizes words views history i li (ghosts, h) fresh =
 
 pub alone_between : (sizes : Sizes) (words : Words) (views : ProcessViews) (history : List Entry) (i : ℕ) → i < sizes.processes
     → Meets sizes words views history → (views i).calls.way ≡ Alone
-    → is_in_call (views i).calls.stage ≡ false
+    → is_at_step (views i).calls.stage ≡ false
 alone_between sizes words views history i li (ghosts, h) alone =
-    ap is_in_call (transfers_used sizes i (views i) (ghosts.ledgers i) (views i).calls.way alone (h.pools i li)).stage
+    ap is_at_step (transfers_used sizes i (views i) (ghosts.ledgers i) (views i).calls.way alone (h.pools i li)).stage
 
 pub alone_stage : (sizes : Sizes) (words : Words) (views : ProcessViews) (history : List Entry) (i : ℕ) → i < sizes.processes
     → Meets sizes words views history → (views i).calls.way ≡ Alone → (views i).calls.stage ≡ Between
@@ -155,7 +155,8 @@ young_by sizes (Read block index) v e = tt
 young_by sizes (Write block index value) v e = tt
 young_by sizes Search v e = less v.transfer.age (most_age sizes) e
 
-pub call_young : (sizes : Sizes) (holds : Bool) (call : Call) (v : ProcessView) → may_call sizes holds call v ≡ true → IsYoungFor sizes call v
+pub call_young : (sizes : Sizes) (holds : Bool) (call : Call) (v : ProcessView) → may_call sizes holds call v ≡ true
+    → IsYoungFor sizes call v
 call_young sizes holds call v may =
     young_by sizes call v (both_first (is_young_for sizes call v) (names_fit sizes holds call) (call_rest sizes holds call v may))
 

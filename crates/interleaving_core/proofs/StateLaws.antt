@@ -149,7 +149,8 @@ in_calls_gives : (sizes : Sizes) (i : ℕ) (v : ProcessView) (g : Ledger) → In
 in_calls_gives sizes i v g h s giving =
     let stands = reached_stands sizes.length (transfer_bound sizes) sizes.quantum g.account s.fit s.reached in
     let pending = ap (λ p. p.pending) h.plan ∙ giving_is v.pool.plan.pending giving in
-    subst (λ (p : Numbers). 0 < stock p) h.plan (more_than_none _ _ (stands_gives g.account stands (rw h.phase (call_serves v.calls v.calls.stage)) pending))
+    subst (λ (p : Numbers). 0 < stock p) h.plan (more_than_none _ _
+    (stands_gives g.account stands (rw h.phase (call_serves v.calls v.calls.stage)) pending))
 
 alone_has : (sizes : Sizes) (i : ℕ) (v : ProcessView) (g : Ledger) → InTransfers sizes i v g → 2 ≤ sizes.length → 0 < stock v.pool.plan
 alone_has sizes i v g h long = let full = h.pool.alone.full.full in omega (arith, full, long)

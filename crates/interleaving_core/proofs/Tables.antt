@@ -38,7 +38,7 @@ use Rattle.pool_machine.specs.Steps.{call_action_at, call_met_at, call_action, c
 use Rattle.interleaving_core.specs.Invariant.{MeetsInvariant, IsAmong, IsAmongHolding, with_view}
 use Rattle.interleaving_core.specs.Moves.{may_wish, may_go_alone, moving_view, may_go, started_at, started, calling_view}
 use Rattle.interleaving_core.specs.Runs.{entries_of}
-use Rattle.interleaving_core.specs.Steps.{is_alone, is_busy, is_in_call, next_action, next_met, next_answer}
+use Rattle.interleaving_core.specs.Steps.{is_alone, is_busy, is_at_step, next_action, next_met, next_answer}
 use Rattle.interleaving_core.proofs.Begins.{alone_begins, call_starts}
 use Rattle.interleaving_core.proofs.Holds.{StepAllowed, step_allowed, step_holds}
 use Rattle.interleaving_core.proofs.Standing.{rests_idle, wish_fits, call_can_begin}
@@ -262,7 +262,7 @@ either_may false b e h = h
 
 -- the view that goes on with a call
 calling_among : (sizes : Sizes) (table : List ℕ) (v : ProcessView) (call : Call) (holds t : Bool) → IsShape sizes
-    → is_in_call v.calls.stage ≡ t → may_go sizes holds call v ≡ true → IsAmongHolding sizes table v holds call
+    → is_at_step v.calls.stage ≡ t → may_go sizes holds call v ≡ true → IsAmongHolding sizes table v holds call
     → IsAmong sizes table (if t then v else started call v)
 calling_among sizes table v call holds true shape inside may h = h.among
 calling_among sizes table v call holds false shape inside may h =
@@ -282,7 +282,7 @@ calling_among sizes table v call holds false shape inside may h =
 
 pub among_calling : (sizes : Sizes) (table : List ℕ) (v : ProcessView) (call : Call) (holds : Bool) → IsShape sizes
     → may_go sizes holds call v ≡ true → IsAmongHolding sizes table v holds call → IsAmong sizes table (calling_view call v)
-among_calling sizes table v call holds shape may h = calling_among sizes table v call holds (is_in_call v.calls.stage) shape refl may h
+among_calling sizes table v call holds shape may h = calling_among sizes table v call holds (is_at_step v.calls.stage) shape refl may h
 
 -- the step of a process on a table, by its way
 pub alone_met : (sizes : Sizes) (table : List ℕ) (v : ProcessView) → is_alone v.calls.way ≡ true

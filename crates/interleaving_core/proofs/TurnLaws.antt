@@ -27,10 +27,10 @@ use Rattle.pool_machine.specs.Steps.{happened, is_paced, stage_after, call_met_a
 use Rattle.transfer_schedule.specs.Numbers.{is_idle}
 use Rattle.transfer_invariant.specs.Memory.{Acted}
 use Rattle.batch_invariant.specs.Batches.{ProcessViews}
-use Rattle.interleaving_core.specs.CallLaws.{is_within}
+use Rattle.interleaving_core.specs.CallLaws.{is_in_call}
 use Rattle.interleaving_core.specs.Moves.{CoreState, view_at, calling_view}
 use Rattle.interleaving_core.specs.Runs.{Turn, Moves, Events, by_of, is_made, turning_view, after_turn, turn_answer}
-use Rattle.interleaving_core.specs.Steps.{is_in_call, next_action, next_met}
+use Rattle.interleaving_core.specs.Steps.{is_at_step, next_action, next_met}
 use Rattle.interleaving_core.specs.TransferLaws.{rests}
 use Rattle.interleaving_core.specs.TurnLaws as laws
 use Rattle.interleaving_core.specs.TurnLaws.{IsAllocated, IsAnswerTo, GoesOn, HasEnded, MakesCall, HasBegunAlone, SetsOut, MakesStep}
@@ -57,16 +57,16 @@ own_answers i v word (Write block index value) e = refl
 own_answers i v word Search e = allocate_answers i v.transfer.number (next_block v.pool) e
 
 -- a step of its transfer goes on with it
-either_within : (t : Bool) (a b : CallStage) → is_within a ≡ true → is_within b ≡ true → is_within (if t then a else b) ≡ true
+either_within : (t : Bool) (a b : CallStage) → is_in_call a ≡ true → is_in_call b ≡ true → is_in_call (if t then a else b) ≡ true
 either_within true a b x y = x
 either_within false a b x y = y
 
-moves_within : (paced chosen : Bool) (quantum steps : ℕ) (next : NextStep) → is_within (stage_after paced chosen quantum steps next) ≡ true
+moves_within : (paced chosen : Bool) (quantum steps : ℕ) (next : NextStep) → is_in_call (stage_after paced chosen quantum steps next) ≡ true
 moves_within true chosen quantum steps next = either_within (is_rest next || (steps + 1 == quantum)) Own Moving refl refl
 moves_within false chosen quantum steps next =
     either_within (is_rest next) (if chosen then Own else Choosing) Moving (either_within chosen Own Choosing refl refl) refl
 
-step_makes : (sizes : Sizes) (i : ℕ) (v : ProcessView) (word : ℕ) (call : Call) (stage : CallStage) → is_in_call stage ≡ true
+step_makes : (sizes : Sizes) (i : ℕ) (v : ProcessView) (word : ℕ) (call : Call) (stage : CallStage) → is_at_step stage ≡ true
     → v.calls.call ≡ Some call → v.transfer.number ≡ i
     → MakesCall call i (call_answer_at v word stage) (call_met_at sizes v word stage)
 step_makes sizes i v word call Between inside same number = absurd (grind arith)
@@ -130,7 +130,7 @@ pub calls_begin_as_asked : laws.CallsBeginAsAsked
 calls_begin_as_asked = every_run _ begins_here
 
 -- and stays the same
-goes_with : (asked : Call) (v : ProcessView) (stage : CallStage) → v.calls.stage ≡ stage → is_within stage ≡ true
+goes_with : (asked : Call) (v : ProcessView) (stage : CallStage) → v.calls.stage ≡ stage → is_in_call stage ≡ true
     → (v.calls.stage ≡ Choosing → v.calls.call ≡ Some Search) → (calling_view asked v).calls.call ≡ v.calls.call
 goes_with asked v Between e within searches = cc
 goes_with asked v Choosing e within searches = rw e (sym (searches e))
@@ -138,7 +138,7 @@ goes_with asked v Moving e within searches = rw e refl
 goes_with asked v Own e within searches = rw e refl
 
 stays_here : (history : List Entry) (s : CoreState) → RunFits s history → (turn : Turn) (call : Call) → by_of turn < s.sizes.processes
-    → is_within (view_at s (by_of turn)).calls.stage ≡ true
+    → is_in_call (view_at s (by_of turn)).calls.stage ≡ true
     → (view_at s (by_of turn)).calls.call ≡ Some call
     → MakesCall call (by_of turn) (turn_answer turn s) (view_at (after_turn turn s) (by_of turn))
 stays_here history s fits (Moves i wish) call li within same =
@@ -159,7 +159,8 @@ pub calls_stay : laws.CallsStay
 calls_stay = every_run _ stays_here
 
 -- the step of a view that has begun a transfer alone announces it
-pending_begun : (wish : Wish) (v : ProcessView) (word : ℕ) → (pool_met_at word (alone_begun wish v).pool Announce).plan.pending ≡ pending_of wish
+pending_begun : (wish : Wish) (v : ProcessView) (word : ℕ)
+    → (pool_met_at word (alone_begun wish v).pool Announce).plan.pending ≡ pending_of wish
 pending_begun Take v word = refl
 pending_begun (Give head) v word = refl
 
@@ -182,15 +183,21 @@ alone_here history s fits i wish rest made =
     (word_at s.sizes (acted s.sizes s.words (next_action s.sizes v)))) first (turn_acts s history turn fits made) in
     let words : (after_turn turn s).words ≡ acted s.sizes s.words (next_action s.sizes begun) =
     rw made (ap (λ (v : ProcessView). acted s.sizes s.words (next_action s.sizes v)) first) in
-    let told : word_at s.sizes (after_turn turn s).words (Announcement i) ≡ announced_word (record { number = old.transfer.age + 1; wish = wish }) =
+    let told : word_at s.sizes (after_turn turn s).words (Announcement i) ≡ announced_word
+    (record { number = old.transfer.age + 1; wish = wish }) =
     ap (λ (all : List ℕ). word_at s.sizes all (Announcement i)) words
     ∙ (ap (λ (n : ℕ). word_at s.sizes (acted s.sizes s.words (next_action s.sizes begun)) (Announcement n)) (sym number) ∙ acts.here) in
     record {
       goes = ap (λ (v : ProcessView). is_rest v.transfer.next) after;
       wishes = ap (λ (v : ProcessView). v.transfer.wish) after;
       way = ap (λ (v : ProcessView). v.calls.way) after;
-      pending = ap (λ (v : ProcessView). v.pool.plan.pending) after ∙ pending_begun wish old (met_word s.sizes s.words (next_action s.sizes begun));
-      told = ap (λ (z : Sizes). word_at z (after_turn turn s).words (Announcement i)) (turn_sizes turn s) ∙ (told ∙ ap (λ (n : ℕ). announced_word (record { number = n; wish = wish })) (sym (ap (λ (v : ProcessView). v.transfer.age) after)));
+      pending =
+          ap (λ (v : ProcessView). v.pool.plan.pending) after ∙ pending_begun wish old
+          (met_word s.sizes s.words (next_action s.sizes begun));
+      told =
+          ap (λ (z : Sizes). word_at z (after_turn turn s).words (Announcement i)) (turn_sizes turn s)
+          ∙ (told ∙ ap (λ (n : ℕ). announced_word (record { number = n; wish = wish }))
+          (sym (ap (λ (v : ProcessView). v.transfer.age) after)));
     }
 
 pub transfers_begin_as_asked : laws.TransfersBeginAsAsked

@@ -12,7 +12,7 @@ use Rattle.call_invariant.specs.Phases.{changes_pool}
 use Rattle.pool_machine.specs.Steps.{is_paced}
 use Rattle.interleaving_core.specs.Invariant.{BlockIsHeld}
 use Rattle.interleaving_core.specs.Moves.{may_go, may_go_alone}
-use Rattle.interleaving_core.specs.Steps.{is_in_call}
+use Rattle.interleaving_core.specs.Steps.{is_at_step}
 
 -- a process may make its next step alone: it goes on with its transfer, or may begin one with this wish
 abbrev pub MayStepAlone : Sizes → Wish → ProcessView → Type 0
@@ -32,13 +32,13 @@ steps_at calls Own = calls.steps
 
 -- a process that holds these blocks makes steps of a transfer in this call
 pub record MovesInCall (sizes : Sizes) (held : List ℕ) (call : Call) (v : ProcessView) : Type 0 where
-  -- the call is an allocate or a free
+  -- the call is an allocate, a free or a search
   pub changes : changes_pool (Some call) ≡ true
   -- the process has begun no transfer alone, and may make the step: so it holds the block that the call names
   pub way : may_use_calls v.calls.way ≡ true
   pub may : MayStepInCall sizes held call v
   -- where it is in one, it is in this one
-  pub own : is_in_call v.calls.stage ≡ true → v.calls.call ≡ Some call
+  pub own : is_at_step v.calls.stage ≡ true → v.calls.call ≡ Some call
   -- it has made fewer than a quantum of steps in it
   pub few : is_paced (Some call) ≡ true → steps_at v.calls v.calls.stage < sizes.quantum
 

@@ -1,5 +1,6 @@
 -- laws of calls over every run
-use Rattle.std.specs.Prelude.{◌≡◌, ◌≢◌, ℕ, ◌+◌, ◌*◌, ◌-◌, ◌<◌, ◌≤◌, ◌↔◌, Bool, true, false, Some, List, ◌++◌, length, slice_get, take, Contains}
+use Rattle.std.specs.Prelude.{◌≡◌, ◌≢◌, ℕ, ◌+◌, ◌*◌, ◌-◌, ◌<◌, ◌≤◌, ◌↔◌, Bool, true, false}
+use Rattle.std.specs.Prelude.{Some, List, ◌++◌, length, slice_get, take, Contains}
 use Rattle.word_layout.specs.Sizes.{Sizes, blocks, transfer_bound, limits_of}
 use Rattle.word_layout.specs.Names.{word_at}
 use Rattle.word_layout.specs.declared.announced.Wish.{Wish}
@@ -110,17 +111,17 @@ steps_left sizes v =
     left_at (is_paced v.calls.call) v.calls.chosen sizes.quantum (transfer_bound sizes) v.calls.steps v.pool.plan.done v.calls.stage
 
 -- whether a process is in the middle of a call
-abbrev pub is_within : CallStage → Bool
-is_within Between = false
-is_within Choosing = true
-is_within Moving = true
-is_within Own = true
+abbrev pub is_in_call : CallStage → Bool
+is_in_call Between = false
+is_in_call Choosing = true
+is_in_call Moving = true
+is_in_call Own = true
 
 -- process i goes on with one call from one state to another, in any turns of all, of which so many are steps of that call
 pub data GoesOnWith (i : ℕ) : ℕ → CoreState → CoreState → Type 0 where
   starts : (s : CoreState) → GoesOnWith i 0 s s
   steps : (n : ℕ) (s t : CoreState) (call : Call) → GoesOnWith i n s t
-      → is_within (view_at t i).calls.stage ≡ true
+      → is_in_call (view_at t i).calls.stage ≡ true
       → GoesOnWith i (n + 1) s (after_turn (Events i call) t)
   others : (n : ℕ) (s t : CoreState) (turn : Turn) → GoesOnWith i n s t
       → by_of turn ≢ i
@@ -177,7 +178,8 @@ pub record EndsByAccount (sizes : Sizes) (mine : List Entry) (v : ProcessView) :
   pub counts : CountsEntries account mine
   pub plan : account.plan ≡ v.pool.plan
   pub phase : account.phase ≡ call_phase v
-  pub since : v.calls.stage ≡ Moving → is_paced v.calls.call ≡ true → v.pool.plan.done ≡ sizes.quantum * (length mine - account.begun) + v.calls.steps
+  pub since : v.calls.stage ≡ Moving → is_paced v.calls.call ≡ true
+      → v.pool.plan.done ≡ sizes.quantum * (length mine - account.begun) + v.calls.steps
   pub young : v.pool.plan.pending ≢ Idle → length mine < account.begun + sizes.length
 
 -- a transfer of a process that makes calls is pending in fewer than `length` calls after the one that began it

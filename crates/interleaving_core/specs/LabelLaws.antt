@@ -83,7 +83,8 @@ OwnKindFits v K13 action = (block : ℕ) × (v.calls.call ≡ Some (Free block))
 OwnKindFits v K14 action = ((word : ℕ) → own_answer v word ≡ Recorded (Dry v.transfer.number)) × Loads State action
 OwnKindFits v K15 action = (block : ℕ) × ((place : ℕ) × (v.calls.call ≡ Some (Read block place)) × Loads (Data block place) action)
 OwnKindFits v K16 action =
-    (block : ℕ) × ((place : ℕ) × ((value : ℕ) × (v.calls.call ≡ Some (Write block place value)) × (action ≡ Store (Data block place) value)))
+    (block : ℕ) × ((place : ℕ) × ((value : ℕ) × (v.calls.call ≡ Some (Write block place value))
+    × (action ≡ Store (Data block place) value)))
 OwnKindFits v K19 action = (v.calls.call ≡ None) × Loads State action
 OwnKindFits v kind action = ⊥
 

@@ -22,7 +22,7 @@ use Rattle.pool_machine.specs.declared.call.CallStage.TheVariants.{Choosing}
 use Rattle.pool_machine.specs.Conditions.{may_call, may_use_transfers}
 use Rattle.pool_machine.specs.declared.event.Happened.{Happened}
 use Rattle.pool_machine.specs.declared.event.Happened.TheVariants.{Step, Ended, Loaded, Stored, Ignored}
-use Rattle.interleaving_core.specs.Steps.{is_in_call, next_action, next_met, next_answer}
+use Rattle.interleaving_core.specs.Steps.{is_at_step, next_action, next_met, next_answer}
 
 -- the words of the table, the views of all processes, and who holds each block, of one shape
 pub record CoreState : Type 0 where
@@ -107,8 +107,8 @@ started call v = started_at v.calls.stage call v
 
 -- whether a process goes on with its call, or may begin this one
 abbrev pub may_go : Sizes → Bool → Call → ProcessView → Bool
-may_go sizes holds call v = is_in_call v.calls.stage || may_start_at v.calls.stage sizes holds call v
+may_go sizes holds call v = is_at_step v.calls.stage || may_start_at v.calls.stage sizes holds call v
 
 -- its view before that step
 abbrev pub calling_view : Call → ProcessView → ProcessView
-calling_view call v = if is_in_call v.calls.stage then v else started call v
+calling_view call v = if is_at_step v.calls.stage then v else started call v

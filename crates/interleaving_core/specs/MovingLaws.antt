@@ -11,8 +11,6 @@ use Rattle.pool_machine.specs.Beginning.{newest}
 use Rattle.pool_machine.specs.declared.call.Way.TheVariants.{Alone, Calls}
 use Rattle.pool_machine.specs.Conditions.{IsYoungFor}
 use Rattle.pool_machine.specs.Laws.{most_moves}
-use Rattle.pool_machine.specs.declared.event.Happened.{Happened}
-use Rattle.pool_machine.specs.declared.event.Happened.TheVariants.{Step, Ended, Loaded, Stored, Ignored}
 use Rattle.interleaving_core.specs.CallLaws.{answers_call, EveryRun}
 use Rattle.interleaving_core.specs.Moves.{CoreState, view_at, holder_of, is_holder}
 use Rattle.interleaving_core.specs.Runs.{Turn, Moves, Events, is_made, after_turn, turn_answer}

@@ -23,15 +23,15 @@ is_alone Alone = true
 is_alone Calls = false
 
 -- whether it is in a call and has begun its next step: a search that is to choose has not
-abbrev pub is_in_call : CallStage → Bool
-is_in_call Between = false
-is_in_call Choosing = false
-is_in_call Moving = true
-is_in_call Own = true
+abbrev pub is_at_step : CallStage → Bool
+is_at_step Between = false
+is_at_step Choosing = false
+is_at_step Moving = true
+is_at_step Own = true
 
 -- whether it has a next step: it is in a transfer alone, or in a call
 abbrev pub is_busy : ProcessView → Bool
-is_busy v = if is_alone v.calls.way then not (is_rest v.transfer.next) else is_in_call v.calls.stage
+is_busy v = if is_alone v.calls.way then not (is_rest v.transfer.next) else is_at_step v.calls.stage
 
 -- what a process does next, and to which word
 abbrev pub next_action : Sizes → ProcessView → Action

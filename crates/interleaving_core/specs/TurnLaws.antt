@@ -16,11 +16,13 @@ use Rattle.pool_machine.specs.declared.call.Way.TheVariants.{Alone}
 use Rattle.pool_machine.specs.declared.event.Happened.{Happened}
 use Rattle.pool_machine.specs.declared.event.Happened.TheVariants.{Ended, Loaded, Stored, Ignored}
 use Rattle.pool_machine.specs.declared.view.ProcessView.{ProcessView}
-use Rattle.interleaving_core.specs.CallLaws.{EveryRun, is_within}
+use Rattle.pool_machine.specs.Laws.{most_moves}
+use Rattle.interleaving_core.specs.MovingLaws.{events_of}
+use Rattle.interleaving_core.specs.CallLaws.{EveryRun, is_in_call}
 use Rattle.interleaving_core.specs.CallLaws.{answers_call}
 use Rattle.interleaving_core.specs.Moves.{CoreState, view_at, holders_after}
 use Rattle.interleaving_core.specs.Runs.{Turn, Moves, Events, by_of, is_made, after_turn, turn_answer}
-use Rattle.interleaving_core.specs.Steps.{is_in_call, next_action, next_met, next_answer}
+use Rattle.interleaving_core.specs.Steps.{is_at_step, next_action, next_met, next_answer}
 use Rattle.interleaving_core.specs.TransferLaws.{rests, announced_count, announcement_of}
 
 -- an allocate or a search of process i is answered with a block, or that it gets none
@@ -37,7 +39,7 @@ IsAnswerTo Search i answer = IsAllocated i answer
 
 -- a process is in the middle of this call, which isn't answered yet
 pub record GoesOn (call : Call) (answer : Happened) (v : ProcessView) : Type 0 where
-  pub within : is_within v.calls.stage ≡ true
+  pub within : is_in_call v.calls.stage ≡ true
   pub same : v.calls.call ≡ Some call
   pub silent : answers_call answer ≡ false
 
@@ -59,9 +61,23 @@ CallsBeginAsAsked = EveryRun (λ sizes history s. (i : ℕ) (call : Call) → (v
 -- in the middle of a call it goes on with that one, whatever its turns ask for, until one of them answers it
 abbrev pub CallsStay : Type 0
 CallsStay = EveryRun (λ sizes history s. (turn : Turn) (call : Call) → by_of turn < sizes.processes
-    → is_within (view_at s (by_of turn)).calls.stage ≡ true
+    → is_in_call (view_at s (by_of turn)).calls.stage ≡ true
     → (view_at s (by_of turn)).calls.call ≡ Some call
     → MakesCall call (by_of turn) (turn_answer turn s) (view_at (after_turn turn s) (by_of turn)))
+
+-- in these turns, made from that state on, process i goes on with this call until one of its turns answers it
+unfoldable pub IsAnsweredAs : Call → ℕ → List Turn → CoreState → Type 0
+IsAnsweredAs call i [] s = ⊥
+IsAnsweredAs call i (turn ∷ more) s =
+    (by_of turn ≡ i) × HasEnded call i (turn_answer turn s) (view_at (after_turn turn s) i)
+    ⊎ (by_of turn ≡ i → GoesOn call (turn_answer turn s) (view_at (after_turn turn s) i)) × IsAnsweredAs call i more (after_turn turn s)
+
+-- so a call is answered as it was asked for, in any turns that have enough of its process's: one more than its most steps of a transfer
+abbrev pub CallsAreAnsweredAsAsked : Type 0
+CallsAreAnsweredAsAsked = EveryRun (λ sizes history s. (i : ℕ) (call : Call) (more : List Turn) → (view_at s i).calls.stage ≡ Between
+    → is_made (Events i call) s ≡ true
+    → most_moves sizes call + 1 ≤ events_of i (Events i call ∷ more)
+    → IsAnsweredAs call i (Events i call ∷ more) s)
 
 -- process i is in a transfer alone with this wish, which its announcement tells
 pub record HasBegunAlone (wish : Wish) (i : ℕ) (s : CoreState) : Type 0 where
@@ -83,7 +99,7 @@ pub record SetsOutAlone (wish : Wish) (old v : ProcessView) : Type 0 where
 
 -- and in a call: between two calls with the call begun, and a search that is to choose once it has chosen
 pub record SetsOutInCall (call : Call) (old v : ProcessView) : Type 0 where
-  pub goes_on : is_in_call old.calls.stage ≡ true → v ≡ old
+  pub goes_on : is_at_step old.calls.stage ≡ true → v ≡ old
   pub chooses : old.calls.stage ≡ Choosing → v ≡ search_chosen old
   pub begins : old.calls.stage ≡ Between → v ≡ call_begun call old
 

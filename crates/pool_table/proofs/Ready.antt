@@ -19,7 +19,7 @@ use Rattle.interleaving_core.proofs.CallLawsShort.{started_calls}
 use Rattle.pool_machine.specs.declared.view.ProcessView.{ProcessView}
 use Rattle.interleaving_core.specs.Invariant.{BlockIsHeld}
 use Rattle.interleaving_core.specs.Moves.{may_go, calling_view, may_wish}
-use Rattle.interleaving_core.specs.Steps.{is_alone, is_in_call}
+use Rattle.interleaving_core.specs.Steps.{is_alone, is_at_step}
 use Rattle.interleaving_core.proofs.Busy.{begun_calls}
 use Rattle.interleaving_core.proofs.Standing.{rests_idle, wish_fits, call_can_begin}
 use Rattle.pool_table.specs.declared.about.About.TheVariants.{InCall}
@@ -64,7 +64,7 @@ call_can_step sizes call v e shape among may held = record { of_process = e; sha
 
 -- its way is that of calls, as it is in one or has begun one
 pub in_call_not_alone : (call : Call) (v : ProcessView) → v.calls.way ≢ Alone → is_alone (calling_view call v).calls.way ≡ false
-in_call_not_alone call v ne = by (is_in_call v.calls.stage)
+in_call_not_alone call v ne = by (is_at_step v.calls.stage)
   where
     not_alone : (way : Way) → way ≢ Alone → is_alone way ≡ false
     not_alone Fresh ne = refl

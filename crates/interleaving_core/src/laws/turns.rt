@@ -1,5 +1,5 @@
 //! A run begins what it is asked for: what a turn begins and makes, and how it is answered.
-ghost use Rattle.interleaving_core.specs.TurnLaws.{CallsBeginAsAsked, CallsStay, TransfersBeginAsAsked, TurnsMakeSteps, OtherTurnsAreIgnored, TransfersAloneEnd};
+ghost use Rattle.interleaving_core.specs.TurnLaws.{CallsBeginAsAsked, CallsStay, CallsAreAnsweredAsAsked, TransfersBeginAsAsked, TurnsMakeSteps, OtherTurnsAreIgnored, TransfersAloneEnd};
 
 /// A process between two calls begins the call that it is asked for, and goes on with that one until it is answered: an
 /// allocate and a search with a block or with none, a free with its block, each by its own process; a read with a word,
@@ -7,6 +7,7 @@ ghost use Rattle.interleaving_core.specs.TurnLaws.{CallsBeginAsAsked, CallsStay,
 pub fn calls_are_as_asked()
     ensures begin { CallsBeginAsAsked }
     ensures stay { CallsStay }
+    ensures answered { CallsAreAnsweredAsAsked }
 {}
 
 /// A process at rest that moves alone begins the transfer that it is asked for, and announces it.
