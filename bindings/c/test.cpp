@@ -53,7 +53,7 @@ static int moved() {
     CHECK(pool.size() == 2 && first.is_open() && !pool[0].is_open() && pool[0].allocate().status == LOSKEBRI_CLOSED);
     const loskebri_block got = first.allocate();
     CHECK(got.status == LOSKEBRI_DONE && first.write(got.block, 0, 5) == LOSKEBRI_DONE && first.read(got.block, 0).number == 5);
-    CHECK(pool[1].free(got.block) == LOSKEBRI_NOT_HELD && first.holding() == 1 && first.has_age() && first.age() == 0);
+    CHECK(pool[1].free(got.block) == LOSKEBRI_NOT_HELD && first.holding() == 1 && first.has_age() && first.age() <= 2);
     closed = std::move(first);
     CHECK(closed.free(got.block) == LOSKEBRI_DONE && !first.is_open());
     std::vector<loskebri::pass> passes = std::move(pool).take();

@@ -5,11 +5,12 @@ use seplogic.Ra.Ura.{Ura}
 use mir.Syntax.{impl, tnil, dnil}
 use mir.Val.{Val, vstruct, vcons, vnil, of_list}
 use base.Fraction.{full_share}
-use base.Logic.{ent, guard, guard_i, via, never, fst∗, snd∗}
+use base.Logic.{SProp, emp, ent, sep, guard, guard_i, via, never, fst∗, snd∗}
+use contract.Fact.{fact_i}
 use mir.Raw.{raw as bare}
-use contract.Monad.{fact_use}
+use contract.Monad.{fact, fact_use}
 use types.Logic.{Logic, sem}
-use types.Kit.{Item, Goal, Seq, Step, step, ‵, given, ◌$◌, use1, learn, move, drop, fsplit, fjoin, fpick, fpack, feq_i, feq_l}
+use types.Kit.{Item, Goal, Seq, Step, step, prop, ‵, raw, given, ◌$◌, !, qed, done, frame, use0, use1, learn, move, drop, fsplit, fjoin, fpick, fpack, feq_i, feq_l}
 use denote.RattleType.{RattleType, Valss}
 use denote.Builtin.{RawPtr}
 use denote.Memory.{lone}
@@ -71,3 +72,11 @@ module _ {M : Type 1} {𝓤 : Ura M} {𝓛 : Logic 𝓤} {K : Type 0} {Γ : List
   kept_cases t a p (Some x) none one =
       in_a_block t p (λ q. boxed a q x) (fst∗ 𝓤 (never 𝓤) (sem 𝓛 (ghosts.dealloc_token a (bare (lone (Member.the_row).mir)) null_ptr))) (λ b o e.
       use1 𝓛 (given (Testable (block_ptr b o)) (‵ (boxed a (block_ptr b o) x))) (tested 𝓛 a (block_ptr b o) x) $ learn t (λ ok. one b o x e refl ok))
+
+module _ {M : Type 1} {𝓤 : Ura M} {𝓛 : Logic 𝓤} {K : Type 0} {Γ : List (Item 𝓤)} where
+  -- two clauses beside each other
+  pub says_both : K → {φ ψ : Type 0} {P : SProp 𝓤} → φ → ψ → Step K 𝓛 Γ (prop P) Γ (prop (sep 𝓤 P (sep 𝓤 (fact 𝓤 φ) (fact 𝓤 ψ))))
+  says_both t {φ} {ψ} {P} x y = step (λ s. record {
+    prf = via 𝓤 P s.prf (qed 𝓛 (raw P ∷ []) {P = sep 𝓤 P (sep 𝓤 (fact 𝓤 φ) (fact 𝓤 ψ))} (
+        frame ! $ use0 𝓛 (raw (fact 𝓤 ψ)) (fact_i 𝓤 ψ (emp 𝓤) y) $ use0 𝓛 (raw (fact 𝓤 φ)) (fact_i 𝓤 φ (emp 𝓤) x) $ done !));
+  })

@@ -11,6 +11,10 @@ use Rattle.pool_member.specs.declared.member.WordFault.TheVariants as fault
 abbrev pub StaysClosed : Option Passed → Option Passed → ℕ → Type 0
 StaysClosed old new status = old ≡ None → (status ≡ 5) × (new ≡ None)
 
+-- with no block or number: 0
+abbrev pub StaysClosedAt0 : Option Passed → Option Passed → ℕ → ℕ → Type 0
+StaysClosedAt0 old new status number = old ≡ None → (status ≡ 5) × (number ≡ 0) × (new ≡ None)
+
 -- an allocate of an open handle, which stays open: status 0 with a block, 1 for a refusal, 4 where the pass is spent
 abbrev pub AllocateAnswered : Passed → Option Passed → ℕ → ℕ → Type 0
 AllocateAnswered old None status block = ⊥
@@ -46,6 +50,10 @@ WriteAnswered old None status block index value = ⊥
 WriteAnswered old (Some new) status block index value =
     ((status ≡ 0) × WritesWord block index value old new) ⊎ FaultAnswered old new status block index
 
--- a question: status 0 with this number, and the handle stays as it was
-abbrev pub Tells : ℕ → Option Passed → Option Passed → ℕ → ℕ → Type 0
-Tells told old new status number = (status ≡ 0) × (number ≡ told) × (new ≡ old)
+-- a question: status 0 with this number, and the pass stays as it was
+abbrev pub Tells : ℕ → Passed → Option Passed → ℕ → ℕ → Type 0
+Tells told old new status number = (status ≡ 0) × (number ≡ told) × (new ≡ Some old)
+
+-- a question whether this holds: status 0 with 1 where it does and 0 where it doesn't, and the pass stays as it was
+abbrev pub Says : Type 0 → Passed → Option Passed → ℕ → ℕ → Type 0
+Says told old new status number = (status ≡ 0) × (((number ≡ 1) × told) ⊎ ((number ≡ 0) × ¬ told)) × (new ≡ Some old)

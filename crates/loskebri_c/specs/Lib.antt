@@ -4,3 +4,4 @@ pub mod Kept
 pub mod Answers
 pub mod Described
 pub mod Filling
+pub mod Lending

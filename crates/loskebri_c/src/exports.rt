@@ -1,12 +1,14 @@
-// The calls of a pass. A handle is passed by `&mut`: C gives it to one call at a time.
+// The calls of a pass. A handle is passed by `&mut`: C gives it to one call at a time. No call but the closing one writes it.
 ghost use Rattle.std.specs.Prelude.{◌≡◌, Option, Some, None, length};
-ghost use Rattle.block_pool.specs.Passing.{Passed};
-ghost use Rattle.loskebri_c.specs.Answers.{AllocateAnswered, FreeAnswered, ReadAnswered, StaysClosed, Tells, WriteAnswered, status_of};
+ghost use Rattle.word_layout.specs.Packing.{most_age};
+ghost use Rattle.block_pool.specs.Passing.{HasAge, Passed};
+ghost use Rattle.loskebri_c.specs.Answers.{AllocateAnswered, FreeAnswered, ReadAnswered, Says, StaysClosed, StaysClosedAt0, Tells, WriteAnswered, status_of};
 
 use crate::handle::LoskebriPass;
 use crate::status::{CLOSED, DONE, DRY, NO_WORD, NOT_HELD, SPENT};
 use pool_member::{Freeing, Getting, Member, WordFault};
 use std::alloc::Global;
+use std::mem;
 
 /// How an allocate was answered, and the block where one was got.
 #[repr(C)]
@@ -59,32 +61,30 @@ fn no_number(status: u32) -> LoskebriNumber
 
 /// Gets a block that nobody holds.
 #[unsafe(no_mangle)]
-pub extern "C" fn loskebri_allocate(alloc: Global, pass: &mut LoskebriPass) -> LoskebriBlock
-    ensures closed { StaysClosed pass.old.member pass.new.member result.status }
+pub extern "C" fn loskebri_allocate(pass: &mut LoskebriPass) -> LoskebriBlock
+    ensures closed { StaysClosedAt0 pass.old.member pass.new.member result.status result.block }
     ensures open { (old : Passed) → pass.old.member ≡ Some old → AllocateAnswered old pass.new.member result.status result.block }
 {
-    let Some(member) = pass.take(alloc) else {
+    if pass.is_closed() {
         return LoskebriBlock {
             status: CLOSED,
             block: 0,
         };
-    };
+    }
+    let member = pass.member();
     if member.is_quiet() {
-        allocate(pass, member)
+        allocate(member)
     } else {
-        allocate_moving(pass, member)
+        allocate_moving(member)
     }
 }
 
-/// Gets a block by a member that was taken out of the handle, and puts it back.
+/// Gets a block by a member.
 #[inline(always)]
-fn allocate(pass: &mut LoskebriPass, mut member: Box<Member>) -> LoskebriBlock
-    requires { pass.old.member ≡ None }
-    ensures { AllocateAnswered member.value pass.new.member result.status result.block }
+fn allocate(member: &mut Member) -> LoskebriBlock
+    ensures { AllocateAnswered member.old (Some member.new) result.status result.block }
 {
-    let answer = member.allocate();
-    pass.fill(member);
-    let (status, block) = match answer {
+    let (status, block) = match member.allocate() {
         Getting::Got(block) => (DONE, block),
         Getting::Dry => (DRY, 0),
         Getting::Spent => (SPENT, 0),
@@ -94,38 +94,35 @@ fn allocate(pass: &mut LoskebriPass, mut member: Box<Member>) -> LoskebriBlock
 
 /// The same, for the calls that make steps of a transfer: apart from the others, which then need none of its registers.
 #[inline(never)]
-fn allocate_moving(pass: &mut LoskebriPass, member: Box<Member>) -> LoskebriBlock
-    requires { pass.old.member ≡ None }
-    ensures { AllocateAnswered member.value pass.new.member result.status result.block }
+fn allocate_moving(member: &mut Member) -> LoskebriBlock
+    ensures { AllocateAnswered member.old (Some member.new) result.status result.block }
 {
-    allocate(pass, member)
+    allocate(member)
 }
 
 /// Lets a block go. Any number may be given.
 #[unsafe(no_mangle)]
-pub extern "C" fn loskebri_free(alloc: Global, pass: &mut LoskebriPass, block: u32) -> u32
+pub extern "C" fn loskebri_free(pass: &mut LoskebriPass, block: u32) -> u32
     ensures closed { StaysClosed pass.old.member pass.new.member result }
     ensures open { (old : Passed) → pass.old.member ≡ Some old → FreeAnswered old pass.new.member result block }
 {
-    let Some(member) = pass.take(alloc) else {
+    if pass.is_closed() {
         return CLOSED;
-    };
+    }
+    let member = pass.member();
     if member.is_quiet() {
-        free(pass, block, member)
+        free(member, block)
     } else {
-        free_moving(pass, block, member)
+        free_moving(member, block)
     }
 }
 
-/// Lets a block go by a member that was taken out of the handle, and puts it back.
+/// Lets a block go by a member.
 #[inline(always)]
-fn free(pass: &mut LoskebriPass, block: u32, mut member: Box<Member>) -> u32
-    requires { pass.old.member ≡ None }
-    ensures { FreeAnswered member.value pass.new.member result block }
+fn free(member: &mut Member, block: u32) -> u32
+    ensures { FreeAnswered member.old (Some member.new) result block }
 {
-    let answer = member.free(block);
-    pass.fill(member);
-    match answer {
+    match member.free(block) {
         Freeing::Freed => DONE,
         Freeing::NotHeld => NOT_HELD,
         Freeing::Spent => SPENT,
@@ -134,31 +131,30 @@ fn free(pass: &mut LoskebriPass, block: u32, mut member: Box<Member>) -> u32
 
 /// The same, for the calls that make steps of a transfer.
 #[inline(never)]
-fn free_moving(pass: &mut LoskebriPass, block: u32, member: Box<Member>) -> u32
-    requires { pass.old.member ≡ None }
-    ensures { FreeAnswered member.value pass.new.member result block }
+fn free_moving(member: &mut Member, block: u32) -> u32
+    ensures { FreeAnswered member.old (Some member.new) result block }
 {
-    free(pass, block, member)
+    free(member, block)
 }
 
 /// Loads a data word of a block. Any numbers may be given.
 #[unsafe(no_mangle)]
-pub extern "C" fn loskebri_read(
-    alloc: Global,
-    pass: &mut LoskebriPass,
-    block: u32,
-    index: u32,
-) -> LoskebriNumber
-    ensures closed { StaysClosed pass.old.member pass.new.member result.status }
+pub extern "C" fn loskebri_read(pass: &mut LoskebriPass, block: u32, index: u32) -> LoskebriNumber
+    ensures closed { StaysClosedAt0 pass.old.member pass.new.member result.status result.number }
     ensures open { (old : Passed) → pass.old.member ≡ Some old
         → ReadAnswered old pass.new.member result.status result.number block index }
 {
-    let Some(mut member) = pass.take(alloc) else {
+    if pass.is_closed() {
         return no_number(CLOSED);
-    };
-    let answer = member.read(block, index);
-    pass.fill(member);
-    match answer {
+    }
+    read(pass.member(), block, index)
+}
+
+/// Loads a data word of a block by a member.
+fn read(member: &mut Member, block: u32, index: u32) -> LoskebriNumber
+    ensures { ReadAnswered member.old (Some member.new) result.status result.number block index }
+{
+    match member.read(block, index) {
         Ok(value) => number(value),
         Err(fault) => no_number(fault_status(&fault)),
     }
@@ -166,23 +162,22 @@ pub extern "C" fn loskebri_read(
 
 /// Stores a data word of a block. Any numbers may be given.
 #[unsafe(no_mangle)]
-pub extern "C" fn loskebri_write(
-    alloc: Global,
-    pass: &mut LoskebriPass,
-    block: u32,
-    index: u32,
-    value: u64,
-) -> u32
+pub extern "C" fn loskebri_write(pass: &mut LoskebriPass, block: u32, index: u32, value: u64) -> u32
     ensures closed { StaysClosed pass.old.member pass.new.member result }
     ensures open { (old : Passed) → pass.old.member ≡ Some old
         → WriteAnswered old pass.new.member result block index value }
 {
-    let Some(mut member) = pass.take(alloc) else {
+    if pass.is_closed() {
         return CLOSED;
-    };
-    let answer = member.write(block, index, value);
-    pass.fill(member);
-    match answer {
+    }
+    write(pass.member(), block, index, value)
+}
+
+/// Stores a data word of a block by a member.
+fn write(member: &mut Member, block: u32, index: u32, value: u64) -> u32
+    ensures { WriteAnswered member.old (Some member.new) result block index value }
+{
+    match member.write(block, index, value) {
         Ok(()) => DONE,
         Err(fault) => fault_status(&fault),
     }
@@ -190,32 +185,58 @@ pub extern "C" fn loskebri_write(
 
 /// How many transfers the pass has begun.
 #[unsafe(no_mangle)]
-pub extern "C" fn loskebri_age(alloc: Global, pass: &mut LoskebriPass) -> LoskebriNumber
-    ensures closed { StaysClosed pass.old.member pass.new.member result.status }
+pub extern "C" fn loskebri_age(pass: &mut LoskebriPass) -> LoskebriNumber
+    ensures closed { StaysClosedAt0 pass.old.member pass.new.member result.status result.number }
     ensures open { (old : Passed) → pass.old.member ≡ Some old
-        → Tells old.age pass.old.member pass.new.member result.status result.number }
+        → Tells old.age old pass.new.member result.status result.number }
 {
-    let Some(member) = pass.take(alloc) else {
+    if pass.is_closed() {
         return no_number(CLOSED);
-    };
-    let age = member.age();
-    pass.fill(member);
-    number(age)
+    }
+    number(pass.member().age())
+}
+
+/// How many transfers the pass may begin in all.
+#[unsafe(no_mangle)]
+pub extern "C" fn loskebri_most_age(pass: &mut LoskebriPass) -> LoskebriNumber
+    ensures closed { StaysClosedAt0 pass.old.member pass.new.member result.status result.number }
+    ensures open { (old : Passed) → pass.old.member ≡ Some old
+        → Tells (most_age old.sizes) old pass.new.member result.status result.number }
+{
+    if pass.is_closed() {
+        return no_number(CLOSED);
+    }
+    number(pass.member().shape().most_age())
+}
+
+/// Whether an allocate or a free of the pass would be made now: 1 where no transfer is due, or fewer were begun than may be; else 0.
+#[unsafe(no_mangle)]
+pub extern "C" fn loskebri_has_age(pass: &mut LoskebriPass) -> LoskebriNumber
+    ensures closed { StaysClosedAt0 pass.old.member pass.new.member result.status result.number }
+    ensures open { (old : Passed) → pass.old.member ≡ Some old
+        → Says (HasAge old) old pass.new.member result.status result.number }
+{
+    if pass.is_closed() {
+        return no_number(CLOSED);
+    }
+    if pass.member().has_age() {
+        number(1)
+    } else {
+        number(0)
+    }
 }
 
 /// How many blocks the pass holds.
 #[unsafe(no_mangle)]
-pub extern "C" fn loskebri_holding(alloc: Global, pass: &mut LoskebriPass) -> LoskebriNumber
-    ensures closed { StaysClosed pass.old.member pass.new.member result.status }
+pub extern "C" fn loskebri_holding(pass: &mut LoskebriPass) -> LoskebriNumber
+    ensures closed { StaysClosedAt0 pass.old.member pass.new.member result.status result.number }
     ensures open { (old : Passed) → pass.old.member ≡ Some old
-        → Tells (length old.held) pass.old.member pass.new.member result.status result.number }
+        → Tells (length old.held) old pass.new.member result.status result.number }
 {
-    let Some(member) = pass.take(alloc) else {
+    if pass.is_closed() {
         return no_number(CLOSED);
-    };
-    let holding = member.holding();
-    pass.fill(member);
-    number(u64::from(holding))
+    }
+    number(u64::from(pass.member().holding()))
 }
 
 /// Closes the handle. The blocks that the pass holds stay held. The pool's memory goes back with its last handle.
@@ -223,5 +244,5 @@ pub extern "C" fn loskebri_holding(alloc: Global, pass: &mut LoskebriPass) -> Lo
 pub extern "C" fn loskebri_close(alloc: Global, pass: &mut LoskebriPass)
     ensures { pass.new.member ≡ None }
 {
-    *pass = LoskebriPass::closed(alloc);
+    mem::replace(pass, LoskebriPass::closed(alloc)).close();
 }

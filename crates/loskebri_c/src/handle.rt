@@ -1,13 +1,13 @@
 // What C holds for a process.
-ghost use Rattle.std.specs.Prelude.{◌≡◌, Option, Some, None};
+ghost use Rattle.std.specs.Prelude.{◌≡◌, ◌↔◌, IsSome, IsTrue, Option, Some, None};
 ghost use Rattle.std.specs.Option.{MatchOption};
+ghost use Rattle.std.specs.Borrow.{sem};
 ghost use Rattle.block_pool.specs.Passing.{Passed};
 
 use box_parts::BoxParts;
 use pool_member::Member;
 use std::alloc::Global;
 use std::marker::Model;
-use std::mem;
 use std::ptr::null_mut;
 
 /// What C holds for a process: nothing, or a member on the heap. The pointer is null where it is nothing, so zeroed memory
@@ -26,6 +26,8 @@ impl Model for LoskebriPass {
 }
 
 impl LoskebriPass {
+    ghost use Rattle.loskebri_c.specs.Lending.{LendsMember};
+
     /// The handle of nothing.
     pub fn closed(alloc: Global) -> LoskebriPass
         ensures { result.member ≡ None }
@@ -77,29 +79,31 @@ impl LoskebriPass {
         }
     }
 
-    /// Takes the member out, if the handle owns one. The handle is closed then.
+    /// Whether the handle owns no member. It stays as it is.
     #[inline]
-    pub fn take(&mut self, alloc: Global) -> Option<Box<Member>>
-        ensures closed { self.new.member ≡ None }
-        ensures member { MatchOption result (self.old.member ≡ None) (λ member. self.old.member ≡ Some member.value) }
+    pub fn is_closed(&mut self) -> bool
+        ensures closed { IsTrue result ↔ self.old.member ≡ None }
+        ensures same { self.new ≡ self.old }
     {
-        mem::replace(self, LoskebriPass::closed(alloc)).into_box()
+        self.at.is_null()
     }
 
-    /// Opens a closed handle with this member. Since it is closed, nothing is let go of, and nothing is tested.
+    /// The member that an open handle owns, where it lies: the handle isn't written, so that handles of different threads may
+    /// share a cache line.
     #[inline]
-    pub fn fill(&mut self, member: Box<Member>)
-        requires { self.old.member ≡ None }
-        ensures { self.new.member ≡ Some member.value }
+    pub fn member(&mut self) -> &mut Member
+        requires { IsSome self.old.member }
+        ensures* lends { sem 𝓛 (LendsMember self.entry result) }
+        ensures member { Some result.now ≡ self.old.member }
     {
-        let closed = mem::replace(self, LoskebriPass::of(member));
-        mem::forget(closed);
+        unsafe { &mut *self.at.cast() }
     }
-}
 
-impl Drop for LoskebriPass {
-    fn drop(self) {
-        drop(self.into_box());
+    /// Lets go of the member, if the handle owns one. No handle is let go of otherwise: the type has no `Drop`.
+    pub fn close(self) {
+        if let Some(member) = self.into_box() {
+            drop(member);
+        }
     }
 }
 

@@ -9,6 +9,7 @@ use crate::status::{
 use pool_member::{Member, OpenFault, open};
 use pool_model::NoMemory;
 use std::alloc::Global;
+use std::mem;
 use word_layout::ShapeFault;
 
 /// Opens these handles for the processes of a new pool, one each, in the order of their numbers: as many processes as there
@@ -54,7 +55,7 @@ fn open_with(boxes: Vec<Box<Member>>, passes: &mut [LoskebriPass])
     let mut boxes = boxes.into_iter();
     for pass in passes.iter_mut() {
         if let Some(member) = boxes.next() {
-            *pass = LoskebriPass::of(member);
+            mem::replace(pass, LoskebriPass::of(member)).close();
         }
     }
 }

@@ -1,13 +1,11 @@
 // The numbers of a pool.
 ghost use Rattle.std.specs.Prelude.{◌≡◌, Option, Some, None};
 ghost use Rattle.block_pool.specs.Passing.{Passed};
-ghost use Rattle.loskebri_c.specs.Answers.{StaysClosed};
-ghost use Rattle.loskebri_c.specs.Described.{Describes};
+ghost use Rattle.loskebri_c.specs.Described.{Describes, DescribesNone};
 
 use crate::handle::LoskebriPass;
 use crate::status::{CLOSED, DONE};
 use pool_member::Member;
-use std::alloc::Global;
 
 /// The numbers of a pass and its pool.
 #[repr(C)]
@@ -29,6 +27,12 @@ pub struct LoskebriShape {
     pub words: u32,
     /// How many steps of a transfer a call makes at most.
     pub quantum: u32,
+    /// No allocate is refused while more blocks than these are unheld.
+    pub slack: u32,
+    /// A refusal had a moment with no more unheld blocks among its pass's last calls, fewer than these.
+    pub window: u32,
+    /// How many transfers a pass may begin in all.
+    pub most_age: u64,
 }
 
 /// The numbers of a member's pass and pool.
@@ -45,29 +49,40 @@ fn described(member: &Member) -> LoskebriShape
         blocks: shape.blocks(),
         words: shape.words(),
         quantum: shape.quantum(),
+        slack: shape.slack(),
+        window: shape.window(),
+        most_age: shape.most_age(),
+    }
+}
+
+/// The numbers of no pass.
+fn undescribed() -> LoskebriShape
+    ensures { DescribesNone result }
+{
+    LoskebriShape {
+        status: CLOSED,
+        process: 0,
+        processes: 0,
+        batches: 0,
+        batch_length: 0,
+        blocks: 0,
+        words: 0,
+        quantum: 0,
+        slack: 0,
+        window: 0,
+        most_age: 0,
     }
 }
 
 /// The numbers of the pass and its pool.
 #[unsafe(no_mangle)]
-pub extern "C" fn loskebri_shape(alloc: Global, pass: &mut LoskebriPass) -> LoskebriShape
-    ensures closed { StaysClosed pass.old.member pass.new.member result.status }
+pub extern "C" fn loskebri_shape(pass: &mut LoskebriPass) -> LoskebriShape
+    ensures closed { pass.old.member ≡ None → DescribesNone result }
     ensures open { (old : Passed) → pass.old.member ≡ Some old → Describes result old }
     ensures same { pass.new.member ≡ pass.old.member }
 {
-    let Some(member) = pass.take(alloc) else {
-        return LoskebriShape {
-            status: CLOSED,
-            process: 0,
-            processes: 0,
-            batches: 0,
-            batch_length: 0,
-            blocks: 0,
-            words: 0,
-            quantum: 0,
-        };
-    };
-    let shape = described(&member);
-    pass.fill(member);
-    shape
+    if pass.is_closed() {
+        return undescribed();
+    }
+    described(pass.member())
 }

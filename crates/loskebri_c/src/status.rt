@@ -12,7 +12,7 @@ pub const NOT_HELD: u32 = 2;
 /// A block has no data word of this index. Nothing changed.
 pub const NO_WORD: u32 = 3;
 
-/// The pass has begun 2^32 transfers. Nothing changed.
+/// A transfer is due, and the pass has begun as many as it may. Nothing changed.
 pub const SPENT: u32 = 4;
 
 /// The handle is closed. Nothing changed.
