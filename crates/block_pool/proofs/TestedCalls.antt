@@ -14,12 +14,11 @@ use Rattle.block_pool.specs.Closing.{AreAllPasses}
 use Rattle.block_pool.specs.Opening.{AreOpenedPasses}
 use Rattle.block_pool.proofs.Ordered.{ordered_are_all, opened_are_in_order, calls_keep_order}
 
--- the pass has made so many calls, of which each raised its age by one and the counter by seventeen at most
+-- the pass has made so many calls, of which each raised the counter by seventeen at most
 pub record HasCalled (pool : Pooled) (before now : Passed) (calls started steps : ℕ) : Type 0 where
   pub same : SamePass before now
   pub is_of : IsOf pool now
   pub quantum : now.sizes.quantum ≤ 16
-  pub age : now.age ≤ before.age + calls
   pub ticks : steps ≤ started + 17 * calls
 
 pub none_called : (pool : Pooled) (pass : Passed) (started : ℕ) → IsOf pool pass → pass.sizes.quantum ≤ 16
@@ -28,18 +27,16 @@ none_called pool pass started is_of quantum = record {
   same = record { table = refl; sizes = refl; number = refl };
   is_of = is_of;
   quantum = quantum;
-  age = omega arith;
   ticks = omega arith;
 }
 
 pub one_called : (pool : Pooled) (before now after : Passed) (calls started steps ticked : ℕ) → HasCalled pool before now calls started steps
-    → SamePass now after → after.age ≤ now.age + 1 → ticked ≤ steps + 17
+    → SamePass now after → ticked ≤ steps + 17
     → HasCalled pool before after (calls + 1) started ticked
-one_called pool before now after calls started steps ticked called same age ticks = record {
+one_called pool before now after calls started steps ticked called same ticks = record {
   same = record { table = same.table ∙ called.same.table; sizes = same.sizes ∙ called.same.sizes; number = same.number ∙ called.same.number };
   is_of = record { table = same.table ∙ called.is_of.table; sizes = same.sizes ∙ called.is_of.sizes };
   quantum = let q = ap (λ (s : Sizes). s.quantum) same.sizes in let old = called.quantum in omega arith;
-  age = omega (arith, called.age);
   ticks = omega (arith, called.ticks);
 }
 

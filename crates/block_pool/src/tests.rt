@@ -10,18 +10,24 @@ use std::test::Fail;
 use step_counter::{Kept, Steps};
 use word_layout::Shape;
 
+mod searches;
+
 /// Allocates once: the block that it gets, if any, and how many steps it makes.
-fn allocate(pool: &Pool, pass: &mut Pass, steps: &mut Steps<Kept>) -> (Option<u32>, u64)
+fn allocate(
+    rt: &impl Abort,
+    pool: &Pool,
+    pass: &mut Pass,
+    steps: &mut Steps<Kept>,
+) -> (Option<u32>, u64)
     requires pass { IsOf pool.now pass.old }
     requires quantum { pass.old.sizes.quantum ≤ 16 }
-    requires young { pass.old.age < 2 ^ 32 }
     requires room { steps.old + 17 < 2 ^ 64 }
     ensures pass { SamePass pass.old pass.new }
-    ensures age { pass.new.age ≤ pass.old.age + 1 }
     ensures steps { steps.new ≤ steps.old + 17 }
     ensures got { IfSome result.0 (λ block. Contains pass.new.held block) }
     ensures held { (block : ℕ) → Contains pass.old.held block → Contains pass.new.held block }
 {
+    assert!(rt; pass.has_age());
     let before = steps.count();
     let block = match pool.allocate(pass, steps) {
         Answer::Got(block) => Some(block.number()),
@@ -34,15 +40,13 @@ fn allocate(pool: &Pool, pass: &mut Pass, steps: &mut Steps<Kept>) -> (Option<u3
 fn get_first(rt: &impl Abort, pool: &Pool, pass: &mut Pass, count: u32, steps: &mut Steps<Kept>)
     requires pass { IsOf pool.now pass.old }
     requires quantum { pass.old.sizes.quantum ≤ 16 }
-    requires young { pass.old.age + count < 2 ^ 32 }
     requires room { steps.old + 17 * count + 17 < 2 ^ 64 }
     ensures pass { SamePass pass.old pass.new }
-    ensures age { pass.new.age ≤ pass.old.age + count }
     ensures steps { steps.new ≤ steps.old + 17 * count }
     ensures held { (block : ℕ) → block < count → Contains pass.new.held block }
 {
     for block in 0..count {
-        assert_eq!(rt; allocate(pool, pass, steps).0, Some(block));
+        assert_eq!(rt; allocate(rt, pool, pass, steps).0, Some(block));
     }
 }
 
@@ -56,12 +60,11 @@ fn get_each(
 )
     requires pass { IsOf pool.now pass.old }
     requires quantum { pass.old.sizes.quantum ≤ 16 }
-    requires young { pass.old.age + length wanted.now < 2 ^ 32 }
     requires room { steps.old + 17 * length wanted.now + 17 < 2 ^ 64 }
     ensures { SamePass pass.old pass.new }
 {
     for (block, made) in wanted {
-        assert_eq!(rt; allocate(pool, pass, steps), (Some(*block), *made));
+        assert_eq!(rt; allocate(rt, pool, pass, steps), (Some(*block), *made));
     }
 }
 
@@ -74,10 +77,11 @@ fn one_pass_of_two_gets_half(rt: HostRuntime) -> Result<(), Fail> {
     let mut steps = Steps::new(Kept::new());
     let pass = &mut passes[0];
     get_first(&rt, &pool, pass, 12, &mut steps);
-    assert_eq!(rt; allocate(&pool, pass, &mut steps).0, None);
+    assert_eq!(rt; allocate(&rt, &pool, pass, &mut steps).0, None);
     let fourth = pass.block(3);
+    assert!(rt; pass.has_age());
     pool.free(pass, fourth, &mut steps);
-    assert_eq!(rt; allocate(&pool, pass, &mut steps).0, Some(3));
+    assert_eq!(rt; allocate(&rt, &pool, pass, &mut steps).0, Some(3));
     assert_eq!(rt; pass.holding(), 12);
     let settled = pool.finish(passes);
     assert_eq!(rt; (settled.processes(), settled.held()), (2, 12));
