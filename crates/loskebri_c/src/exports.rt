@@ -2,7 +2,8 @@
 ghost use Rattle.std.specs.Prelude.{◌≡◌, Option, Some, None, length};
 ghost use Rattle.word_layout.specs.Packing.{most_age};
 ghost use Rattle.block_pool.specs.Passing.{HasAge, Passed};
-ghost use Rattle.loskebri_c.specs.Answers.{AllocateAnswered, FreeAnswered, ReadAnswered, Says, StaysClosed, StaysClosedAt0, Tells, WriteAnswered, status_of};
+ghost use Rattle.loskebri_c.specs.Answers.{AllocateAnswered, FreeAnswered, ReadAnswered, Says, Tells, WriteAnswered, status_of};
+ghost use Rattle.loskebri_c.specs.Answers.{StaysClosed, StaysClosedAt0};
 
 use crate::handle::LoskebriPass;
 use crate::status::{CLOSED, DONE, DRY, NO_WORD, NOT_HELD, SPENT};
