@@ -19,9 +19,9 @@ impl Pool {
     ///
     /// It runs the pass's pending transfer to its end, begins the one that is due then and runs it to its end as well, and
     /// makes the own step of an allocate. That is at most `32p + 31` steps for `p` processes, whatever others do. `Dry` comes
-    /// exactly where the pass then has no block. Such a refusal had its moment within this very call, so to say: after the
-    /// pass's previous entry few blocks were unheld at a place of what it has seen. All else is as with an allocate, but
-    /// that the pass's age must be below the most of its shape, whatever is due.
+    /// exactly where the pass then has no block. Such a refusal had its moment within the call: after the pass's previous
+    /// entry few blocks were unheld at a place of what it has seen. All else is as with an allocate, but that the pass's
+    /// age must be below the most of its shape, whatever is due.
     pub fn search<L: Ledger>(&self, pass: &mut Pass, steps: &mut Steps<L>) -> Answer
         requires pass { IsOf self.now pass.old }
         requires young { pass.old.age < most_age pass.old.sizes }
