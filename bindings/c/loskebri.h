@@ -65,8 +65,8 @@ typedef struct loskebri_block { uint32_t status, block; } loskebri_block;
 typedef struct loskebri_number { uint32_t status; uint64_t number; } loskebri_number;
 
 /* The numbers of a pass and its pool, all 0 but the status where the handle is closed. The blocks are the numbers below `blocks`.
- * While more than `slack` blocks are unheld no allocate is refused; one that is had a moment with at most so many, fewer than
- * `window` calls of its pass before. A pass may begin `most_age` transfers in all. */
+ * An allocate that is refused had a moment with at most `slack` unheld blocks, fewer than `window` calls of its pass before: where
+ * more stay unheld that long, none is refused. A pass may begin `most_age` transfers in all. */
 typedef struct loskebri_shape_numbers {
     uint32_t status, process, processes, batches, batch_length, blocks, words, quantum, slack, window;
     uint64_t most_age;

@@ -61,10 +61,10 @@ pub struct Numbers {
     pub words: u32,
     /// How many steps of a transfer a call makes at most.
     pub quantum: u32,
-    /// While more blocks than these are unheld, no allocate is refused.
+    /// How many blocks may be unheld at most at the moment that a refused allocate looks back on.
     pub slack: u32,
-    /// One that is refused had a moment with at most [`slack`](Numbers::slack) unheld blocks, fewer than so many calls of its
-    /// pass before.
+    /// An allocate that is refused had a moment with at most [`slack`](Numbers::slack) unheld blocks, fewer than so many calls of
+    /// its pass before: where more stay unheld that long, none is refused.
     pub window: u32,
     /// How many transfers a pass may begin in all ([`Pass::has_age`]):
     ///

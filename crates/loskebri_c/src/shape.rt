@@ -27,7 +27,7 @@ pub struct LoskebriShape {
     pub words: u32,
     /// How many steps of a transfer a call makes at most.
     pub quantum: u32,
-    /// No allocate is refused while more blocks than these are unheld.
+    /// How many blocks may be unheld at most at the moment that a refused allocate looks back on.
     pub slack: u32,
     /// A refusal had a moment with no more unheld blocks among its pass's last calls, fewer than these.
     pub window: u32,
