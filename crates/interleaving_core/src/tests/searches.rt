@@ -136,7 +136,7 @@ fn meets_a_transfer_at_each_step(rt: HostRuntime) -> Result<(), Fail> {
     ];
     for (met, processes, batches, stopped) in cases {
         let bound = 16 * processes + 15;
-        let mut count = 0;
+        let mut reached = 0;
         for steps in 1..=bound {
             let mut run = CoreRun::open(
                 rt.alloc(),
@@ -148,7 +148,7 @@ fn meets_a_transfer_at_each_step(rt: HostRuntime) -> Result<(), Fail> {
             if !bring_to(&rt, &mut run, met, steps) {
                 break;
             }
-            count += 1;
+            reached = steps;
             let (happened, made) = finish(&rt, &mut run, 0, Call::Search);
             assert!(rt;
                 matches!(
@@ -167,7 +167,7 @@ fn meets_a_transfer_at_each_step(rt: HostRuntime) -> Result<(), Fail> {
             assert!(rt; run.shape().processes() > 0);
             assert_eq!(rt; run.view(0).calls.stage, CallStage::Between);
         }
-        assert!(rt; count >= 13, "{met:?} {processes}: {count}");
+        assert!(rt; reached >= 13, "{met:?} {processes}: {reached}");
     }
     Ok(())
 }

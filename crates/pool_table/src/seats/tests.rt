@@ -31,6 +31,8 @@ fn announce(
     ensures steps { steps.new ≡ steps.old + 1 }
     ensures step { Stepped (About.Alone Wish.Take) seat.old.view result seat.new.view }
 {
+    // The first transfer needs an age that there is.
+    let _age = shape.most_age();
     let announced = Announced {
         number: 1,
         wish: Wish::Take,
