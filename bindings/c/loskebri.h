@@ -46,7 +46,7 @@ enum {
     LOSKEBRI_DRY = 1,            /* the pass's own pool has no block */
     LOSKEBRI_NOT_HELD = 2,       /* the pass doesn't hold this block; nothing changed */
     LOSKEBRI_NO_WORD = 3,        /* a block has no data word of this index; nothing changed */
-    LOSKEBRI_SPENT = 4,          /* a transfer is due, and the pass has begun as many as it may; nothing changed */
+    LOSKEBRI_SPENT = 4,          /* the pass has begun as many transfers as it may, and the call needs one; nothing changed */
     LOSKEBRI_CLOSED = 5,         /* the handle is closed, or NULL; nothing changed */
     LOSKEBRI_NO_MEMORY = 6,      /* the heap had no memory */
     LOSKEBRI_NO_PROCESS = 7,     /* there is no handle to be opened */
@@ -72,6 +72,9 @@ typedef struct loskebri_shape_numbers {
     uint64_t most_age;
 } loskebri_shape_numbers;
 
+/* What a pool takes, in bytes, and 0 where the status is a fault: while it is open, and at the peak of its opening. */
+typedef struct loskebri_memory_numbers { uint32_t status; uint64_t bytes, peak; } loskebri_memory_numbers;
+
 /* Opens these handles for the processes of a new pool, one each: as many processes as handles, 1 to 32. The pool has `batches`
  * batches, at least two a process; a batch has the least number l of blocks with quantum * l >= 16 * processes + 15. A block
  * has `words` data words, 0 to 8. A call makes at most `quantum` steps of its pass's transfer: 1, 2, 4, 8 or 16.
@@ -79,9 +82,25 @@ typedef struct loskebri_shape_numbers {
  * DONE, NO_MEMORY, or the first of NO_PROCESS, MANY_PROCESSES, FEW_BATCHES, BAD_QUANTUM, MANY_BLOCKS, WIDE_BLOCK. */
 uint32_t loskebri_open(uint32_t batches, uint32_t words, uint32_t quantum, loskebri_pass *passes, size_t processes);
 
+/* The least number of batches with which a pool of so many processes and this quantum refuses nobody, in any schedule, as long as
+ * at most `live` blocks are held together. Without data words or with. Nothing is opened, and no handle is looked at. DONE, or the
+ * first of NO_PROCESS, MANY_PROCESSES, BAD_QUANTUM, and MANY_BLOCKS where no pool has enough. */
+loskebri_number loskebri_enough_batches(uint32_t processes, uint32_t quantum, uint32_t live);
+
+/* What a pool of these numbers takes, but for a few cache lines a process: 8 bytes for each word of its table, data words among
+ * it, and 8 for each 64 blocks and each process; and twice the table while it is opened. Nothing is opened. DONE, or the first of
+ * NO_PROCESS, MANY_PROCESSES, FEW_BATCHES, BAD_QUANTUM, MANY_BLOCKS, WIDE_BLOCK. */
+loskebri_memory_numbers loskebri_memory(uint32_t batches, uint32_t words, uint32_t quantum, uint32_t processes);
+
 /* Gets a block that nobody holds. DRY comes where the pass has no block of its own: at a moment within its last `window` calls
  * at most `slack` blocks were unheld (loskebri_shape). At most quantum + 1 counted steps. DONE, DRY, SPENT, CLOSED. */
 loskebri_block loskebri_allocate(loskebri_pass *pass);
+
+/* Gets a block as loskebri_allocate does, with more steps and a sharper refusal: the pass's pending transfer runs to its end, then
+ * the one that is due. DRY comes where the pass has no block even so: at a moment within this very call at most `slack` blocks
+ * were unheld. At most 32 * processes + 31 counted steps, of the pool's `processes`. SPENT comes where the pass has begun as many
+ * transfers as it may, whatever is due. DONE, DRY, SPENT, CLOSED. */
+loskebri_block loskebri_search(loskebri_pass *pass);
 
 /* Gives a block back that this pass holds. At most quantum + 1 counted steps. DONE, NOT_HELD, SPENT, CLOSED. */
 uint32_t loskebri_free(loskebri_pass *pass, uint32_t block);
@@ -122,6 +141,10 @@ static inline loskebri_block loskebri_allocate_or_null(loskebri_pass *pass) {
     loskebri_pass closed = {NULL};
     return loskebri_allocate(pass ? pass : &closed);
 }
+static inline loskebri_block loskebri_search_or_null(loskebri_pass *pass) {
+    loskebri_pass closed = {NULL};
+    return loskebri_search(pass ? pass : &closed);
+}
 static inline uint32_t loskebri_free_or_null(loskebri_pass *pass, uint32_t block) {
     loskebri_pass closed = {NULL};
     return loskebri_free(pass ? pass : &closed, block);
@@ -159,6 +182,7 @@ static inline void loskebri_close_or_null(loskebri_pass *pass) {
 }
 #define loskebri_open(batches, words, quantum, passes, processes) loskebri_open_or_null(batches, words, quantum, passes, processes)
 #define loskebri_allocate(pass) loskebri_allocate_or_null(pass)
+#define loskebri_search(pass) loskebri_search_or_null(pass)
 #define loskebri_free(pass, block) loskebri_free_or_null(pass, block)
 #define loskebri_read(pass, block, index) loskebri_read_or_null(pass, block, index)
 #define loskebri_write(pass, block, index, value) loskebri_write_or_null(pass, block, index, value)

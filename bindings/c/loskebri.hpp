@@ -34,6 +34,13 @@ struct shape {
     std::uint32_t quantum = 8;
 };
 
+/* The smallest shape of this quantum whose pool refuses nobody while at most `live` blocks are held together. Throws open_error. */
+inline shape for_live(std::uint32_t processes, std::uint32_t live, std::uint32_t quantum = 8) {
+    const loskebri_number enough = loskebri_enough_batches(processes, quantum, live);
+    if (enough.status != LOSKEBRI_DONE) throw open_error(enough.status);
+    return {processes, static_cast<std::uint32_t>(enough.number), 0, quantum};
+}
+
 /* The pass of one process, or a closed one. The calls answer as in loskebri.h, by its statuses. */
 class pass {
 public:
@@ -52,6 +59,7 @@ public:
     ~pass() { close(); }
 
     loskebri_block allocate() noexcept { return loskebri_allocate(&handle_); }
+    loskebri_block search() noexcept { return loskebri_search(&handle_); }
     std::uint32_t free(std::uint32_t block) noexcept { return loskebri_free(&handle_, block); }
     loskebri_number read(std::uint32_t block, std::uint32_t index) noexcept { return loskebri_read(&handle_, block, index); }
     std::uint32_t write(std::uint32_t block, std::uint32_t index, std::uint64_t value) noexcept {

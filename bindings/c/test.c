@@ -25,7 +25,7 @@ static void *work(void *arg) {
     int n = 0;
     for (int i = 0; i < ROUNDS; i++) {
         if (n < MOST && (i % 5 < 3 || n == 0)) {
-            loskebri_block a = loskebri_allocate(pass);
+            loskebri_block a = i % 16 < 3 ? loskebri_search(pass) : loskebri_allocate(pass);
             if (a.status == LOSKEBRI_DRY) continue;
             if (a.status != LOSKEBRI_DONE || a.block >= BLOCKS) { wrong++; return 0; }
             if (atomic_exchange(&owner[a.block], 1) != 0) wrong++;
@@ -59,6 +59,8 @@ static int closed_at(loskebri_pass *p) {
     loskebri_slot slot = loskebri_slot_get(p, &slots);
     const loskebri_number numbers[] = {loskebri_read(p, 0, 0), loskebri_age(p), loskebri_most_age(p), loskebri_has_age(p),
         loskebri_holding(p)};
+    CHECK(a.status == LOSKEBRI_CLOSED && a.block == 0);
+    a = loskebri_search(p);
     CHECK(a.status == LOSKEBRI_CLOSED && a.block == 0);
     CHECK(slot.status == LOSKEBRI_CLOSED && slot.at == NULL);
     CHECK(loskebri_free(p, 0) == LOSKEBRI_CLOSED);
@@ -166,6 +168,62 @@ static int dry(void) {
     return 0;
 }
 
+/* A search is refused only where the pass has no block once its transfers have ended, and makes no transfer that isn't due. */
+static int searched(void) {
+    loskebri_pass p = {0};
+    uint32_t seen = 0;
+    CHECK(loskebri_open(4, 0, 1, &p, 1) == LOSKEBRI_DONE);
+    void *const before = p.at;
+    const uint32_t blocks = loskebri_shape(&p).blocks;
+    CHECK(blocks == 4 * 31);
+    for (uint32_t i = 0; i < blocks; i++) {
+        loskebri_block a = loskebri_search(&p);
+        CHECK(a.status == LOSKEBRI_DONE && a.block < blocks);
+        seen += a.block;
+        CHECK(loskebri_holding(&p).number == i + 1);
+    }
+    CHECK(seen == blocks * (blocks - 1) / 2);
+    loskebri_block none = loskebri_search(&p);
+    CHECK(none.status == LOSKEBRI_DRY && none.block == 0);
+    CHECK(loskebri_free(&p, 5) == LOSKEBRI_DONE);
+    CHECK(loskebri_search(&p).block == 5);
+    CHECK(loskebri_holding(&p).number == blocks && loskebri_age(&p).number > 0 && p.at == before);
+    loskebri_close(&p);
+    return 0;
+}
+
+/* Batches of 4, 10, 79 and 527 blocks for 1, 4, 4 and 32 processes; blocks more than the slack, five times processes times these, and
+ * `live` together. */
+static int enough(void) {
+    static const struct { uint32_t processes, quantum, live, status; uint64_t batches; } cases[] = {
+        {1, 8, 0, LOSKEBRI_DONE, 6}, {1, 8, 4, LOSKEBRI_DONE, 7}, {4, 8, 1000, LOSKEBRI_DONE, 121}, {4, 1, 1000, LOSKEBRI_DONE, 33},
+        {32, 1, 0, LOSKEBRI_DONE, 161}, {1, 8, 4194283, LOSKEBRI_DONE, 1048576}, {1, 8, 4194284, LOSKEBRI_MANY_BLOCKS, 0},
+        {4, 8, UINT32_MAX, LOSKEBRI_MANY_BLOCKS, 0}, {0, 3, 0, LOSKEBRI_NO_PROCESS, 0}, {33, 3, 0, LOSKEBRI_MANY_PROCESSES, 0},
+        {UINT32_MAX, 8, UINT32_MAX, LOSKEBRI_MANY_PROCESSES, 0}, {4, 3, UINT32_MAX, LOSKEBRI_BAD_QUANTUM, 0},
+    };
+    for (size_t i = 0; i < sizeof cases / sizeof *cases; i++) {
+        loskebri_number enough = loskebri_enough_batches(cases[i].processes, cases[i].quantum, cases[i].live);
+        CHECK(enough.status == cases[i].status && enough.number == cases[i].batches);
+    }
+    return 0;
+}
+
+/* 64 and 133 words of the table, and one and twice one of marks; the peak is twice the table. */
+static int memory(void) {
+    static const struct { uint32_t batches, words, quantum, processes, status; uint64_t bytes, peak; } cases[] = {
+        {10, 0, 8, 1, LOSKEBRI_DONE, 520, 1024}, {4, 3, 8, 2, LOSKEBRI_DONE, 1080, 2128},
+        {1048576, 8, 8, 1, LOSKEBRI_DONE, 310902896, 620757216}, {0, 9, 3, 0, LOSKEBRI_NO_PROCESS, 0, 0},
+        {UINT32_MAX, 9, 3, UINT32_MAX, LOSKEBRI_MANY_PROCESSES, 0, 0}, {7, 9, 3, 4, LOSKEBRI_FEW_BATCHES, 0, 0},
+        {UINT32_MAX, 9, 3, 4, LOSKEBRI_BAD_QUANTUM, 0, 0}, {UINT32_MAX, 9, 8, 4, LOSKEBRI_MANY_BLOCKS, 0, 0},
+        {8, 9, 8, 4, LOSKEBRI_WIDE_BLOCK, 0, 0},
+    };
+    for (size_t i = 0; i < sizeof cases / sizeof *cases; i++) {
+        loskebri_memory_numbers m = loskebri_memory(cases[i].batches, cases[i].words, cases[i].quantum, cases[i].processes);
+        CHECK(m.status == cases[i].status && m.bytes == cases[i].bytes && m.peak == cases[i].peak);
+    }
+    return 0;
+}
+
 /* Four processes with 16 batches of 10 blocks: 8 * 10 >= 16 * 4 + 15. */
 static int threads(void) {
     loskebri_pass p[THREADS] = {0};
@@ -183,7 +241,7 @@ static int threads(void) {
 }
 
 int main(void) {
-    if (refused() || closed() || texts() || slots() || alone() || dry() || threads()) return 1;
+    if (refused() || closed() || texts() || slots() || alone() || dry() || searched() || enough() || memory() || threads()) return 1;
     puts("test: ok");
     return 0;
 }

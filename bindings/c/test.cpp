@@ -44,6 +44,11 @@ static int opened() {
         {{1, 2, 9}, LOSKEBRI_WIDE_BLOCK}, {{2, 4}, LOSKEBRI_DONE},
     };
     for (const auto &c : cases) CHECK(status_of([&] { loskebri::pool pool(c.shape); }) == c.status);
+    // Batches of 10: 121 have 1210 blocks, which is more than the slack of 200 and 1000 together.
+    CHECK(loskebri::for_live(4, 1000).batches == 121 && loskebri::for_live(4, 1000).processes == 4);
+    CHECK(status_of([] { loskebri::for_live(4, 1000, 3); }) == LOSKEBRI_BAD_QUANTUM);
+    loskebri::pool pool(loskebri::for_live(1, 4));
+    CHECK(pool[0].numbers().batches == 7 && pool[0].search().status == LOSKEBRI_DONE && pool[0].holding() == 1);
     return 0;
 }
 

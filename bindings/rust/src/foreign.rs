@@ -26,6 +26,14 @@ pub struct NumberAnswer {
     pub number: u64,
 }
 
+/// What a pool takes, in bytes.
+#[repr(C)]
+pub struct MemoryAnswer {
+    pub status: u32,
+    pub bytes: u64,
+    pub peak: u64,
+}
+
 /// The numbers of a pass and its pool.
 #[repr(C)]
 pub struct ShapeNumbers {
@@ -65,7 +73,15 @@ unsafe extern "C" {
         passes: *mut Handle,
         processes: usize,
     ) -> u32;
+    pub safe fn loskebri_enough_batches(processes: u32, quantum: u32, live: u32) -> NumberAnswer;
+    pub safe fn loskebri_memory(
+        batches: u32,
+        words: u32,
+        quantum: u32,
+        processes: u32,
+    ) -> MemoryAnswer;
     pub safe fn loskebri_allocate(pass: &mut Handle) -> BlockAnswer;
+    pub safe fn loskebri_search(pass: &mut Handle) -> BlockAnswer;
     pub safe fn loskebri_free(pass: &mut Handle, block: u32) -> u32;
     pub safe fn loskebri_read(pass: &mut Handle, block: u32, index: u32) -> NumberAnswer;
     pub safe fn loskebri_write(pass: &mut Handle, block: u32, index: u32, value: u64) -> u32;

@@ -42,4 +42,4 @@ mod pool;
 
 pub use arena::{Arena, PlaceError, Placed};
 pub use error::{FreeError, FreeFault, OpenError, Refusal, WordFault};
-pub use pool::{Block, Numbers, Pass, Pool, Shape};
+pub use pool::{Batches, Block, Memory, Numbers, Pass, Pool, Shape};

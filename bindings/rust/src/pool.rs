@@ -1,9 +1,19 @@
 //! Pools, their passes and their blocks.
 
 use crate::error::{FreeError, FreeFault, OpenError, Refusal, WordFault};
-use crate::foreign::{self, Handle};
+use crate::foreign::{self, BlockAnswer, Handle};
 use std::fmt;
 use std::sync::atomic::{AtomicU64, Ordering};
+
+/// How many batches a pool is asked to have.
+#[derive(Debug, Clone, Copy, PartialEq, Eq)]
+#[non_exhaustive]
+pub enum Batches {
+    /// So many.
+    Count(u32),
+    /// The fewest with which no pass is refused as long as at most so many blocks are held together, by whichever passes.
+    ForLive(u32),
+}
 
 /// What a pool is asked to be.
 #[derive(Debug, Clone, Copy, PartialEq, Eq)]
@@ -13,7 +23,7 @@ pub struct Shape {
     pub processes: u32,
     /// How many batches of blocks it has: at least two for each process. A batch has the least number `l` of blocks
     /// with `quantum * l >= 16 * processes + 15`, and the pool at most 2^22 blocks.
-    pub batches: u32,
+    pub batches: Batches,
     /// How many data words a block has: 0 to 8.
     pub words: u32,
     /// How many steps of a transfer a call makes at most: 1, 2, 4, 8 or 16.
@@ -24,12 +34,63 @@ impl Shape {
     /// The shape with these processes and batches, no data words and a quantum of 8.
     #[must_use]
     pub const fn new(processes: u32, batches: u32) -> Shape {
+        Shape::of(processes, Batches::Count(batches))
+    }
+
+    /// The smallest shape with these processes whose pool refuses no pass as long as at most `live` blocks are held together, in any
+    /// schedule; without data words and with a quantum of 8, or with those that it is given then.
+    ///
+    /// ```
+    /// use loskebri::Shape;
+    ///
+    /// assert_eq!(Shape::for_live(4, 1000).count_batches()?, 121);
+    /// assert_eq!(Shape::for_live(4, 1000).with_quantum(1).count_batches()?, 33);
+    /// # Ok::<(), loskebri::OpenError>(())
+    /// ```
+    #[must_use]
+    pub const fn for_live(processes: u32, live: u32) -> Shape {
+        Shape::of(processes, Batches::ForLive(live))
+    }
+
+    const fn of(processes: u32, batches: Batches) -> Shape {
         Shape {
             processes,
             batches,
             words: 0,
             quantum: 8,
         }
+    }
+
+    /// How many batches the pool of this shape has.
+    ///
+    /// # Errors
+    ///
+    /// Where the shape is one [for live blocks](Shape::for_live): its first fault, or [`OpenError::ManyBlocks`] where no pool has
+    /// enough.
+    pub fn count_batches(&self) -> Result<u32, OpenError> {
+        match self.batches {
+            Batches::Count(batches) => Ok(batches),
+            Batches::ForLive(live) => {
+                let enough = foreign::loskebri_enough_batches(self.processes, self.quantum, live);
+                opened(enough.status)?;
+                Ok(u32::try_from(enough.number).expect("batches are fewer than blocks"))
+            }
+        }
+    }
+
+    /// What a pool of this shape takes.
+    ///
+    /// # Errors
+    ///
+    /// The first fault of the shape.
+    pub fn memory(&self) -> Result<Memory, OpenError> {
+        let batches = self.count_batches()?;
+        let answer = foreign::loskebri_memory(batches, self.words, self.quantum, self.processes);
+        opened(answer.status)?;
+        Ok(Memory {
+            bytes: answer.bytes,
+            peak: answer.peak,
+        })
     }
 
     /// This shape with so many data words a block.
@@ -43,6 +104,16 @@ impl Shape {
     pub const fn with_quantum(self, quantum: u32) -> Shape {
         Shape { quantum, ..self }
     }
+}
+
+/// What a pool takes, in bytes, but for a few cache lines for each process. An [`Arena`](crate::Arena) takes its slots besides.
+#[derive(Debug, Clone, Copy, PartialEq, Eq)]
+#[non_exhaustive]
+pub struct Memory {
+    /// While it is open: 8 for each word of its table, data words among it, and 8 for each 64 blocks and each process.
+    pub bytes: u64,
+    /// At the peak of its opening: twice the table.
+    pub peak: u64,
 }
 
 /// The numbers of a pool that is open.
@@ -93,13 +164,14 @@ impl Pool {
     ///
     /// The first fault of the shape, or [`OpenError::NoMemory`]. Nothing is left then.
     pub fn open(shape: &Shape) -> Result<Pool, OpenError> {
+        let batches = shape.count_batches()?;
         let count = usize::try_from(shape.processes).map_err(|_| OpenError::ManyProcesses)?;
         // No more handles than a pool may have are made before the shape is looked at.
         let mut handles: Vec<Handle> = (0..count.min(33)).map(|_| Handle::CLOSED).collect();
         // SAFETY: the pointer and the count are those of one vector of closed handles.
         let status = unsafe {
             foreign::loskebri_open(
-                shape.batches,
+                batches,
                 shape.words,
                 shape.quantum,
                 handles.as_mut_ptr(),
@@ -240,10 +312,30 @@ impl Pass {
     /// [of an age](Pass::has_age) to make this call; nothing changes then. The pass stays usable after both.
     pub fn allocate(&mut self) -> Result<Block, Refusal> {
         let answer = foreign::loskebri_allocate(&mut self.handle);
+        self.got(&answer)
+    }
+
+    /// Gets a block as [`allocate`](Pass::allocate) does, with more steps and a sharper refusal: the pending transfer runs to its
+    /// end, then the one that is due. At most `32 * processes + 31` counted steps.
+    ///
+    /// # Errors
+    ///
+    /// [`Refusal::Dry`] where the pass has no block even so: at a moment within this call at most [`Numbers::slack`] blocks were
+    /// unheld. [`Refusal::Spent`] where the pass has begun [`Numbers::most_age`] transfers, whatever is due; nothing changes then.
+    pub fn search(&mut self) -> Result<Block, Refusal> {
+        let answer = foreign::loskebri_search(&mut self.handle);
+        self.got(&answer)
+    }
+
+    /// What the answer of a call that gets blocks means.
+    fn got(&self, answer: &BlockAnswer) -> Result<Block, Refusal> {
         match answer.status {
             foreign::DONE => Ok(self.block(answer.block)),
             foreign::DRY => Err(Refusal::Dry),
-            _ => Err(Refusal::Spent),
+            status => {
+                debug_assert_eq!(status, foreign::SPENT);
+                Err(Refusal::Spent)
+            }
         }
     }
 

@@ -52,6 +52,69 @@ fn shapes_are_refused_by_their_first_fault() {
 }
 
 #[test]
+fn a_search_is_refused_only_where_a_pass_alone_holds_all() {
+    let [mut pass] = passes(&Shape::new(1, 4).with_quantum(1));
+    let blocks = pass.numbers().blocks;
+    let got: Vec<Block> = (0..blocks)
+        .map(|_| pass.search().expect("there are blocks"))
+        .collect();
+    assert_eq!(pass.search().unwrap_err(), Refusal::Dry);
+    assert_eq!(pass.holding(), u64::from(blocks));
+    for block in got {
+        pass.free(block).expect("it is held");
+    }
+    let block = pass.search().expect("there are blocks");
+    pass.free(block).expect("it is held");
+}
+
+#[test]
+fn shapes_for_live_blocks_have_batches_enough() {
+    // Blocks more than the slack, five times the processes times a batch, and those that are live.
+    let shape = Shape::for_live(4, 1000);
+    let cases = [
+        (Shape::for_live(1, 0), Ok(6)),
+        (shape, Ok(121)),
+        (shape.with_quantum(1), Ok(33)),
+        (shape.with_words(8).with_quantum(16), Ok(221)),
+        (shape.with_quantum(16).with_words(8), Ok(221)),
+        (Shape::for_live(32, 0).with_quantum(1), Ok(161)),
+        (Shape::for_live(1, 4_194_283), Ok(1_048_576)),
+        (Shape::for_live(1, 4_194_284), Err(OpenError::ManyBlocks)),
+        (Shape::for_live(4, u32::MAX), Err(OpenError::ManyBlocks)),
+        (Shape::for_live(0, 0), Err(OpenError::NoProcess)),
+        (Shape::for_live(33, 0), Err(OpenError::ManyProcesses)),
+        (shape.with_quantum(3), Err(OpenError::BadQuantum)),
+    ];
+    for (shape, batches) in cases {
+        assert_eq!(shape.count_batches(), batches, "{shape:?}");
+    }
+    assert_eq!(passes::<4>(&shape)[0].numbers().batches, 121);
+    assert_eq!(
+        Pool::open(&shape.with_words(9)).unwrap_err(),
+        OpenError::WideBlock
+    );
+}
+
+#[test]
+fn shapes_say_what_they_take() {
+    // 64 and 133 words of the table, and one and twice one of marks; the peak is twice the table.
+    let cases = [
+        (Shape::new(1, 10), Ok((520, 1024))),
+        (Shape::new(2, 4).with_words(3), Ok((1080, 2128))),
+        (
+            Shape::for_live(1, 4_194_283).with_words(8),
+            Ok((310_902_896, 620_757_216)),
+        ),
+        (Shape::new(2, 3), Err(OpenError::FewBatches)),
+        (Shape::new(2, 4).with_words(9), Err(OpenError::WideBlock)),
+    ];
+    for (shape, taken) in cases {
+        let told = shape.memory().map(|memory| (memory.bytes, memory.peak));
+        assert_eq!(told, taken, "{shape:?}");
+    }
+}
+
+#[test]
 fn the_numbers_say_when_a_pass_is_refused_and_how_long_it_lives() {
     // The slack is five times the processes times the blocks of a batch, the window twice these; the tags end at 2^40.
     let cases = [

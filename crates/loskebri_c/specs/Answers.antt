@@ -1,7 +1,8 @@
 -- What the calls of C answer, of the pass that a handle owns before and after.
 use Rattle.std.specs.Prelude.{◌≡◌, ℕ, ◌⊎◌, Option, Some, None}
 use Rattle.block_pool.specs.Passing.{Passed}
-use Rattle.pool_member.specs.Calling.{AnswersAllocate, AnswersFree, IsFaulty, ReadsWord, WritesWord}
+use Rattle.pool_member.specs.Calling.{AnswersAllocate, AnswersFree, AnswersSearch, IsFaulty, ReadsWord, WritesWord}
+use Rattle.pool_member.specs.declared.member.Getting.{Getting}
 use Rattle.pool_member.specs.declared.member.Getting.TheVariants as getting
 use Rattle.pool_member.specs.declared.member.Freeing.TheVariants as freeing
 use Rattle.pool_member.specs.declared.member.WordFault.{WordFault}
@@ -15,12 +16,24 @@ StaysClosed old new status = old ≡ None → (status ≡ 5) × (new ≡ None)
 abbrev pub StaysClosedAt0 : Option Passed → Option Passed → ℕ → ℕ → Type 0
 StaysClosedAt0 old new status number = old ≡ None → (status ≡ 5) × (number ≡ 0) × (new ≡ None)
 
--- an allocate of an open handle, which stays open: status 0 with a block, 1 for a refusal, 4 where the pass is spent
+-- an answer is told so: status 0 with the block, 1 for a refusal, 4 where the pass is spent
+abbrev pub IsTold : Getting → ℕ → ℕ → Type 0
+IsTold (getting.Got got) status block = (status ≡ 0) × (block ≡ got)
+IsTold getting.Dry status block = (status ≡ 1) × (block ≡ 0)
+IsTold getting.Spent status block = (status ≡ 4) × (block ≡ 0)
+
+-- a call of an open handle that gets blocks and is answered so; it stays open
+abbrev pub GetAnswered : (Getting → Passed → Passed → Type 0) → Passed → Option Passed → ℕ → ℕ → Type 0
+GetAnswered answers old None status block = ⊥
+GetAnswered answers old (Some new) status block = (told : Getting) × IsTold told status block × answers told old new
+
+-- an allocate
 abbrev pub AllocateAnswered : Passed → Option Passed → ℕ → ℕ → Type 0
-AllocateAnswered old None status block = ⊥
-AllocateAnswered old (Some new) status block =
-    ((status ≡ 0) × AnswersAllocate (getting.Got block) old new) ⊎ (((status ≡ 1) × (block ≡ 0) × AnswersAllocate getting.Dry old new)
-    ⊎ ((status ≡ 4) × (block ≡ 0) × AnswersAllocate getting.Spent old new))
+AllocateAnswered = GetAnswered AnswersAllocate
+
+-- a search
+abbrev pub SearchAnswered : Passed → Option Passed → ℕ → ℕ → Type 0
+SearchAnswered = GetAnswered AnswersSearch
 
 -- a free: status 0 where the block went back, 2 where the pass doesn't hold it, 4 where it does and is spent
 abbrev pub FreeAnswered : Passed → Option Passed → ℕ → ℕ → Type 0

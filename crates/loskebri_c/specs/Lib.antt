@@ -5,3 +5,4 @@ pub mod Answers
 pub mod Described
 pub mod Filling
 pub mod Lending
+pub mod Sizing

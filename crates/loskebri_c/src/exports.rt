@@ -2,8 +2,8 @@
 ghost use Rattle.std.specs.Prelude.{◌≡◌, Option, Some, None, length};
 ghost use Rattle.word_layout.specs.Packing.{most_age};
 ghost use Rattle.block_pool.specs.Passing.{HasAge, Passed};
-ghost use Rattle.loskebri_c.specs.Answers.{AllocateAnswered, FreeAnswered, ReadAnswered, Says, Tells, WriteAnswered, status_of};
-ghost use Rattle.loskebri_c.specs.Answers.{StaysClosed, StaysClosedAt0};
+ghost use Rattle.loskebri_c.specs.Answers.{AllocateAnswered, FreeAnswered, IsTold, ReadAnswered, Says, SearchAnswered};
+ghost use Rattle.loskebri_c.specs.Answers.{StaysClosed, StaysClosedAt0, Tells, WriteAnswered, status_of};
 
 use crate::handle::LoskebriPass;
 use crate::status::{CLOSED, DONE, DRY, NO_WORD, NOT_HELD, SPENT};
@@ -42,7 +42,7 @@ fn fault_status(fault: &WordFault) -> u32
 }
 
 /// A number that was asked for.
-fn number(number: u64) -> LoskebriNumber
+pub(crate) fn number(number: u64) -> LoskebriNumber
     ensures status { result.status ≡ 0 }
     ensures number { result.number ≡ number }
 {
@@ -53,7 +53,7 @@ fn number(number: u64) -> LoskebriNumber
 }
 
 /// No number, for this status.
-fn no_number(status: u32) -> LoskebriNumber
+pub(crate) fn no_number(status: u32) -> LoskebriNumber
     ensures status { result.status ≡ status }
     ensures number { result.number ≡ 0 }
 {
@@ -67,10 +67,7 @@ pub extern "C" fn loskebri_allocate(pass: &mut LoskebriPass) -> LoskebriBlock
     ensures open { (old : Passed) → pass.old.member ≡ Some old → AllocateAnswered old pass.new.member result.status result.block }
 {
     if pass.is_closed() {
-        return LoskebriBlock {
-            status: CLOSED,
-            block: 0,
-        };
+        return no_block();
     }
     let member = pass.member();
     if member.is_quiet() {
@@ -80,17 +77,36 @@ pub extern "C" fn loskebri_allocate(pass: &mut LoskebriPass) -> LoskebriBlock
     }
 }
 
-/// Gets a block by a member.
-#[inline(always)]
-fn allocate(member: &mut Member) -> LoskebriBlock
-    ensures { AllocateAnswered member.old (Some member.new) result.status result.block }
+/// The answer of a closed handle that is asked for a block.
+fn no_block() -> LoskebriBlock
+    ensures status { result.status ≡ 5 }
+    ensures block { result.block ≡ 0 }
 {
-    let (status, block) = match member.allocate() {
+    LoskebriBlock {
+        status: CLOSED,
+        block: 0,
+    }
+}
+
+/// An answer of a member that gets blocks.
+#[inline(always)]
+fn told(getting: Getting) -> LoskebriBlock
+    ensures { IsTold getting result.status result.block }
+{
+    let (status, block) = match getting {
         Getting::Got(block) => (DONE, block),
         Getting::Dry => (DRY, 0),
         Getting::Spent => (SPENT, 0),
     };
     LoskebriBlock { status, block }
+}
+
+/// Gets a block by a member.
+#[inline(always)]
+fn allocate(member: &mut Member) -> LoskebriBlock
+    ensures { AllocateAnswered member.old (Some member.new) result.status result.block }
+{
+    told(member.allocate())
 }
 
 /// The same, for the calls that make steps of a transfer: apart from the others, which then need none of its registers.
@@ -99,6 +115,25 @@ fn allocate_moving(member: &mut Member) -> LoskebriBlock
     ensures { AllocateAnswered member.old (Some member.new) result.status result.block }
 {
     allocate(member)
+}
+
+/// Gets a block that nobody holds, with more steps and a sharper refusal.
+#[unsafe(no_mangle)]
+pub extern "C" fn loskebri_search(pass: &mut LoskebriPass) -> LoskebriBlock
+    ensures closed { StaysClosedAt0 pass.old.member pass.new.member result.status result.block }
+    ensures open { (old : Passed) → pass.old.member ≡ Some old → SearchAnswered old pass.new.member result.status result.block }
+{
+    if pass.is_closed() {
+        return no_block();
+    }
+    search(pass.member())
+}
+
+/// Searches by a member.
+fn search(member: &mut Member) -> LoskebriBlock
+    ensures { SearchAnswered member.old (Some member.new) result.status result.block }
+{
+    told(member.search())
 }
 
 /// Lets a block go. Any number may be given.

@@ -7,4 +7,5 @@ mod exports;
 mod handle;
 mod opening;
 mod shape;
+mod sizing;
 mod status;

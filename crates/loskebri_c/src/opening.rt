@@ -1,16 +1,13 @@
 // Handles are opened.
 ghost use Rattle.std.specs.Prelude.{◌≡◌, Some, IfOk, length, map};
-ghost use Rattle.loskebri_c.specs.Filling.{IsFilled, OpenAnswered, opening_status, shape_status};
+ghost use Rattle.loskebri_c.specs.Filling.{IsFilled, OpenAnswered, opening_status};
 
 use crate::handle::LoskebriPass;
-use crate::status::{
-    BAD_QUANTUM, DONE, FEW_BATCHES, MANY_BLOCKS, MANY_PROCESSES, NO_MEMORY, NO_PROCESS, WIDE_BLOCK,
-};
+use crate::status::{DONE, MANY_PROCESSES, NO_MEMORY, shape_status};
 use pool_member::{Member, OpenFault, open};
 use pool_model::NoMemory;
 use std::alloc::Global;
 use std::mem;
-use word_layout::ShapeFault;
 
 /// Opens these handles for the processes of a new pool, one each, in the order of their numbers: as many processes as there
 /// are handles. A handle that was open is closed first, where the pool is opened.
@@ -76,21 +73,7 @@ fn open_status(fault: &OpenFault) -> u32
     ensures { result ≡ opening_status fault.now }
 {
     match fault {
-        OpenFault::Shape(fault) => fault_status(fault),
+        OpenFault::Shape(fault) => shape_status(fault),
         OpenFault::NoMemory => NO_MEMORY,
-    }
-}
-
-/// The status of a shape's fault.
-fn fault_status(fault: &ShapeFault) -> u32
-    ensures { result ≡ shape_status fault.now }
-{
-    match fault {
-        ShapeFault::NoProcess => NO_PROCESS,
-        ShapeFault::ManyProcesses => MANY_PROCESSES,
-        ShapeFault::FewBatches => FEW_BATCHES,
-        ShapeFault::BadQuantum => BAD_QUANTUM,
-        ShapeFault::ManyBlocks => MANY_BLOCKS,
-        ShapeFault::WideBlock => WIDE_BLOCK,
     }
 }

@@ -1,4 +1,8 @@
 // How the calls of C are answered. The header has the same numbers.
+ghost use Rattle.std.specs.Prelude.{◌≡◌};
+ghost use Rattle.loskebri_c.specs.Filling.{shape_status};
+
+use word_layout::ShapeFault;
 
 /// The call did what it says.
 pub const DONE: u32 = 0;
@@ -38,3 +42,17 @@ pub const MANY_BLOCKS: u32 = 11;
 
 /// A block has more than 8 data words. No handle was opened.
 pub const WIDE_BLOCK: u32 = 12;
+
+/// The status of a shape's fault.
+pub fn shape_status(fault: &ShapeFault) -> u32
+    ensures { result ≡ shape_status fault.now }
+{
+    match fault {
+        ShapeFault::NoProcess => NO_PROCESS,
+        ShapeFault::ManyProcesses => MANY_PROCESSES,
+        ShapeFault::FewBatches => FEW_BATCHES,
+        ShapeFault::BadQuantum => BAD_QUANTUM,
+        ShapeFault::ManyBlocks => MANY_BLOCKS,
+        ShapeFault::WideBlock => WIDE_BLOCK,
+    }
+}

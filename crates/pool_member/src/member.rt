@@ -1,9 +1,10 @@
 // A member of a pool and its calls.
 ghost use Rattle.std.specs.Prelude.{◌≡◌, ◌<◌, ◌↔◌, Contains, IfErr, IfOk, IsTrue, length};
 ghost use Rattle.std.specs.Arc.{arc_value};
+ghost use Rattle.word_layout.specs.Packing.{most_age};
 ghost use Rattle.transfer_schedule.specs.Numbers.{after_choice, is_idle};
 ghost use Rattle.block_pool.specs.Passing.{HasAge, IsOf};
-ghost use Rattle.pool_member.specs.Calling.{AnswersAllocate, AnswersFree, AnswersYoung};
+ghost use Rattle.pool_member.specs.Calling.{AnswersAllocate, AnswersFree, AnswersSearch, AnswersSought, AnswersYoung, getting_of};
 ghost use Rattle.pool_member.specs.Calling.{HasWord, IsFaulty, LacksWord, ReadsWord, WritesWord};
 
 use block_marks::Marks;
@@ -45,6 +46,19 @@ pub enum Getting {
     Dry,
     /// A transfer is due, and the pass has begun as many as it may. No call was made.
     Spent,
+}
+
+impl Getting {
+    /// The answer of a call that was made.
+    #[inline(always)]
+    fn of(answer: &Answer) -> Getting
+        ensures { result ≡ getting_of answer.now }
+    {
+        match answer {
+            Answer::Got(block) => Getting::Got(block.number()),
+            Answer::Dry => Getting::Dry,
+        }
+    }
 }
 
 /// How a free is answered.
@@ -131,9 +145,9 @@ impl Member {
 
     /// Gets a block that nobody holds. It takes no memory and waits for nobody.
     ///
-    /// `Spent` comes exactly where a transfer is due and the pass has begun as many as it may, and then nothing changes. Else the pool makes one call
-    /// of the pass, with one entry more in the one legal history: `Got` a block of the pool that the pass didn't hold, and
-    /// holds it besides the others, or `Dry` exactly where the pass's own pool had none.
+    /// `Spent` comes exactly where a transfer is due and the pass has begun as many as it may, and then nothing changes. Else the pool
+    /// makes one call of the pass, with one entry more in the one legal history: `Got` a block of the pool that the pass didn't hold,
+    /// and holds it besides the others, or `Dry` exactly where the pass's own pool had none.
     #[inline(always)]
     pub fn allocate(&mut self) -> Getting
         ensures { AnswersAllocate result self.old self.new }
@@ -141,10 +155,7 @@ impl Member {
         if !self.pass.has_age() {
             return Getting::Spent;
         }
-        match self.allocate_young() {
-            Answer::Got(block) => Getting::Got(block.number()),
-            Answer::Dry => Getting::Dry,
-        }
+        Getting::of(&self.allocate_young())
     }
 
     /// Lets a block go. Any number may be given. It takes no memory and waits for nobody.
@@ -169,7 +180,23 @@ impl Member {
         Freeing::Freed
     }
 
-    /// Gets a block, or is refused, of a pass that may begin a transfer.
+    /// Gets a block that nobody holds, with more steps and a sharper refusal than [`Member::allocate`]. It takes no memory and
+    /// waits for nobody.
+    ///
+    /// `Spent` comes exactly where the pass has begun as many transfers as it may, whatever is due, and then nothing changes. Else
+    /// the pool makes one search of the pass, in at most `32p + 31` steps for `p` processes: the transfers that are pending and due
+    /// run to their ends, and then it is `Got` a block, as by an allocate, or `Dry` exactly where the pass's own pool had none.
+    /// Such a refusal had its moment within the call.
+    pub fn search(&mut self) -> Getting
+        ensures { AnswersSearch result self.old self.new }
+    {
+        if self.pass.age() >= self.pool.shape().most_age() {
+            return Getting::Spent;
+        }
+        Getting::of(&self.search_young())
+    }
+
+    /// Gets a block, or is refused, of a pass that isn't spent.
     #[inline(always)]
     fn allocate_young(&mut self) -> Answer
         requires { HasAge self.old }
@@ -181,6 +208,22 @@ impl Member {
             .allocate(&mut self.pass, &mut Steps::new(Quiet::new()));
         match &answer {
             Answer::Got(block) => self.marks.set(block.number()),
+            Answer::Dry => {}
+        }
+        answer
+    }
+
+    /// Searches, of a pass that may begin a transfer.
+    fn search_young(&mut self) -> Answer
+        requires { self.old.age < most_age self.old.sizes }
+        ensures { AnswersSought result self.old self.new }
+    {
+        let _processes = self.pool.shape().processes();
+        let answer = self
+            .pool
+            .search(&mut self.pass, &mut Steps::new(Quiet::new()));
+        match &answer {
+            Answer::Got(found) => self.marks.set(found.number()),
             Answer::Dry => {}
         }
         answer

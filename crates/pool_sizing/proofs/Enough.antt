@@ -20,6 +20,7 @@ refusal_had_few pool live past rest by enough few had =
     = sym (append_assoc before between rest) ∙ ap (λ front. front ++ rest) (take-append-drop had.place past) in
     omega (arith, enough, had.few, slack_at_most (limits_of pool) past had.place, few before (between ++ rest) parts)
 
+-- so none is refused
 pub enough_are_not_refused : EnoughAreNotRefused
 enough_are_not_refused pool live history enough legal few by (n, low, is) =
     let at = slice_get-get_or history n (Dry by) low ∙ ap Some is in

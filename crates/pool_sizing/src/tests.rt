@@ -1,3 +1,4 @@
+// Batches that are enough, and bytes.
 use crate::{enough_batches, memory, opening_memory};
 use std::test::Fail;
 use word_layout::Shape;

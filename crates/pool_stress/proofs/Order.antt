@@ -17,6 +17,7 @@ stay_of pool old new stay all k d within =
     let same = stay.each k d before in
     record { table = same.table ∙ was.table; sizes = same.sizes ∙ was.sizes }
 
+-- two rows of calls, one after the other
 pub stay_twice : (old mid new : List Passed) → StayInOrder old mid → StayInOrder mid new → StayInOrder old new
 stay_twice old mid new first second = record {
   many = second.many ∙ first.many;
@@ -31,6 +32,7 @@ same_with : (pass after : Passed) (old new : List Passed) → SamePass pass afte
 same_with pass after old new same stay zero d within = same
 same_with pass after old new same stay (suc k) d within = stay.each k d (omega (arith, within))
 
+-- one more pass in front
 pub stay_with : (pass after : Passed) (old new : List Passed) → SamePass pass after → StayInOrder old new
     → StayInOrder (pass ∷ old) (after ∷ new)
 stay_with pass after old new same stay = record { many = ap suc stay.many; each = same_with pass after old new same stay }
@@ -52,6 +54,7 @@ stay_joined (pass ∷ old) (after ∷ new) back back-new first second =
 pub opened_of : (pool : Pooled) (passes : List Passed) → AreOpenedPasses pool passes → All (IsOf pool) passes
 opened_of pool passes opened k d within = (opened_fresh pool passes opened k d within).is_of
 
+-- so they are all passes of the pool still
 pub all_there : (pool : Pooled) (passes played : List Passed) → AreOpenedPasses pool passes → StayInOrder passes played
     → AreAllPasses pool played
 all_there pool passes played opened stay = played_all pool passes played opened stay.many stay.each

@@ -13,7 +13,8 @@ use Rattle.block_pool.proofs.Ordered.{item_of_set}
 use Rattle.pool_stress.specs.Slots.{SlotsFit}
 
 -- what was read at a place stands there
-pub read_at : (slots : List (Option ℕ)) (place : ℕ) (default read found : Option ℕ) → place < length slots → read ≡ get_or slots place default
+pub read_at : (slots : List (Option ℕ)) (place : ℕ) (default read found : Option ℕ) → place < length slots
+    → read ≡ get_or slots place default
     → read ≡ found → slice_get slots place ≡ Some found
 read_at slots place default read found within was is =
     let same : get_or slots place default ≡ found = sym was ∙ is in
@@ -54,6 +55,7 @@ left_there slots place k block within at =
           (same_Some None (Some block) (sym here ∙ subst (λ (n : ℕ). slice_get bare n ≡ Some (Some block)) is at)),
     )
 
+-- a slot that was emptied
 pub emptied_fit : (held : List ℕ) (slots : List (Option ℕ)) (place : ℕ) → place < length slots → SlotsFit held slots
     → SlotsFit held (set slots place None)
 emptied_fit held slots place within fit = record {
@@ -62,7 +64,8 @@ emptied_fit held slots place within fit = record {
 }
 
 -- a slot whose block was freed
-pub freed_fit : (held : List ℕ) (slots : List (Option ℕ)) (place block : ℕ) → place < length slots → slice_get slots place ≡ Some (Some block)
+pub freed_fit : (held : List ℕ) (slots : List (Option ℕ)) (place block : ℕ) → place < length slots
+    → slice_get slots place ≡ Some (Some block)
     → SlotsFit held slots → SlotsFit (filter (λ other. not (other == block)) held) (set slots place None)
 freed_fit held slots place block within has fit = record {
   filled = λ k b at.
@@ -72,7 +75,7 @@ freed_fit held slots place block within has fit = record {
   apart = λ k j b at too. fit.apart k j b (left_there slots place k b within at).0 (left_there slots place j b within too).0;
 }
 
--- a call that freed the block of a slot, or got one into it
+-- a call that freed the block of a slot
 pub slot_freed : (by : ℕ) (old new : Passed) (slots : List (Option ℕ)) (place block : ℕ) (default read left : Option ℕ)
     → place < length slots → read ≡ get_or slots place default → read ≡ Some block → left ≡ None → SlotsFit old.held slots
     → Entered (entry.Back by block) old new → SlotsFit new.held (set slots place left)
@@ -80,6 +83,7 @@ slot_freed by old new slots place block default read left within was is bare fit
     rw bare (subst (λ (held : List ℕ). SlotsFit held (set slots place None)) (sym entered.held)
     (freed_fit old.held slots place block within (read_at slots place default read (Some block) within was is) fit))
 
+-- a call that got a block into it
 pub slot_got : (by : ℕ) (old new : Passed) (slots : List (Option ℕ)) (place block : ℕ) (left : Option ℕ) → place < length slots
     → left ≡ None → SlotsFit old.held slots → ¬ Contains old.held block → Entered (entry.Got by block) old new
     → SlotsFit new.held (set (set slots place left) place (Some block))

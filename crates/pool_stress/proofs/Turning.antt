@@ -9,9 +9,11 @@ pub record HasGone (pool : Pooled) (start now : Passed) : Type 0 where
   pub same : SamePass start now
   pub is_of : IsOf pool now
 
+-- before its first call
 pub none_gone : (pool : Pooled) (pass : Passed) → IsOf pool pass → HasGone pool pass pass
 none_gone pool pass is_of = record { same = record { table = refl; sizes = refl; number = refl }; is_of = is_of }
 
+-- after one call more
 pub one_gone : (pool : Pooled) (start now after : Passed) → HasGone pool start now → SamePass now after → HasGone pool start after
 one_gone pool start now after h same = record {
   same = record { table = same.table ∙ h.same.table; sizes = same.sizes ∙ h.same.sizes; number = same.number ∙ h.same.number };

@@ -1,12 +1,12 @@
 //! Puts a pool under stress: `pool_stress PROCESSES BATCHES QUANTUM CALLS SEED STOPPING STOP [LIE]`.
 //!
-//! Each process, on a thread of its own, allocates and frees at random. Each block that it gets is looked up in a table of
+//! Each process, on a thread of its own, allocates, searches and frees at random. Each block that it gets is looked up in a table of
 //! owners, and the steps of each call are counted. The threads of the first STOPPING processes stop, that of process 0 after
 //! STOP of its steps and that of each further one a step later, until the others have made their calls and have all blocks
 //! that they can get. In the end all blocks are allocated.
 //!
 //! It prints how often something was seen that mustn't be, and ends with 1 where that is so; with 2 for faulty words, and
-//! with 8 for want of memory. How many allocates were refused and where the threads stopped stands on standard error, since
+//! with 8 for want of memory. How many calls were refused, how many searched and where the threads stopped stands on standard error, since
 //! it depends on the schedule.
 //!
 //! With a LIE one answer is misheard, which must be seen: `twice`, a block is got twice; `foreign`, it is none of the pool;
@@ -43,7 +43,7 @@ fn tell(rt: &(impl Print + Eprint), report: &Report, stops: &[Stop]) -> io::Resu
         "wrong {} long {} lost {} miscounted {} late {}",
         report.wrong, report.long, report.lost, report.miscounted, report.late
     )?;
-    eprintln!(rt; "refused {}", report.refused)?;
+    eprintln!(rt; "refused {} searched {}", report.refused, report.searched)?;
     for stop in stops.iter() {
         if let Some(halt) = stop.halt() {
             tell_halt(rt, &halt)?;
@@ -54,10 +54,11 @@ fn tell(rt: &(impl Print + Eprint), report: &Report, stops: &[Stop]) -> io::Resu
 
 /// Prints where a process stopped.
 fn tell_halt(rt: &impl Eprint, halt: &Halt) -> io::Result<()> {
-    let call = if halt.frees { "a free" } else { "an allocate" };
     eprintln!(rt;
-        "stopped after step {} of {} of {call}",
-        halt.step, halt.steps
+        "stopped after step {} of {} of {}",
+        halt.step,
+        halt.steps,
+        halt.call.name()
     )
 }
 

@@ -43,10 +43,12 @@ pub(crate) struct Owners {
     got: AtomicU64,
     /// How many blocks went to an owner, or left one, that weren't of the pool or of whom they were said to be.
     wrong: AtomicU64,
-    /// How many calls took more steps than a quantum and one.
+    /// How many calls took more steps than they may.
     long: AtomicU64,
-    /// How many allocates were refused.
+    /// How many allocates and searches were refused.
     refused: AtomicU64,
+    /// How many searches there were.
+    searched: AtomicU64,
 }
 
 impl Owners {
@@ -67,6 +69,7 @@ impl Owners {
             wrong: AtomicU64::new(0),
             long: AtomicU64::new(0),
             refused: AtomicU64::new(0),
+            searched: AtomicU64::new(0),
         })
     }
 
@@ -82,7 +85,7 @@ impl Owners {
             Some(Lie::Lost) => {}
             Some(Lie::Long) => {
                 self.hand(block, 0, owner);
-                self.time(u64::MAX, u32::MAX);
+                self.time(u64::MAX, 0);
             }
         }
     }
@@ -120,16 +123,21 @@ impl Owners {
         self.wrong.fetch_add(1, Ordering::SeqCst);
     }
 
-    /// A call took so many steps, in a pool with this quantum.
-    pub(crate) fn time(&self, steps: u64, quantum: u32) {
-        if steps > u64::from(quantum) + 1 {
+    /// A call took so many steps, of which it may make so many at most.
+    pub(crate) fn time(&self, steps: u64, most: u64) {
+        if steps > most {
             self.long.fetch_add(1, Ordering::SeqCst);
         }
     }
 
-    /// An allocate was refused.
+    /// An allocate or a search was refused.
     pub(crate) fn refuse(&self) {
         self.refused.fetch_add(1, Ordering::SeqCst);
+    }
+
+    /// A search begins.
+    pub(crate) fn search(&self) {
+        self.searched.fetch_add(1, Ordering::SeqCst);
     }
 
     /// How many blocks have no owner.
@@ -158,8 +166,13 @@ impl Owners {
         self.long.load(Ordering::SeqCst)
     }
 
-    /// How many allocates were refused.
+    /// How many allocates and searches were refused.
     pub(crate) fn refused(&self) -> u64 {
         self.refused.load(Ordering::SeqCst)
+    }
+
+    /// How many searches there were.
+    pub(crate) fn searched(&self) -> u64 {
+        self.searched.load(Ordering::SeqCst)
     }
 }

@@ -44,4 +44,9 @@ impl Places {
         }
         (self.place % count as u64) as usize
     }
+
+    /// Whether an allocate is to be a search: one in eight.
+    pub(crate) fn searches(&mut self) -> bool {
+        self.draw() % 8 == 0
+    }
 }

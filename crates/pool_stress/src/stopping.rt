@@ -6,6 +6,7 @@ use std::alloc::Global;
 use std::sync::atomic::{AtomicBool, AtomicU64, Ordering};
 use std::thread;
 use step_counter::Ledger;
+use word_layout::Shape;
 
 /// How often a thread that waits looks at most whether it may go on: minutes.
 const MOST_LOOKS: u64 = 1_000_000_000;
@@ -21,6 +22,69 @@ fn wait_for(fact: &AtomicBool) -> bool {
     false
 }
 
+/// A call of a pass that gets a block or gives one back.
+#[derive(Clone, Copy)]
+pub(crate) enum Call {
+    Allocate,
+    Search,
+    Free,
+}
+
+impl Call {
+    /// How many steps it makes at most in a pool of this shape.
+    pub(crate) fn most_steps(self, shape: &Shape) -> u64 {
+        match self {
+            Call::Allocate | Call::Free => u64::from(shape.quantum()) + 1,
+            Call::Search => 2 * u64::from(shape.transfer_bound()) + 1,
+        }
+    }
+
+    /// How it is called in what is printed.
+    pub(crate) fn name(self) -> &'static str {
+        match self {
+            Call::Allocate => "an allocate",
+            Call::Search => "a search",
+            Call::Free => "a free",
+        }
+    }
+}
+
+/// Which call a process makes, for others to see.
+#[derive(Drop)]
+struct Calling {
+    searches: AtomicBool,
+    frees: AtomicBool,
+}
+
+impl Calling {
+    /// An allocate.
+    fn new() -> Calling {
+        Calling {
+            searches: AtomicBool::new(false),
+            frees: AtomicBool::new(false),
+        }
+    }
+
+    /// It is this call now.
+    fn store(&self, call: Call) {
+        self.searches
+            .store(matches!(call, Call::Search), Ordering::SeqCst);
+        self.frees
+            .store(matches!(call, Call::Free), Ordering::SeqCst);
+    }
+
+    /// Which one it is.
+    fn load(&self) -> Call {
+        if self.frees.load(Ordering::SeqCst) {
+            Call::Free
+        } else if self.searches.load(Ordering::SeqCst) {
+            Call::Search
+        } else {
+            Call::Allocate
+        }
+    }
+}
+
 /// Where in its call a process stopped.
 #[derive(Clone, Copy)]
 pub(crate) struct Halt {
@@ -28,8 +92,8 @@ pub(crate) struct Halt {
     pub(crate) step: u64,
     /// How many steps the call made.
     pub(crate) steps: u64,
-    /// Whether the call was a free.
-    pub(crate) frees: bool,
+    /// Which call it was.
+    pub(crate) call: Call,
 }
 
 /// At which of its steps a process stops, and for how long: until the others are done.
@@ -39,8 +103,8 @@ pub(crate) struct Stop {
     at: u64,
     /// How many steps it has made.
     made: AtomicU64,
-    /// Whether its present call is a free, whose block has no owner any more.
-    frees: AtomicBool,
+    /// Its present call. The block of a free has no owner any more.
+    present: Calling,
     /// Whether it has stopped before the others were done.
     stopped: AtomicBool,
     /// Whether it has stopped so, or made all its calls.
@@ -49,8 +113,8 @@ pub(crate) struct Stop {
     step: AtomicU64,
     /// How many steps that call made.
     steps: AtomicU64,
-    /// Whether that call was a free.
-    freed: AtomicBool,
+    /// Which call that was.
+    met: Calling,
     /// Whether the others are done.
     done: AtomicBool,
     /// Whether it went on before the others were done, or these waited in vain for it to stop.
@@ -63,12 +127,12 @@ impl Stop {
         Stop {
             at,
             made: AtomicU64::new(0),
-            frees: AtomicBool::new(false),
+            present: Calling::new(),
             stopped: AtomicBool::new(false),
             halted: AtomicBool::new(false),
             step: AtomicU64::new(0),
             steps: AtomicU64::new(0),
-            freed: AtomicBool::new(false),
+            met: Calling::new(),
             done: AtomicBool::new(false),
             late: AtomicBool::new(false),
         }
@@ -83,9 +147,9 @@ impl Stop {
         Ok(stops)
     }
 
-    /// The process begins a call, which is a free or an allocate. How many steps it has made so far.
-    pub(crate) fn begin(&self, frees: bool) -> u64 {
-        self.frees.store(frees, Ordering::SeqCst);
+    /// The process begins this call. How many steps it has made so far.
+    pub(crate) fn begin(&self, call: Call) -> u64 {
+        self.present.store(call);
         self.made.load(Ordering::SeqCst)
     }
 
@@ -96,15 +160,15 @@ impl Stop {
         if 0 < step && step <= taken {
             self.step.store(step, Ordering::SeqCst);
             self.steps.store(taken, Ordering::SeqCst);
-            self.freed.store(self.frees(), Ordering::SeqCst);
+            self.met.store(self.present.load());
         }
-        self.frees.store(false, Ordering::SeqCst);
+        self.present.store(Call::Allocate);
         taken
     }
 
     /// Whether its present call is a free.
     pub(crate) fn frees(&self) -> bool {
-        self.frees.load(Ordering::SeqCst)
+        matches!(self.present.load(), Call::Free)
     }
 
     /// The process has made all its calls.
@@ -132,7 +196,7 @@ impl Stop {
         Some(Halt {
             step: self.step.load(Ordering::SeqCst),
             steps: self.steps.load(Ordering::SeqCst),
-            frees: self.freed.load(Ordering::SeqCst),
+            call: self.met.load(),
         })
     }
 

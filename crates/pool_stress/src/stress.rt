@@ -22,7 +22,7 @@ mod tests;
 pub(crate) struct Report {
     /// How many blocks went to a second owner, or weren't of the pool.
     pub(crate) wrong: u64,
-    /// How many calls took more steps than a quantum and one.
+    /// How many calls took more steps than they may.
     pub(crate) long: u64,
     /// How many blocks nobody could get, beside the five batches that each stopped process may withhold.
     pub(crate) lost: u64,
@@ -30,8 +30,10 @@ pub(crate) struct Report {
     pub(crate) miscounted: u64,
     /// How many stopped processes went on before the others were done.
     pub(crate) late: u64,
-    /// How many allocates were refused.
+    /// How many allocates and searches were refused.
     pub(crate) refused: u64,
+    /// How many searches there were.
+    pub(crate) searched: u64,
 }
 
 impl Report {
@@ -183,5 +185,6 @@ fn reported(owners: &Owners, stops: &[Stop], lost: u64, held: u32) -> Report {
         miscounted: owners.owned().abs_diff(u64::from(held)),
         late: stops.iter().filter(|stop| stop.was_late()).count() as u64,
         refused: owners.refused(),
+        searched: owners.searched(),
     }
 }

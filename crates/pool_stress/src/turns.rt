@@ -1,16 +1,19 @@
 // The turns of one process.
-ghost use Rattle.std.specs.Prelude.{◌≡◌, ◌+◌, ◌<◌, ◌^◌, None, IfOk, length, replicate};
+ghost use Rattle.std.specs.Prelude.{◌≡◌, ℕ, ◌<◌, None, IfOk, length, replicate};
 ghost use Rattle.block_pool.specs.Passing.{HasAge, IsOf};
-ghost use Rattle.block_pool.specs.Calls.{SamePass};
+ghost use Rattle.block_pool.specs.Calls.{SamePass, Entered, WasFree, entry_of};
+ghost use Rattle.block_pool.specs.declared.pool.Answer.TheVariants.{Got};
+ghost use Rattle.pool_stress.specs.Calling.{HasRoom, MayCall};
 ghost use Rattle.pool_stress.specs.Slots.{SlotsFit};
 
 use crate::owners::Owners;
 use crate::places::Places;
-use crate::stopping::{Stop, Stopping};
+use crate::stopping::{Call, Stop, Stopping};
 use block_pool::{Answer, Block, Pass, Pool};
 use pool_model::NoMemory;
 use std::alloc::Global;
 use step_counter::{Kept, Ledger, Steps};
+use word_layout::Shape;
 
 /// What each process is to do.
 #[derive(Clone, Copy)]
@@ -36,18 +39,50 @@ fn empty_slots(alloc: Global, count: u32) -> Result<Vec<Option<Block>>, NoMemory
     Ok(slots)
 }
 
-/// Frees the block of a slot, or allocates one into it where it has none. The owners hear of it.
+/// Which call a process makes at a slot: it frees the block there, or gets one, by a search if it is to and may.
+fn call_at(pass: &Pass, shape: &Shape, filled: bool, searches: bool) -> Call
+    requires { shape.now ≡ pass.now.sizes }
+    ensures { MayCall result pass.now }
+{
+    if filled {
+        Call::Free
+    } else if searches && pass.age() < shape.most_age() {
+        Call::Search
+    } else {
+        Call::Allocate
+    }
+}
+
+/// Gets a block by this call, which frees none.
+fn get<L: Ledger>(pool: &Pool, pass: &mut Pass, call: Call, steps: &mut Steps<L>) -> Answer
+    requires pool { IsOf pool.now pass.old }
+    requires young { HasAge pass.old }
+    requires call { MayCall call pass.old }
+    requires room { HasRoom pass.old.sizes steps.old }
+    ensures pass { SamePass pass.old pass.new }
+    ensures entry { Entered (entry_of pass.old.number result) pass.old pass.new }
+    ensures free { (block : ℕ) → result ≡ Got block → WasFree block pass.old pass.new }
+{
+    match call {
+        Call::Search => pool.search(pass, steps),
+        Call::Allocate | Call::Free => pool.allocate(pass, steps),
+    }
+}
+
+/// Frees the block of a slot, or gets one into it where it has none. The owners hear of it.
 fn turn<L: Ledger>(
     pool: &Pool,
     pass: &mut Pass,
     slots: &mut [Option<Block>],
     place: usize,
+    call: Call,
     owners: &Owners,
     steps: &mut Steps<L>,
 )
     requires pool { IsOf pool.now pass.old }
     requires young { HasAge pass.old }
-    requires room { steps.old + pass.old.sizes.quantum + 1 < 2 ^ 64 }
+    requires call { MayCall call pass.old }
+    requires room { HasRoom pass.old.sizes steps.old }
     requires place { place < length slots.old }
     requires slots { SlotsFit pass.old.held slots.old }
     ensures pass { SamePass pass.old pass.new }
@@ -59,7 +94,7 @@ fn turn<L: Ledger>(
             owners.give(block.number(), owner);
             pool.free(pass, block, steps);
         }
-        None => match pool.allocate(pass, steps) {
+        None => match get(pool, pass, call, steps) {
             Answer::Got(block) => {
                 owners.get(block.number(), owner);
                 slots[place] = Some(block);
@@ -75,6 +110,7 @@ fn turn_slot(
     pass: &mut Pass,
     slots: &mut [Option<Block>],
     place: usize,
+    searches: bool,
     owners: &Owners,
     stop: Option<&Stop>,
 )
@@ -85,18 +121,25 @@ fn turn_slot(
     ensures pass { SamePass pass.old pass.new }
     ensures slots { SlotsFit pass.new.held slots.new }
 {
-    let quantum = pool.shape().quantum();
+    let shape = pool.shape();
+    let _processes = shape.processes();
+    let _quantum = shape.quantum();
+    let call = call_at(pass, shape, slots[place].is_some(), searches);
+    if matches!(call, Call::Search) {
+        owners.search();
+    }
+    let most = call.most_steps(shape);
     match stop {
         Some(stop) => {
-            let before = stop.begin(slots[place].is_some());
+            let before = stop.begin(call);
             let mut steps = Steps::new(Stopping::new(stop));
-            turn(pool, pass, slots, place, owners, &mut steps);
-            owners.time(stop.end(before), quantum);
+            turn(pool, pass, slots, place, call, owners, &mut steps);
+            owners.time(stop.end(before), most);
         }
         None => {
             let mut steps = Steps::new(Kept::new());
-            turn(pool, pass, slots, place, owners, &mut steps);
-            owners.time(steps.count(), quantum);
+            turn(pool, pass, slots, place, call, owners, &mut steps);
+            owners.time(steps.count(), most);
         }
     }
 }
@@ -130,7 +173,8 @@ fn turn_slots(
             await_each(work.stops);
         }
         let place = places.next(slots.len());
-        turn_slot(pool, pass, slots, place, work.owners, stop);
+        let searches = places.searches();
+        turn_slot(pool, pass, slots, place, searches, work.owners, stop);
     }
 }
 
@@ -155,11 +199,13 @@ fn keep(pool: &Pool, pass: &mut Pass, owners: &Owners) -> bool
     requires young { HasAge pass.old }
     ensures pass { SamePass pass.old pass.new }
 {
-    let quantum = pool.shape().quantum();
+    let shape = pool.shape();
+    let _quantum = shape.quantum();
+    let most = Call::Allocate.most_steps(shape);
     let owner = u64::from(pass.number()) + 1;
     let mut steps = Steps::new(Kept::new());
     let answer = pool.allocate(pass, &mut steps);
-    owners.time(steps.count(), quantum);
+    owners.time(steps.count(), most);
     match answer {
         Answer::Got(block) => {
             owners.get(block.number(), owner);

@@ -9,5 +9,5 @@ returns-in-Some-clause-slots g c =
 
 pub returns-in-Got-clause-slots : goal.returns-in-Got-clause-slots
 returns-in-Got-clause-slots g c =
-    slot_got _ c.args.pass.now c.allocate.new.pass c.args.slots.now c.args.place c.in-Got.block _ c.requires.place c.take.ensures.after
+    slot_got _ c.args.pass.now c.get.new.pass c.args.slots.now c.args.place c.in-Got.block _ c.requires.place c.take.ensures.after
     c.requires.slots (c.in-Got.ensures.free _ refl).not_own c.in-Got.ensures.entry

@@ -1,3 +1,4 @@
+-- a handle goes to another thread with what it owns
 use Rattle.std.specs.Prelude.{Option, Some, None}
 use base.Shift.{Keyless}
 use mir.Raw.{raw}
@@ -20,7 +21,9 @@ crosses : (a : Global) (at : Ptr) (m : Option Passed) → Keyless (kept a at m)
 crosses a at None = tt
 crosses a at (Some x) = (lies Member.the_row member at x, heap.frees.frees a (raw (lone (Member.the_row).mir)) at)
 
+-- a handle may go to another thread
 pub send : IsSend the_row
 send =
     let all : AllSend (fields the_type) = (search sendable, (handle.the_field_send, tt)) in
-    owning_send the_type all (λ d. crosses d.alloc d.at d.member) (λ k. quiet (to the_type) (exits_of k (fields the_type)) ((struct_send (shape the_type) all).leaving k))
+    owning_send the_type all (λ d. crosses d.alloc d.at d.member) (λ k. quiet (to the_type) (exits_of k (fields the_type))
+    ((struct_send (shape the_type) all).leaving k))

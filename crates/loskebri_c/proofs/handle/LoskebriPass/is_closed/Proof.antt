@@ -49,10 +49,12 @@ is_closed_spec 𝓤 𝓛 𝓜 𝓡 wired =
     rewrite ! 2 (λ (ws : List Val). ‵ (cell_at full_share Pass.mir ws b o)) one refl $
     kept_cases ! d.alloc d.at d.member
     (λ null none. rewrite ! 1 (λ (p : Ptr). Cell p h) null refl $
-    sets ! (of_opd ! (load ! (through ! refl (fld ! refl (stop !))) (look_in ! 1 (sub ! 0 refl (whole !))))) refl (tt, record { fits = lit< tt }) $
+    sets ! (of_opd ! (load ! (through ! refl (fld ! refl (stop !))) (look_in ! 1 (sub ! 0 refl (whole !))))) refl
+    (tt, record { fits = lit< tt }) $
     sets ! (bin ! (get ! refl) (lit ! tt) tt) refl (tt, tt) $
     -- [what is kept; the handle; its cell; the open borrow, in three entries]
-    feq_i ! Ptr d.at null_ptr null $ rewrite ! 0 (λ (m : Option Passed). ‵ (kept d.alloc d.at m)) (sym none) refl $ rewrite ! 2 (λ (p : Ptr). Cell p h) (sym null) refl $
+    feq_i ! Ptr d.at null_ptr null $ rewrite ! 0 (λ (m : Option Passed). ‵ (kept d.alloc d.at m)) (sym none) refl $
+    rewrite ! 2 (λ (p : Ptr). Cell p h) (sym null) refl $
     pass_in ! d.alloc d.at d.member h $ move ! (1 ∷ []) $ closes ! tt Pass d (both (ptr_val d.at) h ∷ []) b o $
     returns ! (look_at ! 0 refl) $ free_all ! refl $ move ! (3 ∷ []) $
     suffices ! _ (ends_at 𝓛 f.ended stayed c y (vbool true) true (d, tt) (tt, tt)) $ says_both ! (λ _. none, λ _. refl) refl $
@@ -62,9 +64,11 @@ is_closed_spec 𝓤 𝓛 𝓜 𝓡 wired =
     sets ! (of_opd ! (load ! (through ! refl (fld ! refl (stop !))) (look_in ! 2 (sub ! 0 refl (whole !))))) refl (tt, tt) $
     sets ! (bin ! (get ! refl) (lit ! tt) (tests_null (block_ptr b' o') t)) refl (tt, tt) $
     -- [what is kept; the handle; its cell; the open borrow, in three entries]
-    rewrite ! 0 (λ (p : Ptr). ‵ (boxed d.alloc p x)) (sym is) refl $ rewrite ! 0 (λ (m : Option Passed). ‵ (kept d.alloc d.at m)) (sym some) refl $ rewrite ! 2 (λ (p : Ptr). Cell p h) (sym is) refl $
+    rewrite ! 0 (λ (p : Ptr). ‵ (boxed d.alloc p x)) (sym is) refl $ rewrite ! 0 (λ (m : Option Passed). ‵ (kept d.alloc d.at m)) (sym some) refl $
+    rewrite ! 2 (λ (p : Ptr). Cell p h) (sym is) refl $
     pass_in ! d.alloc d.at d.member h $ move ! (1 ∷ []) $ closes ! tt Pass d (both (ptr_val d.at) h ∷ []) b o $
     returns ! (look_at ! 0 refl) $ free_all ! refl $ move ! (3 ∷ []) $
-    suffices ! _ (ends_at 𝓛 f.ended stayed c y (vbool false) false (d, tt) (tt, tt)) $ says_both ! (open_is_not_closed d.member x some) refl $
+    suffices ! _ (ends_at 𝓛 f.ended stayed c y (vbool false) false (d, tt) (tt, tt)) $
+    says_both ! (open_is_not_closed d.member x some) refl $
     group ! 3 $ nothing ! $ move ! (1 ∷ 0 ∷ []) $ join ! $ nothing ! $ move ! (2 ∷ 0 ∷ []) $ join ! $ frame ! $ frame ! $
     owned ! bool _ (bool_Makes 𝓛) false _ refl $ done !)))))

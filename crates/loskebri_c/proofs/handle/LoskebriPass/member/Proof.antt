@@ -11,7 +11,8 @@ use mir.Val.{Val, vptr}
 use contract.Monad.{fact}
 use contract.Running.{tables}
 use types.Logic.{Logic, sem}
-use types.Kit.{‵, raw, ◌⊛◌, some, later, at_ret, ◌$◌, ◌∵◌, !, qed, done, move, keep, use1, await, pick, split, split3, join, fsplit, fsplit3, fjoin, fpack, rewrite, suffices, frame, group}
+use types.Kit.{‵, raw, ◌⊛◌, some, later, at_ret, ◌$◌, ◌∵◌, !, qed, done, move, keep, use1, await, pick, split, split3, join, fsplit}
+use types.Kit.{fsplit3, fjoin, fpack, rewrite, suffices, frame, group}
 use types.Part.{whole, sub, look_in}
 use types.Run.{stop, fld, load, of_opd, addr, first, blocks, exec, returns, enter}
 use types.ByLocal.{alloc_all, pass_all, free_all, look_at, get, through, sets, sets_last, env}
@@ -56,7 +57,8 @@ module _ {M : Type 1} {𝓤 : Ura M} (𝓛 : Logic 𝓤) (d : Pass.Denot) (b o b
       move ! (3 ∷ 0 ∷ []) $ fjoin ! $ rewrite ! 0 (λ (p : Ptr). ‵ (boxed d.alloc p w)) (sym e) refl $
       rewrite ! 2 (λ (p : Ptr). ‵ (cell_at full_share Pass.mir (both (ptr_val p) h ∷ []) b o)) (sym e) refl $
       pass_in ! d.alloc d.at (Some w) h $ move ! (1 ∷ 0 ∷ []) $ fjoin ! $
-      fpack ! (List Val) (λ vs. fsep (cell_at full_share Pass.mir vs b o) (Pass.own_val (with_member d w) vs)) (both (ptr_val d.at) h ∷ []) $ done !
+      fpack ! (List Val) (λ vs. fsep (cell_at full_share Pass.mir vs b o) (Pass.own_val (with_member d w) vs)) (both (ptr_val d.at) h ∷ [])
+      $ done !
 
 pub member_spec : {M : Type 1} → statement M
 member_spec 𝓤 𝓛 𝓜 𝓡 wired =
@@ -66,7 +68,8 @@ member_spec 𝓤 𝓛 𝓜 𝓡 wired =
     (λ κs. (mut_vals, tt)) (λ κs. (mut_Tells (named 0) κs.0 Pass, tt)) (λ κs qs bounds a _ are.
     let b = a.0.ref_ptr.0 in let o = a.0.ref_ptr.1 in let d = a.0.now in let vs = mut_vals a.0 in let γ = a.0.ghost_name in
     let y : W.Ghost = ((κs, qs, bounds, a, (vs, tt)), tt) in
-    qed 𝓛 (((‵ (flft κs.0 qs.0) ⊛ ‵ ftrue) ⊛ ‵ ((MutRef (named 0) κs.0 Pass).own_val a.0 vs) ⊛ ‵ ftrue) ∷ raw (fact 𝓤 (IsSome d.member)) ∷ []) ∵
+    qed 𝓛 (((‵ (flft κs.0 qs.0) ⊛ ‵ ftrue) ⊛ ‵ ((MutRef (named 0) κs.0 Pass).own_val a.0 vs) ⊛ ‵ ftrue) ∷ raw (fact 𝓤 (IsSome d.member))
+    ∷ []) ∵
     move ! (1 ∷ []) $ heard ! _ (λ is_open. split ! $ split ! $ move ! (2 ∷ []) $ split ! $ keep ! (0 ∷ 2 ∷ []) $
     enter ! _ _ _ _ _ $ alloc_all ! (λ l. pass_all ! refl ((tt, tt), tt) $
     fsplit3 ! $ move ! (1 ∷ 2 ∷ 3 ∷ []) $ opens ! tt Pass {h = d} b o (λ us.
@@ -89,4 +92,5 @@ member_spec 𝓤 𝓛 𝓜 𝓡 wired =
     use1 𝓛 (‵ ((MutRef (named 0) κs.0 Member.the_row).own_val lent (vptr b' o' ∷ [])) ⊛ ‵ (flft κs.0 qs.0)
     ⊛ ‵ (follows Pass Member.the_row γ δ (with_member d))) (id⊢ 𝓤 _) $ split3 ! $
     suffices ! _ (ends_at 𝓛 f.ended stayed c y (vptr b' o') lent (tt, tt) (tt, tt)) $
-    nothing ! $ nothing ! $ join ! $ join ! $ nothing ! $ move ! (2 ∷ 0 ∷ []) $ join ! $ join ! $ frame ! $ says ! (sym owned) $ done !)))))))
+    nothing ! $ nothing ! $ join ! $ join ! $ nothing ! $ move ! (2 ∷ 0 ∷ []) $ join ! $ join ! $ frame ! $
+    says ! (sym owned) $ done !)))))))
