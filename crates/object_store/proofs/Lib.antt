@@ -2,3 +2,4 @@ pub mod Known
 pub mod Padded
 pub mod Puts
 pub mod Crossing
+pub mod Fewer

@@ -1,5 +1,5 @@
 // A store over a pool, and its calls.
-ghost use Rattle.std.specs.Prelude.{◌≡◌, ◌≢◌, ◌↔◌, ◌+◌, ◌≤◌, ◌<◌, ◌^◌, ℕ, Contains};
+ghost use Rattle.std.specs.Prelude.{◌≡◌, ◌≢◌, ◌↔◌, ◌+◌, ◌≤◌, ◌<◌, ◌^◌, ℕ, Contains, length};
 ghost use Rattle.pool_model.specs.declared.entry.Entry.TheVariants.{Back};
 ghost use Rattle.pool_table.specs.Turns.{forget};
 ghost use Rattle.block_pool.specs.Passing.{HasAge, IsOf, Pooled};
@@ -123,8 +123,8 @@ impl<'a, R: Record + Drop> Store<'a, R> {
     /// refuses, takes no memory and waits for nobody.
     ///
     /// It makes a step for each of its words, at most a quantum of steps of the pass's pending transfer and one of its own.
-    /// The pass has one entry more, that of the free; it forgets the block's words, and every other block that it held it
-    /// still holds, with its known words.
+    /// The pass has one entry more, that of the free; it holds one block fewer and forgets that block's words, and every
+    /// other block that it held it still holds, with its known words.
     pub fn take<L: Ledger>(&self, pass: &mut Pass, object: Object<R>, steps: &mut Steps<L>) -> R
         requires pass { IsOf self.now pass.old }
         requires young { HasAge pass.old }
@@ -137,10 +137,12 @@ impl<'a, R: Record + Drop> Store<'a, R> {
         ensures entry { Entered (Back pass.old.number object.block) pass.old pass.new }
         ensures known { pass.new.known ≡ forget object.block pass.old.known }
         ensures others { KeepsOthers object.block pass.old pass.new }
+        ensures fewer { length pass.new.held + 1 ≡ length pass.old.held }
         ensures age { pass.new.age ≤ pass.old.age + 1 }
     {
         let words = read_words(self.pool, pass, &object.block, R::WORDS, steps);
         let Object { block, .. } = object;
+        pass.stands_well();
         self.pool.free(pass, block, steps);
         R::from_words(&words)
     }

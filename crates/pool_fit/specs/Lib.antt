@@ -1,0 +1,9 @@
+pub mod Tides
+pub mod Peaks
+pub mod Rows
+pub mod Moves
+pub mod Classes
+pub mod SizeRows
+pub mod Choices
+pub mod Fits
+pub mod Laws

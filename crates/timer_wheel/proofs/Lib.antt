@@ -1,0 +1,14 @@
+pub mod Lists
+pub mod Chains
+pub mod Removing
+pub mod Joining
+pub mod Serving
+pub mod Walking
+pub mod Ringing
+pub mod Starts
+pub mod Viewing
+pub mod Removes
+pub mod Wheels
+pub mod Finding
+pub mod Turning
+pub mod Stops

@@ -1,0 +1,9 @@
+pub mod Links
+pub mod Timers
+pub mod Views
+pub mod Starting
+pub mod Places
+pub mod Tables
+pub mod Serving
+pub mod Spots
+pub mod Ringing
