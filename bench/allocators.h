@@ -27,7 +27,7 @@ typedef struct {
 struct worker {
     _Alignas(128) const allocator *with;
     uint32_t number;
-    uint64_t calls, seed, slowest, refused;
+    uint64_t calls, seed, refused;
     bool timed;
     /* for a program that looks on (look_on.c): the thread's number, whether it is in a call, and how many it made */
     _Atomic int thread;

@@ -1,7 +1,7 @@
 /* Looks on while threads use an allocator of allocators.h, as a debugger does: a thread can be held after any instruction.
  *
- *   look_on worst ALLOCATOR THREADS CALLS    the most instructions of a call, with all threads a step at a time
- *   look_on stall ALLOCATOR THREADS POINTS   what the others do while one thread stands still in a call
+ *   look_on worst ALLOCATOR THREADS CALLS [QUANTUM]    the most instructions of a call, with all threads a step at a time
+ *   look_on stall ALLOCATOR THREADS POINTS [QUANTUM]   what the others do while one thread stands still in a call
  *
  * worst: every thread makes CALLS calls, and whichever has made an instruction makes its next one, so calls overlap at the
  * finest grain. An instruction that waits in the system counts once. Printed are the most and the mean, the driver's own in them.
@@ -17,7 +17,7 @@
 #include <sys/wait.h>
 #include <unistd.h>
 
-enum { QUANTUM = 8, HELD_MICROSECONDS = 3000, PATIENCE = 30, MOST_POINTS = 4096 };
+enum { HELD_MICROSECONDS = 3000, PATIENCE = 30, MOST_POINTS = 4096 };
 
 /* What the program that looks on and the one that is looked at share. */
 typedef struct {
@@ -26,7 +26,7 @@ typedef struct {
 } view;
 
 static view *seen;
-static uint32_t threads;
+static uint32_t threads, quantum = 8;
 
 static void fail(const char *why) { perror(why); exit(1); }
 
@@ -48,7 +48,7 @@ static void *work(void *given) {
 /* The program that is looked at: it stops once it has opened its allocator, and then starts its threads. */
 static void be_seen(const allocator *with, uint64_t calls) {
     pthread_t started[MOST_THREADS];
-    if (!with->open(threads, QUANTUM)) fail("open");
+    if (!with->open(threads, quantum)) fail("open");
     if (ptrace(PTRACE_TRACEME, 0, NULL, NULL)) fail("ptrace");
     raise(SIGSTOP);
     for (uint32_t i = 0; i < threads; i++) {
@@ -134,10 +134,11 @@ static void look_at_stalls(pid_t program, uint32_t points) {
 }
 
 int main(int count, char **words) {
-    if (count < 5) { fprintf(stderr, "usage: look_on worst|stall ALLOCATOR THREADS CALLS|POINTS\n"); return 2; }
+    if (count < 5) { fprintf(stderr, "usage: look_on worst|stall ALLOCATOR THREADS CALLS|POINTS [QUANTUM]\n"); return 2; }
     const allocator *with = allocator_named(words[2]);
     threads = (uint32_t)atoi(words[3]);
     uint32_t many = (uint32_t)atoi(words[4]);
+    if (count > 5) quantum = (uint32_t)atoi(words[5]);
     bool stall = !strcmp(words[1], "stall");
     if (!with || threads < (stall ? 2u : 1u) || threads > MOST_THREADS || many < 1 || (stall && many > MOST_POINTS)) {
         fprintf(stderr, "look_on: bad words\n");
