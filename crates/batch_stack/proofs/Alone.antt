@@ -37,11 +37,13 @@ process_rests : (sizes : Sizes) (process seats : ℕ) → Among (seat_of_process
 process_rests sizes process seats among =
     record { of_process = refl; shape = refl; way = refl; same = refl; rest = refl; among = among }
 
+-- at the opening a process is at rest
 pub opening_rests : (sizes : Sizes) (process seats : ℕ) (v : SeatView) → v ≡ seat_of_process sizes process seats → Among v
     → RestsAlone sizes v (opening_transfer process)
 opening_rests sizes process seats v e among =
     subst (λ w. RestsAlone sizes w (opening_transfer process)) (sym e) (process_rests sizes process seats (subst Among e among))
 
+-- with the second of its batches as its spare
 pub opening_spares : (sizes : Sizes) (process seats : ℕ) (v : SeatView) → v ≡ seat_of_process sizes process seats
     → spares_in v ≡ (2 * process + 1) * sizes.length ∷ []
 opening_spares sizes process seats v e = ap spares_in e
@@ -62,6 +64,7 @@ spares_counted sizes v t r =
 at_rest : (sizes : Sizes) (v : SeatView) (t : TransferView) → RestsAlone sizes v t → is_rest v.mind.view.transfer.next ≡ true
 at_rest sizes v t r = ap (λ (u : TransferView). is_rest u.next) r.same ∙ ap is_rest r.rest
 
+-- at rest a move begins its transfer
 pub turns_at_rest : (wish : Wish) (v : ProcessView) → is_rest v.transfer.next ≡ true → moving_view wish v ≡ alone_begun wish v
 turns_at_rest wish v rest = rw rest refl
 
@@ -81,6 +84,7 @@ begins sizes wish v t r young wishes =
       };
     }
 
+-- a process at rest with at most one spare may begin a take
 pub take_begins : (sizes : Sizes) (v : SeatView) (t : TransferView) → RestsAlone sizes v t → length (spares_in v) ≤ 1 → t.age < most_age sizes
     → GoesAlone sizes v (begun Take t)
 take_begins sizes v t r few young =
@@ -88,6 +92,7 @@ take_begins sizes v t r few young =
     let low : v.mind.view.pool.plan.spares ≤ 1 = subst (λ n. n ≤ 1) counted few in
     begins sizes Take v t r young (grind (arith, nat_tests))
 
+-- one with a spare may begin to give it
 pub give_begins : (sizes : Sizes) (v : SeatView) (t : TransferView) (head : ℕ) → RestsAlone sizes v t → spares_in v ≡ head ∷ []
     → t.age < most_age sizes → GoesAlone sizes v (begun (Give head) t)
 give_begins sizes v t head r has young =
@@ -96,9 +101,11 @@ give_begins sizes v t head r has young =
     let same : (head == head) ≡ true = grind (arith, nat_tests) in
     begins sizes (Give head) v t r young (rw (has, one, same) refl)
 
+-- what a take is about leaves the spares
 pub take_spares : (sizes : Sizes) (v : SeatView) (t : TransferView) → RestsAlone sizes v t → spares_about (Alone Take) v ≡ spares_in v
 take_spares sizes v t r = ap (λ (z : ProcessView). z.pool.heads) (turns_at_rest Take v.mind.view (at_rest sizes v t r))
 
+-- what a give is about is the one spare
 pub give_spares : (sizes : Sizes) (v : SeatView) (t : TransferView) (head : ℕ) → RestsAlone sizes v t → spares_in v ≡ head ∷ []
     → spares_about (Alone (Give head)) v ≡ []
 give_spares sizes v t head r has =
@@ -111,6 +118,7 @@ pub take_goes : (old new : Running) (v : SeatView) → RestsAlone old.sizes v ol
 take_goes old new v r few young e =
     subst (λ (n : Running). GoesAlone n.sizes v n.part) (sym e) (take_begins old.sizes v old.part r few young)
 
+-- a process that wishes to give its spare goes on so
 pub give_goes : (old new : Running) (v : SeatView) (head : ℕ) → RestsAlone old.sizes v old.part → spares_in v ≡ head ∷ []
     → old.part.age < most_age old.sizes → new ≡ wishing (Give head) old → GoesAlone new.sizes v new.part
 give_goes old new v head r has young e =
@@ -123,6 +131,7 @@ going_spares sizes wish x u goes mirrors =
     let busy : is_rest x.mind.view.transfer.next ≡ false = ap (λ (z : TransferView). is_rest z.next) mirrors ∙ goes.busy in
     ap (λ (z : ProcessView). z.pool.heads) (turns_same u.wish x.mind.view busy)
 
+-- one step of a transfer alone is an advance
 pub step_advances : (sizes : Sizes) (v x : SeatView) (t u : TransferView) (answer : Progress)
     → MadeStep sizes (Alone t.wish) v t x u answer → (answer ≡ Going → GoesOn sizes (Alone t.wish) x u)
     → spares_in x ≡ spares_after answer (spares_about (Alone t.wish) v) → (answer ≢ Going → EndsAtRest sizes (Alone t.wish) x u)
@@ -140,6 +149,7 @@ pub stays_advanced : (sizes : Sizes) (v : SeatView) (t : TransferView) → GoesA
 stays_advanced sizes v t goes =
     record { goes = λ e. goes; kept = λ e. refl; rests = λ ends. absurd (ends refl); spares = λ ends. absurd (ends refl) }
 
+-- two advances are one
 pub advances_on : (sizes now : Sizes) (v x y : SeatView) (t u w : TransferView) (answer : Progress) → now ≡ sizes
     → Advanced sizes v t x u Going → Advanced now x u y w answer → Advanced sizes v t y w answer
 advances_on sizes now v x y t u w answer same first next =
@@ -151,14 +161,17 @@ advances_on sizes now v x y t u w answer same first next =
       spares = λ ends. second.spares ends ∙ ap (spares_after answer) (first.kept refl);
     }
 
+-- an advance that isn't answered goes on
 pub going_advanced : (sizes : Sizes) (v x : SeatView) (t u : TransferView) (answer : Progress) → answer ≡ Going
     → Advanced sizes v t x u answer → Advanced sizes v t x u Going
 going_advanced sizes v x t u answer e a = subst (Advanced sizes v t x u) e a
 
+-- and it may be gone on with
 pub advanced_goes : (sizes now : Sizes) (v x : SeatView) (t u : TransferView) → now ≡ sizes → Advanced sizes v t x u Going
     → GoesAlone now x u
 advanced_goes sizes now v x t u same a = subst (λ z. GoesAlone z x u) (sym same) (a.goes refl)
 
+-- so may a running transfer that isn't answered
 pub played_goes : (before after : Seated SeatView) (t u : Running) (answer : Progress) → OnlyMoved before t after u
     → Played before t after u answer → answer ≡ Going → Goes after u
 played_goes before after t u answer moved played goes =
@@ -173,6 +186,7 @@ gave_rests sizes now v x t u answer e same a none =
       a.spares ends ∙ (ap (λ k. spares_after k (spares_about (Alone t.wish) v)) e ∙ none),
     )
 
+-- a take that got a batch leaves its process at rest, with that batch as its spare
 pub took_rests : (sizes now : Sizes) (v x : SeatView) (t u : TransferView) (answer : Progress) (head : ℕ) → answer ≡ Took head → now ≡ sizes
     → Advanced now v t x u answer → spares_about (Alone t.wish) v ≡ [] → RestsAlone sizes x u × (spares_in x ≡ head ∷ [])
 took_rests sizes now v x t u answer head e same a none =
@@ -181,11 +195,14 @@ took_rests sizes now v x t u answer head e same a none =
       a.spares ends ∙ (ap (λ k. spares_after k (spares_about (Alone t.wish) v)) e ∙ ap (λ list. list ++ head ∷ []) none),
     )
 
+-- a transfer alone that goes on may make its step
 pub alone_can : (sizes : Sizes) (v : SeatView) (t : TransferView) → GoesAlone sizes v t → CanStep sizes (Alone t.wish) v
 alone_can sizes v t goes = goes.can
 
+-- and its view is that of its seat
 pub alone_agrees : (sizes : Sizes) (v : SeatView) (t : TransferView) → GoesAlone sizes v t → Agrees (Alone t.wish) v t
 alone_agrees sizes v t goes = goes.agrees
 
+-- and what it does is in the ranges of its table
 pub alone_acts : (sizes : Sizes) (v : SeatView) (t : TransferView) → GoesAlone sizes v t → CanAct sizes t
 alone_acts sizes v t goes = transfer_can_act sizes (Alone t.wish) v t goes.can goes.agrees

@@ -45,6 +45,7 @@ due_fits sizes table_words v d =
     } in
     subst (λ (w : ProcessView). PartFits sizes w.transfer) d.here fits
 
+-- the view of a transfer that may make a step fits its sizes
 pub part_fits : (sizes : Sizes) (a : About) (v : SeatView) (t : TransferView) → CanStep sizes a v → Agrees a v t → PartFits sizes t
 part_fits sizes a v t c agrees =
     let fits = due_fits v.sizes c.among.words (turning a v.mind.view) (due_there sizes a v c) in
@@ -64,6 +65,7 @@ going_moves sizes t word last (Try second step) moving e = (step_stays sizes t w
 going_moves sizes t word last LoadFinalState moving e = refl
 going_moves sizes t word last LoadReply moving e = absurd (ends_somehow last e)
 
+-- a step brings a transfer nearer to its end
 pub comes_nearer : (sizes : Sizes) (a : About) (v : SeatView) (t u : TransferView) (word : ℕ) (answer : Progress) → CanStep sizes a v
     → Agrees a v t → u ≡ met_of sizes t word → answer ≡ progress_at t.next u.answer → ComesNearer sizes t u answer
 comes_nearer sizes a v t u word answer c agrees part answered =
@@ -79,6 +81,7 @@ comes_nearer sizes a v t u word answer c agrees part answered =
 moving_not_rest : (s : NextStep) → is_moving s ≡ true → is_rest s ≡ false
 moving_not_rest s e = grind arith
 
+-- a step that isn't answered leaves a transfer that goes on
 pub goes_on : (sizes : Sizes) (a : About) (v x : SeatView) (t u : TransferView) (word : ℕ) (answer : Progress) → CanStep sizes a v
     → Agrees a v t → Stepped a v word x → u ≡ met_of sizes t word → answer ≡ progress_at t.next u.answer → answer ≡ Going
     → GoesOn sizes a x u

@@ -138,6 +138,7 @@ goes_on_later sizes u y next goes between same changes c =
       moves = subst (λ z. moves_transfer z ≡ true) (sym begins) moves;
     }
 
+-- so does one in a call
 pub goes_on_in_calls : (sizes : Sizes) (call : Call) (v x : SeatView) (t u : TransferView) (word : ℕ) → CanStep sizes (InCall call) v
     → Agrees (InCall call) v t → Stepped (InCall call) v word x → x.mind.view.transfer ≡ u → u ≡ met_of sizes t word
     → is_rest u.next ≡ false → GoesOnInCalls sizes call x u

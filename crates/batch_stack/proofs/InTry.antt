@@ -50,6 +50,7 @@ may_go_busy : (sizes : Sizes) (wish next : Wish) (v : ProcessView) → is_rest v
     → may_go_alone sizes next v ≡ true
 may_go_busy sizes wish next v busy may = let goes = rw busy at may in rw busy goes
 
+-- in a try the step may be made whatever is wished
 pub any_wish_can : (sizes : Sizes) (v : SeatView) (t : TransferView) (s : TryStep) (next : Wish) → GoesAlone sizes v t → IsInTry t s
     → CanStep sizes (Alone next) v
 any_wish_can sizes v t s next goes tries =
@@ -61,6 +62,7 @@ any_wish_can sizes v t s next goes tries =
       among = can.among;
     }
 
+-- and the view is that of its seat
 pub any_wish_agrees : (sizes : Sizes) (v : SeatView) (t : TransferView) (s : TryStep) (next : Wish) → GoesAlone sizes v t → IsInTry t s
     → Agrees (Alone next) v t
 any_wish_agrees sizes v t s next goes tries =
@@ -94,14 +96,17 @@ begun_reads_seen q old v r s tag row e goes tries =
     begun_reads q.sizes v q.part r s tag row (subst (λ (o : Running). GoesAlone o.sizes v o.part) (sym e) goes)
     (subst (λ (o : Running). IsInTry o.part (LoadRecordWord 0)) (sym e) tries)
 
+-- a reader that has read on reads on alone
 pub reads_on : (v x : SeatView) (r s : Reading) (answer : ReadStep) → HasReadOn (Alone Take) v r x s answer
     → CanReadOn r.sizes (Alone Take) x s → ReadsAlone x s
 reads_on v x r s answer (word, read) on =
     record { on = subst (λ z. CanReadOn z (Alone Take) x s) (sym (ap (λ (z : Reading). z.sizes) read.read)) on }
 
+-- reading on keeps the sizes
 pub read_keeps_sizes : (v x : SeatView) (r s : Reading) (answer : ReadStep) → HasReadOn (Alone Take) v r x s answer → s.sizes ≡ r.sizes
 read_keeps_sizes v x r s answer (word, read) = ap (λ (z : Reading). z.sizes) read.read
 
+-- and leaves how far it came
 pub read_reached : (v x : SeatView) (r s : Reading) (answer : ReadStep) → HasReadOn (Alone Take) v r x s answer → s.reached ≡ answer
 read_reached v x r s answer (word, read) = ap (λ (z : Reading). z.reached) read.read
 
@@ -112,6 +117,7 @@ pub may_step : (q : Running) (table : TableId) (seat : Seated SeatView) (s : Try
 may_step q table seat s steps same whole goes tries room =
     record { of_table = same; whole = whole; room = room; can = any_wish_can q.sizes seat.view q.part s Take goes tries }
 
+-- a transfer that is to load an announcement may
 pub hears_there : (q : Running) (v : SeatView) (process : ℕ) → GoesAlone q.sizes v q.part → IsInTry q.part (LoadAnnouncement process)
     → LoadsAnnouncement (Alone Take) v process
 hears_there q v process goes tries =

@@ -25,11 +25,13 @@ pub record AnnouncesFit (t : TransferView) : Type 0 where
   pub young : t.age + 1 < tag_limit
   pub wish : FitsWish t.wish
 
+-- an announcement that may be made fits its word
 pub announces_fit : (sizes : Sizes) (t : TransferView) → CanAct sizes t → t.next ≡ Announce → AnnouncesFit t
 announces_fit sizes t can e =
     let (low, young, fits) = subst (CanActAt sizes t) e can in
     record { young = young; wish = fits }
 
+-- it is the next action of a transfer that begins
 pub announces_next : (sizes : Sizes) (t : TransferView) → t.next ≡ Announce
     → Store (Announcement t.number) (announcement (t.age + 1) t.wish) ≡ action_of sizes t
 announces_next sizes t e = sym (ap (action_at sizes t) e)
@@ -38,6 +40,7 @@ announces_next sizes t e = sym (ap (action_at sizes t) e)
 pub fits_in_try : (sizes : Sizes) (t : TransferView) (step : TryStep) → CanAct sizes t → IsInTry t step → CanActInTry sizes t step
 fits_in_try sizes t step can (second, e) = subst (CanActAt sizes t) e can
 
+-- the action of a step of a try is the next action
 pub acts_in_try : (sizes : Sizes) (t : TransferView) (step : TryStep) → IsInTry t step → try_action sizes t step ≡ action_of sizes t
 acts_in_try sizes t step (second, e) = sym (ap (action_at sizes t) e)
 

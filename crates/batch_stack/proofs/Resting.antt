@@ -48,6 +48,7 @@ spares_met sizes t word pool (Try second step) = refl
 spares_met sizes t word pool LoadFinalState = refl
 spares_met sizes t word pool LoadReply = spares_ended (reply_of (value_of word)) (step_counted pool)
 
+-- a step leaves the spares that its answer says
 pub spares_step : (sizes : Sizes) (a : About) (v x : SeatView) (t u : TransferView) (word : ℕ) (answer : Progress) → CanStep sizes a v
     → Agrees a v t → Stepped a v word x → u ≡ met_of sizes t word → answer ≡ progress_at t.next u.answer
     → spares_in x ≡ spares_after answer (spares_about a v)
@@ -84,6 +85,7 @@ last_rests : (sizes : Sizes) (t u : TransferView) (word : ℕ) (answer : Progres
 last_rests sizes t u word answer part answered ends =
     ap (λ (z : TransferView). z.next) (part ∙ ap (met_at sizes t word) (ends_at t.next u.answer answer ends answered))
 
+-- a step that is answered leaves its process at rest
 pub ends_at_rest : (sizes : Sizes) (a : About) (v x : SeatView) (t u : TransferView) (word : ℕ) (answer : Progress) → CanStep sizes a v
     → Agrees a v t → Stepped a v word x → u ≡ met_of sizes t word → answer ≡ progress_at t.next u.answer → answer ≢ Going
     → EndsAtRest sizes a x u

@@ -76,6 +76,7 @@ begun_writes_seen q old v o w tag row values e goes tries drafted tagged placed 
 pub writes_can : (v : SeatView) (w : Writing) → WritesAlone v w → CanStep w.sizes (Alone Take) v
 writes_can v w h = (h.on Take).0
 
+-- a writer alone may write on
 pub writes_next : (v : SeatView) (w : Writing) → WritesAlone v w → CanWrite (Alone Take) v w
 writes_next v w h = (h.on Take).1 (h.same w.index h.within)
 
@@ -92,6 +93,7 @@ writes_on v x w s answer h written on goes =
       same = λ index lt. ap (λ (d : TryDraft). drafted_value w.sizes.processes d index) kept ∙ h.same index lt;
     })
 
+-- writing on keeps the sizes
 pub write_keeps_sizes : (v x : SeatView) (w s : Writing) (answer : WriteStep) → HasWrittenOn (Alone Take) v w x s answer
     → s.sizes ≡ w.sizes
 write_keeps_sizes v x w s answer written = ap (λ (z : Writing). z.sizes) written.written

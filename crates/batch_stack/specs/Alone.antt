@@ -43,6 +43,7 @@ IsAt table seat sizes = (seat.table ≡ table) × (table.words ≡ table_words s
 abbrev pub Goes : Seated SeatView → Running → Type 0
 Goes seat t = GoesAlone t.sizes seat.view t.part
 
+-- a running transfer is at rest, and its seat's process too
 abbrev pub Rests : Seated SeatView → Running → Type 0
 Rests seat t = RestsAlone t.sizes seat.view t.part
 

@@ -14,7 +14,8 @@ use Rattle.transfer_schedule.specs.Table.{InTable}
 use Rattle.transfer_schedule.specs.Account as schedule
 use Rattle.transfer_schedule.specs.declared.pending.Pending.{Pending}
 use Rattle.transfer_schedule.specs.declared.pending.Pending.TheVariants.{Idle, Taking, Giving}
-use Rattle.transfer_schedule.proofs.Reaching.{reached_sizes, reached_stands, stands_sound, stands_table}
+use Rattle.transfer_schedule.proofs.AtPhase.{stands_sound, stands_table}
+use Rattle.transfer_schedule.proofs.Reaching.{reached_sizes, reached_stands}
 use Rattle.pool_machine.specs.declared.call.CallStage.TheVariants.{Between}
 use Rattle.pool_machine.specs.Conditions.{may_use_calls}
 use Rattle.pool_machine.specs.declared.call.Way.TheVariants.{Alone}

@@ -32,6 +32,7 @@ use Rattle.call_invariant.proofs.Begun.{runs_begun}
 opened_pool : (sizes : Sizes) (i : ℕ) → PoolHolds sizes i (opening_view sizes i)
 opened_pool sizes i = search rules
 
+-- at the opening a process is between two calls, with the ledger of the opening
 pub opening_calls : (sizes : Sizes) (i : ℕ)
     → InCalls sizes i (opening_view sizes i) (opening_ledger sizes.length (transfer_bound sizes) sizes.quantum)
 opening_calls sizes i =
@@ -83,6 +84,7 @@ fresh_begins sizes i v wish g f rest may young =
     alone_begins sizes i v wish g (rw f.view (opened_pool sizes i)) f.nothing (ap (λ x. x.calls.stage) f.view)
     (ap (λ x. x.calls.call) f.view) rest may young
 
+-- a transfer that begins outside any call is one of a process that moves alone
 pub moves_alone : (sizes : Sizes) (i : ℕ) (v : ProcessView) (wish : Wish) (g : Ledger) (way : Way) → v.calls.way ≡ way
     → UsesPoolBy way sizes i v g → MayMove v → v.transfer.next ≡ Rest
     → MayBegin wish v.pool → v.transfer.age < most_age sizes
@@ -119,6 +121,7 @@ kept_in_table sizes i v h =
       give_late = λ e three. absurd (let one = giving e in omega arith);
     }
 
+-- a process that moves alone withholds at most five batches too
 pub withholds_three : (sizes : Sizes) (i : ℕ) (x : PoolView) → x.plan.length ≡ sizes.length → KeptAlone sizes i x
     → withheld x.plan ≤ 5 * sizes.length
 withholds_three sizes i x e h = by_pending (is_idle x.plan.pending) refl

@@ -38,7 +38,8 @@ use Rattle.call_invariant.specs.Phases.{changes_pool, own_phase, moving_phase, m
 use Rattle.call_invariant.specs.Ledgers.{account_begun_by, account_begun, account_searching, ledger_begun, ledger_chosen}
 use Rattle.call_invariant.specs.InCalls.{Scheduled, InCalls, CarriesOn}
 use Rattle.call_invariant.proofs.Standing.{some_quantum, idle_rests, runs_with_calls}
-use Rattle.transfer_schedule.proofs.Reaching.{reached_stands, stands_waits}
+use Rattle.transfer_schedule.proofs.AtPhase.{stands_waits}
+use Rattle.transfer_schedule.proofs.Reaching.{reached_stands}
 use Rattle.transfer_schedule.specs.declared.pending.Pending.TheVariants.{Idle}
 
 -- the transfer that is due is one that may begin, and it is due only while nothing is pending
@@ -48,6 +49,7 @@ due_take pool e = grind (arith, nat_tests)
 due_give : (pool : PoolView) (head : ℕ) → due pool ≡ Some (Give head) → (pool.plan.spares ≡ 3) × (newest pool ≡ head)
 due_give pool head e = grind (arith, nat_tests)
 
+-- the transfer that is due may begin
 pub due_may_begin : (pool : PoolView) (wish : Wish) → length pool.heads ≡ pool.plan.spares → due pool ≡ Some wish → MayBegin wish pool
 due_may_begin pool Take heads e = due_take pool e
 due_may_begin pool (Give head) heads e = let (three, is) = due_give pool head e in (omega arith, omega arith, is)
@@ -59,6 +61,7 @@ due_is_some pool wish e = λ idle. grind arith
 due_idle : (pool : PoolView) (wish : Wish) → due pool ≡ Some wish → is_idle pool.plan.pending ≡ true
 due_idle pool wish e = grind (arith, nat_tests)
 
+-- where one is due, nothing is begun
 pub due_rests : (sizes : Sizes) (v : ProcessView) (wish : Wish) → PoolKept sizes v → due v.pool ≡ Some wish → v.transfer.next ≡ Rest
 due_rests sizes v wish h e = idle_rests sizes v h (idle_is v.pool.plan.pending (due_idle v.pool wish e))
 
@@ -243,6 +246,7 @@ search_goes_on sizes i v g some chooses idle young h =
           (enters_if_due sizes v (due v.pool) refl (λ some. young) (record { runs = h.runs; heads = h.heads; announced = h.announced }));
     }
 
+-- a search that chooses goes on as the schedule says
 pub search_chooses : (sizes : Sizes) (i : ℕ) (v : ProcessView) (g : Ledger) → 0 < sizes.quantum → v.calls.stage ≡ Choosing
     → InCalls sizes i v g
     → CarriesOn sizes i (search_chosen v) g (ledger_chosen g)
@@ -338,6 +342,7 @@ changing_call_begins sizes i v g Search changes s between young h =
     rw (ap (λ (plan : Numbers). is_idle plan.pending) h.plan)
     (search_begins_by sizes i v g (is_idle v.pool.plan.pending) refl s between young h)
 
+-- a read or a write that begins leaves the account
 pub keeping_call_begins : (sizes : Sizes) (i : ℕ) (v : ProcessView) (g : Ledger) (call : Call) → changes_pool (Some call) ≡ false
     → v.calls.stage ≡ Between → InCalls sizes i v g
     → InCalls sizes i (call_begun call v) g

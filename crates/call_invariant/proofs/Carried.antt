@@ -157,6 +157,7 @@ give_found (Give head) Nothing a e = absurd a
 give_found (Give head) (Took batch) a e = refl
 give_found (Give head) Gave a e = refl
 
+-- a pending take was wished
 pub take_wished : (wish : Wish) → is_taking (pending_of wish) ≡ true → is_take wish ≡ true
 take_wished Take e = refl
 take_wished (Give head) e = grind arith
@@ -219,6 +220,7 @@ step_carries sizes i v word g LoadFinalState e busy some m table may = going_car
 step_carries sizes i v word g LoadReply e busy some m table may =
     reply_carries sizes i v word g e some m table (may.answers refl) (may.nothing refl)
 
+-- a transfer step of a call carries its process on
 pub transfer_steps_carry : (sizes : Sizes) (i : ℕ) (v : ProcessView) (word : ℕ) (g : Ledger) → InCalls sizes i v g
     → Scheduled sizes g.account → v.calls.stage ≡ Moving → 1 ≤ sizes.processes
     → GivenToPool sizes v.transfer word

@@ -35,16 +35,20 @@ pub record Moves (sizes : Sizes) (v : ProcessView) (g : Ledger) : Type 0 where
   pub announced : has_announced v.transfer.next ≡ true → 0 < v.pool.plan.done
   pub choice : may_choose_at v.calls Moving ≡ true → MayChoose sizes v
 
+-- the phase of a call in its transfer steps is one in which a transfer moves
 pub moving_moves : (paced chosen : Bool) (steps : ℕ) → schedule.moves_in (moving_phase paced chosen steps) ≡ true
 moving_moves true chosen steps = refl
 moving_moves false chosen steps = refl
 
+-- so is the phase of its account
 pub moves_now : (sizes : Sizes) (v : ProcessView) (g : Ledger) → Moves sizes v g → schedule.moves_in g.account.phase ≡ true
 moves_now sizes v g m = rw m.phase (moving_moves (is_paced v.calls.call) v.calls.chosen v.calls.steps)
 
+-- a process in a call is no longer fresh
 pub not_fresh : (sizes : Sizes) (i : ℕ) (v : ProcessView) (g : Ledger) → InCalls sizes i v g → v.calls.stage ≢ Between → v.calls.way ≢ Fresh
 not_fresh sizes i v g h ne = λ e. (let f = h.fresh e in ne (ap (λ x. x.calls.stage) f.view))
 
+-- a call in its transfer steps has all that these need
 pub moves_at : (sizes : Sizes) (i : ℕ) (v : ProcessView) (g : Ledger) → InCalls sizes i v g → v.calls.stage ≡ Moving → Moves sizes v g
 moves_at sizes i v g h e = record {
   alone = h.way;
@@ -83,6 +87,7 @@ rest_is_rest next e = λ rest. grind arith
 changing_is_some : (call : Option Call) → changes_pool call ≡ true → call ≢ None
 changing_is_some call e = λ none. grind arith
 
+-- only a search makes more steps than a quantum
 pub unpaced_searches : (call : Option Call) → is_paced call ≡ false → call ≡ Some Search
 unpaced_searches None e = cc
 unpaced_searches (Some Allocate) e = cc
@@ -139,6 +144,7 @@ phase_goes quantum calls next changes busy = by_pace (is_paced calls.call) refl
     by_pace true e = let own = paced_phase calls.call changes e in grind (arith, nat_tests)
     by_pace false e = rw busy (rw e refl)
 
+-- the last transfer step of a call leads to the phase that the schedule says
 pub phase_ends : (quantum : ℕ) (calls : CallView) → changes_pool calls.call ≡ true
     → schedule.ended_in (moving_phase (is_paced calls.call) calls.chosen calls.steps)
     ≡ call_phase_at (calls_counted quantum Rest calls) (calls_counted quantum Rest calls).stage

@@ -19,7 +19,8 @@ use Rattle.transfer_schedule.specs.declared.own_step.Target.{Target}
 use Rattle.transfer_schedule.specs.declared.own_step.Source.TheVariants as source
 use Rattle.transfer_schedule.specs.declared.own_step.Target.TheVariants as target
 use Rattle.transfer_schedule.proofs.Operations.{SameTransfer, same_transfer, one_more_few, took_same, gave_same, took_sizes, gave_sizes}
-use Rattle.transfer_schedule.proofs.Reaching.{reached_stands, stands_table}
+use Rattle.transfer_schedule.proofs.AtPhase.{stands_table}
+use Rattle.transfer_schedule.proofs.Reaching.{reached_stands}
 use Rattle.pool_machine.specs.declared.call.Call.{Call}
 use Rattle.pool_machine.specs.declared.call.Call.TheVariants.{Allocate, Free, Read, Write, Search}
 use Rattle.pool_machine.specs.declared.call.CallStage.TheVariants.{Between, Own}
@@ -152,12 +153,14 @@ allocate_leaves sizes i v word g new h own call plan phase =
     (rw same (took_room v.pool.plan sizes.length h.runs.kept.batch h.runs.kept.room)) (took_heads word v.pool s refl h.heads)
     (plan ∙ ap after_took_one h.plan ∙ sym same) phase)
 
+-- an allocate or a search that got a block leaves its process between two calls
 pub gets_leave : (sizes : Sizes) (i : ℕ) (v : ProcessView) (word : ℕ) (g : Ledger) (history : List Entry) (entry : Entry)
     → InCalls sizes i v g → v.calls.stage ≡ Own → is_getting v.calls.call ≡ true
     → InCalls sizes i (own_met v word) (entered history entry (got_one g.account) g)
 gets_leave sizes i v word g history entry h own call =
     allocate_leaves sizes i v word g (entered history entry (got_one g.account) g) h own call refl refl
 
+-- so does one that is refused
 pub refusals_leave : (sizes : Sizes) (i : ℕ) (v : ProcessView) (word : ℕ) (g : Ledger) (history : List Entry) (entry : Entry)
     → InCalls sizes i v g → v.calls.stage ≡ Own → is_getting v.calls.call ≡ true
     → InCalls sizes i (own_met v word) (entered history entry (got_none g.account) g)
@@ -176,6 +179,7 @@ pub phase_own : (sizes : Sizes) (i : ℕ) (v : ProcessView) (g : Ledger) → InC
     → g.account.phase ≡ own_phase v.calls.call
 phase_own sizes i v g h own = h.phase ∙ own_phase_at v.calls own
 
+-- an allocate and a search ask for a block in their own step
 pub getting_asks : (call : Option Call) → is_getting call ≡ true → schedule.asks_in (own_phase call) ≡ true
 getting_asks None e = cc
 getting_asks (Some Allocate) e = refl
@@ -193,6 +197,7 @@ few_in_table x h = by_pending x.pending refl
     by_pending Taking e = let few = h.take e in omega arith
     by_pending Giving e = h.give e
 
+-- a process in calls has at most three spares
 pub spares_few : (sizes : Sizes) (i : ℕ) (v : ProcessView) (g : Ledger) → Scheduled sizes g.account → InCalls sizes i v g
     → v.pool.plan.spares ≤ 3
 spares_few sizes i v g s h = few_in_table v.pool.plan (in_table sizes i v g s h)
@@ -204,6 +209,7 @@ reached_few : (sizes : Sizes) (a : Account) → Scheduled sizes a → a.plan.spa
 reached_few sizes a s =
     few_in_table a.plan (stands_table a (reached_stands sizes.length (transfer_bound sizes) sizes.quantum a s.fit s.reached))
 
+-- a free that begins a fresh list has room for one more spare
 pub frees_have_room : (sizes : Sizes) (i : ℕ) (v : ProcessView) (g : Ledger) → InCalls sizes i v g → Scheduled sizes g.account
     → v.calls.stage ≡ Own → own_phase v.calls.call ≡ schedule.Own
     → g.account.backs < g.account.gots → target_of v.pool.plan ≡ target.Fresh → length v.pool.heads < 3
@@ -224,6 +230,7 @@ holders_may_free account entries block counts balance held =
 pub block_has_source : (pool : PoolView) (block : ℕ) → next_block pool ≡ Some block → source_of pool.plan ≢ source.Nothing
 block_has_source pool block e = λ none. grind arith
 
+-- where no block is next, the plan has none
 pub no_block_has_none : (pool : PoolView) → next_block pool ≡ None → source_of pool.plan ≡ source.Nothing
 no_block_has_none pool e = by_source (source_of pool.plan) e
   where
@@ -234,10 +241,12 @@ no_block_has_none pool e = by_source (source_of pool.plan) e
 spare_has_head : (x : Numbers) → source_of x ≡ source.Spare → 1 ≤ x.spares
 spare_has_head x e = grind (arith, nat_tests)
 
+-- where the plan takes its block from a spare, there is one
 pub allocates_have_spare : (sizes : Sizes) (i : ℕ) (v : ProcessView) (g : Ledger) → InCalls sizes i v g
     → source_of v.pool.plan ≡ source.Spare → 1 ≤ length v.pool.heads
 allocates_have_spare sizes i v g h e = rw h.heads (spare_has_head v.pool.plan e)
 
+-- a free leaves its process between two calls
 pub frees_leave : (sizes : Sizes) (i : ℕ) (v : ProcessView) (word block : ℕ) (g : Ledger) (history : List Entry) (entry : Entry)
     → InCalls sizes i v g → Scheduled sizes g.account
     → v.calls.stage ≡ Own → v.calls.call ≡ Some (Free block)
@@ -267,6 +276,7 @@ kept_phase calls own keeps = rw own (at_own calls.call keeps)
     at_own : (call : Option Call) → changes_pool call ≡ false → own_phase call ≡ schedule.Between
     at_own call e = grind arith
 
+-- so does a read or a write, with the ledger as it was
 pub keeping_steps_leave : (sizes : Sizes) (i : ℕ) (v : ProcessView) (word : ℕ) (g : Ledger) → InCalls sizes i v g → v.calls.stage ≡ Own
     → changes_pool v.calls.call ≡ false
     → InCalls sizes i (own_met v word) g

@@ -7,7 +7,8 @@ use Rattle.transfer_schedule.specs.Numbers.{Numbers, AreSizes, withheld}
 use Rattle.transfer_schedule.specs.Table.{InTable}
 use Rattle.transfer_schedule.specs.declared.pending.Pending.TheVariants.{Idle}
 use Rattle.transfer_schedule.proofs.Products.{quantum_some}
-use Rattle.transfer_schedule.proofs.Reaching.{Stands, reached_stands, reached_sizes, stands_table, stands_withholds}
+use Rattle.transfer_schedule.proofs.AtPhase.{Stands, stands_table, stands_withholds}
+use Rattle.transfer_schedule.proofs.Reaching.{reached_stands, reached_sizes}
 use Rattle.word_layout.specs.declared.announced.Wish.{Wish}
 use Rattle.pool_machine.specs.Pools.{pending_of}
 use Rattle.transfer_machine.specs.declared.stage.NextStep.{NextStep}
@@ -24,6 +25,7 @@ use Rattle.call_invariant.specs.InCalls.{Scheduled, InCalls}
 pub shape_fits : (sizes : Sizes) → IsShape sizes → AreSizes sizes.length (transfer_bound sizes) sizes.quantum
 shape_fits sizes shape = record { long = two_blocks_a_batch sizes shape; some = omega arith; soon = shape.least_length.enough }
 
+-- a quantum has at least one step
 pub some_quantum : (sizes : Sizes) → AreSizes sizes.length (transfer_bound sizes) sizes.quantum → 0 < sizes.quantum
 some_quantum sizes fit = quantum_some sizes.length (transfer_bound sizes) sizes.quantum fit.some fit.soon
 
@@ -31,6 +33,7 @@ some_quantum sizes fit = quantum_some sizes.length (transfer_bound sizes) sizes.
 rests_unless_moving : (s : NextStep) → (is_moving s ≡ true → ⊥) → s ≡ Rest
 rests_unless_moving s none = grind arith
 
+-- with nothing pending nothing is begun
 pub idle_rests : (sizes : Sizes) (v : ProcessView) → PoolKept sizes v → v.pool.plan.pending ≡ Idle → v.transfer.next ≡ Rest
 idle_rests sizes v h idle = rests_unless_moving v.transfer.next (λ moving. wish_pends v.transfer.wish (sym (h.pending moving) ∙ idle))
   where
@@ -60,10 +63,12 @@ runs_with_calls sizes v calls h = record {
 stands : (sizes : Sizes) (a : Account) → Scheduled sizes a → Stands a
 stands sizes a s = reached_stands sizes.length (transfer_bound sizes) sizes.quantum a s.fit s.reached
 
+-- the table of spares holds of a process in calls
 pub in_table : (sizes : Sizes) (i : ℕ) (v : ProcessView) (g : Ledger) → Scheduled sizes g.account → InCalls sizes i v g
     → InTable v.pool.plan
 in_table sizes i v g s h = rw (sym h.plan) (stands_table g.account (stands sizes g.account s))
 
+-- it withholds at most five batches
 pub withholds_five : (sizes : Sizes) (i : ℕ) (v : ProcessView) (g : Ledger) → Scheduled sizes g.account → InCalls sizes i v g
     → withheld v.pool.plan ≤ 5 * sizes.length
 withholds_five sizes i v g s h =

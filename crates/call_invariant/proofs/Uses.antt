@@ -43,6 +43,7 @@ keeps_pool sizes i v g Fresh h s = record { runs = h.runs; heads = h.heads; tabl
 keeps_pool sizes i v g Alone h s = record { runs = h.pool.runs; heads = h.pool.alone.spares.heads; table = kept_in_table sizes i v h.pool }
 keeps_pool sizes i v g Calls h s = record { runs = h.runs; heads = h.heads; table = in_table sizes i v g s h }
 
+-- a process withholds at most five batches, however it uses its pool
 pub withholds_few : (sizes : Sizes) (i : ℕ) (v : ProcessView) (g : Ledger) (way : Way) → UsesPoolBy way sizes i v g
     → Scheduled sizes g.account
     → withheld v.pool.plan ≤ 5 * sizes.length
@@ -75,6 +76,7 @@ reply_ends pool (Give head) Nothing pending table heads a = absurd a
 reply_ends pool (Give head) (Took batch) pending table heads a = absurd a
 reply_ends pool (Give head) Gave pending table heads a = tt
 
+-- a reply that answers the wish can end the transfer
 pub replies_can_end : (sizes : Sizes) (v : ProcessView) (word : ℕ) → PoolKeeps sizes v
     → (v.transfer.next ≡ LoadReply → Answers v.transfer.wish (reply_of (value_of word)))
     → CanMeetPool word v.pool v.transfer.next
@@ -101,10 +103,12 @@ pub due_begins : (sizes : Sizes) (v : ProcessView) (wish : Wish) → PoolKeeps s
     → (v.transfer.next ≡ Rest) × MayBegin wish v.pool
 due_begins sizes v wish h e = (due_rests sizes v wish h.runs.kept e, due_may_begin v.pool wish h.heads e)
 
+-- a call can begin, where the head that it gives is a block
 pub calls_can_begin : (sizes : Sizes) (v : ProcessView) → PoolKeeps sizes v → (v.pool.plan.spares ≡ 3 → newest v.pool < most_blocks)
     → CanBegin v
 calls_can_begin sizes v h fits = record { rest = idle_rests sizes v h.runs.kept; heads = h.heads; fits = fits }
 
+-- with nothing pending nothing is begun, however the pool is used
 pub idle_pool_rests : (sizes : Sizes) (v : ProcessView) → PoolKeeps sizes v → v.pool.plan.pending ≡ Idle → v.transfer.next ≡ Rest
 idle_pool_rests sizes v h idle = idle_rests sizes v h.runs.kept idle
 
@@ -115,16 +119,19 @@ uses_calls sizes i v g Fresh ne h = h
 uses_calls sizes i v g Alone ne h = absurd (ne refl)
 uses_calls sizes i v g Calls ne h = h
 
+-- what does not move alone is in calls
 pub calls_used : (sizes : Sizes) (i : ℕ) (v : ProcessView) (g : Ledger) (way : Way) → way ≢ Alone → UsesPoolBy way sizes i v g
     → InCalls sizes i v g
 calls_used sizes i v g Fresh ne h = h
 calls_used sizes i v g Alone ne h = absurd (ne refl)
 calls_used sizes i v g Calls ne h = h
 
+-- what moves alone is in transfers
 pub transfers_used : (sizes : Sizes) (i : ℕ) (v : ProcessView) (g : Ledger) (way : Way) → way ≡ Alone → UsesPoolBy way sizes i v g
     → InTransfers sizes i v g
 transfers_used sizes i v g way e h = rw e at h
 
+-- a process in transfers moves alone
 pub uses_transfers : (sizes : Sizes) (i : ℕ) (v : ProcessView) (g : Ledger) (way : Way) → way ≡ Alone → InTransfers sizes i v g
     → UsesPoolBy way sizes i v g
 uses_transfers sizes i v g way e h = rw e h
@@ -135,6 +142,7 @@ fresh_stays : (sizes : Sizes) (i : ℕ) (v : ProcessView) (old new : Ledger) →
 fresh_stays sizes i v old new account entries h =
     record { view = h.view; nothing = record { account = account ∙ h.nothing.account; none = entries ∙ h.nothing.none } }
 
+-- a process stays in its calls while its account and its entries stay
 pub calls_stay : (sizes : Sizes) (i : ℕ) (v : ProcessView) (old new : Ledger) → new.account ≡ old.account → new.entries ≡ old.entries
     → InCalls sizes i v old → InCalls sizes i v new
 calls_stay sizes i v old new account entries h = record {
@@ -149,6 +157,7 @@ calls_stay sizes i v old new account entries h = record {
   fresh = λ e. fresh_stays sizes i v old new account entries (h.fresh e);
 }
 
+-- it uses its pool as before while these stay
 pub uses_stay : (sizes : Sizes) (i : ℕ) (v : ProcessView) (old new : Ledger) (way : Way) → new.account ≡ old.account
     → new.entries ≡ old.entries → UsesPoolBy way sizes i v old
     → UsesPoolBy way sizes i v new

@@ -48,6 +48,7 @@ held_hold sizes words s views batches currents held held_after hold same = recor
   replies = hold.replies;
 }
 
+-- chains speak of what each process holds, and of nothing else of the history
 pub held_same : (sizes : Sizes) (words : Words) (s : StackState) (views : ProcessViews) (held held_after : BlockLists)
     → Chains sizes words s views held
     → ((i : ℕ) → i < sizes.processes → held_after i ≡ held i) → Chains sizes words s views held_after

@@ -48,6 +48,7 @@ drafted_fits sizes s v within low =
       heads = λ k lt. omega (arith, drafted_overlay s v k, low (v.draft.base + k) (omega (arith, height)));
     }
 
+-- a batch has a block
 pub some_long : (sizes : Sizes) → IsShape sizes → 1 ≤ sizes.length
 some_long sizes shape = omega (arith, two_blocks_a_batch sizes shape)
 

@@ -56,6 +56,7 @@ kept_pending l m current heads spares transit size same one =
     one_more : (l spares : ℕ) → l * (spares + 1) ≡ l * spares + l
     one_more l spares = omega arith
 
+-- what a process keeps is at most what its plan withholds
 pub kept_is_withheld : (sizes : Sizes) (s : StackState) (i : ℕ) (v : ProcessView) (t : Bool) → is_idle v.pool.plan.pending ≡ t
     → CountsItsBatches sizes v → kept_blocks sizes s i v ≤ withheld v.pool.plan
 kept_is_withheld sizes s i v true e counts =

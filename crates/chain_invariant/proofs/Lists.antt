@@ -23,6 +23,7 @@ chain_begins words code count [] some leads size = absurd (omega (arith, size))
 chain_begins words code count (first ∷ rest) some leads size =
     record { first = first; rest = rest; is = refl; named = leads.0; leads = leads.1; size = omega (arith, size) }
 
+-- a chain of at least one block begins with one
 pub begins : (words : Words) (code count : ℕ) (chain : List ℕ) → 1 ≤ count → IsChainOf words code count chain
     → Begins words code count chain
 begins words code count chain some h = chain_begins words code count chain some h.leads h.size
@@ -33,6 +34,7 @@ unfolding IsChain
 chain_ends words code [] leads size = leads
 chain_ends words code (first ∷ rest) leads size = absurd (omega (arith, size))
 
+-- a chain of no block has the code 0
 pub empty_code : (words : Words) (code count : ℕ) (chain : List ℕ) → count ≡ 0 → IsChainOf words code count chain → code ≡ 0
 empty_code words code count chain none h = chain_ends words code chain h.leads (h.size ∙ none)
 
@@ -40,6 +42,7 @@ no_blocks : (chain : List ℕ) → length chain ≡ 0 → chain ≡ []
 no_blocks [] size = refl
 no_blocks (first ∷ rest) size = absurd (omega (arith, size))
 
+-- a chain of no block is empty
 pub empty_chain : (words : Words) (code count : ℕ) (chain : List ℕ) → count ≡ 0 → IsChainOf words code count chain → chain ≡ []
 empty_chain words code count chain none h = no_blocks chain (h.size ∙ none)
 
@@ -66,6 +69,7 @@ chain_same words new code (first ∷ rest) stays leads =
           (λ b some. stays b (omega (arith, sum_by-cons (is_head b) first rest))) leads.1),
     )
 
+-- a chain stays one while the next words of its blocks stay
 pub chain_stays : (words new : Words) (code count : ℕ) (chain : List ℕ) → StaysAlong words new chain → IsChainOf words code count chain
     → IsChainOf new code count chain
 chain_stays words new code count chain stays h = record { leads = chain_same words new code chain stays h.leads; size = h.size }
@@ -75,6 +79,7 @@ rest_along : (words new : Words) (first : ℕ) (rest chain : List ℕ) → chain
     → StaysAlong words new rest
 rest_along words new first rest chain is stays b some = stays b (rw is (omega (arith, some, sum_by-cons (is_head b) first rest)))
 
+-- the rest of a chain after its first block is one
 pub rest_chain : (words new : Words) (code count : ℕ) (chain : List ℕ) (first less : ℕ) (b : Begins words code count chain)
     → b.first ≡ first → less + 1 ≡ count → StaysAlong words new chain
     → IsChainOf new (words (Next first)) less b.rest
@@ -82,11 +87,13 @@ rest_chain words new code count chain first less b named size stays =
     let rest : IsChainOf words (words (Next first)) less b.rest = record { leads = rw named at b.leads; size = omega (arith, b.size) } in
     chain_stays words new (words (Next first)) less b.rest (rest_along words new b.first b.rest chain b.is stays) rest
 
+-- a block whose next word leads to a chain makes one with it
 pub longer_chain : (words : Words) (code count block : ℕ) (chain : List ℕ) → words (Next block) ≡ code → IsChainOf words code count chain
     → IsChainOf words (block + 1) (count + 1) (block ∷ chain)
 unfolding IsChain
 longer_chain words code count block chain next h = record { leads = (refl, rw next h.leads); size = omega (arith, h.size) }
 
+-- the code 0 leads to the empty chain
 pub no_chain : (words : Words) → IsChainOf words 0 0 []
 unfolding IsChain
 no_chain words = record { leads = refl; size = refl }

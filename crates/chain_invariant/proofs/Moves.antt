@@ -127,6 +127,7 @@ met_keeps_current word pool LoadReply =
     counted_ended pool (pool_ended (reply_of (value_of word)) (step_counted pool))
     (ended_keeps_current (reply_of (value_of word)) (step_counted pool))
 
+-- a transfer that begins keeps the chains
 pub beginning_keeps : (sizes : Sizes) (words : Words) (s : StackState) (views after : ProcessViews)
     (batch_blocks current_blocks held_blocks : BlockLists) (i : ℕ) (wish : Wish) (x : ProcessView) → i < sizes.processes
     → ChainsHold sizes words s views batch_blocks current_blocks held_blocks → (views i).transfer.next ≡ Rest → MayBegin wish (views i).pool
@@ -136,6 +137,7 @@ beginning_keeps sizes words s views after batch_blocks current_blocks held_block
     process_moves sizes words s views after batch_blocks current_blocks held_blocks i x (view_begun wish (views i)) li hold same moved
     (begun_keeps s i wish (views i) rest may) (begun_keeps_current wish (views i).pool)
 
+-- a step of a transfer that leaves the words of chains keeps them
 pub step_keeps : (sizes : Sizes) (words : Words) (s : StackState) (views after : ProcessViews)
     (batch_blocks current_blocks held_blocks : BlockLists) (i word : ℕ) (x : ProcessView) → i < sizes.processes
     → ChainsHold sizes words s views batch_blocks current_blocks held_blocks → InStep s i (views i).transfer word
@@ -179,6 +181,7 @@ chains_fit sizes words s views batch_blocks current_blocks held_blocks shape hol
     no_times : (n : ℕ) → 0 * n ≡ 0
     no_times n = omega arith
 
+-- the chains hold of the state after the announcements that a try heard
 pub next_chains : (sizes : Sizes) (words : Words) (s : StackState) (views : ProcessViews)
     (batch_blocks current_blocks held_blocks : BlockLists) (announcements : ℕ → ℕ) (heard : ℕ) → IsShape sizes
     → heard ≤ sizes.processes → ChainsHold sizes words s views batch_blocks current_blocks held_blocks
@@ -189,6 +192,7 @@ next_chains sizes words s views batch_blocks current_blocks held_blocks announce
     (next_carried sizes s views announcements heard le
     (chains_fit sizes words s views batch_blocks current_blocks held_blocks shape hold) present)
 
+-- they hold of a state that is installed
 pub installs_carry : (sizes : Sizes) (words : Words) (s : StackState) (views : ProcessViews)
     (batch_blocks current_blocks held_blocks : BlockLists) (v : TransferView) → IsShape sizes
     → ChainsHold sizes words s views batch_blocks current_blocks held_blocks → InstallsNext sizes s views v

@@ -17,6 +17,7 @@ use Rattle.chain_invariant.proofs.Pool.{pool_moved}
 abbrev pub put_list : ℕ → List ℕ → BlockLists → BlockLists
 put_list number list lists k = if k == number then list else lists k
 
+-- a list that is put in the place of another moves that one alone
 pub put_list_moved : (number : ℕ) (list : List ℕ) (lists : BlockLists) → MovedList number list lists (put_list number list lists)
 put_list_moved number list lists = record { here = put_here; elsewhere = put_elsewhere }
   where

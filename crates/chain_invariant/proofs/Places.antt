@@ -16,6 +16,7 @@ use Rattle.chain_invariant.proofs.Lists.{Begins, begins, StaysAlong}
 first_weighs : (first : ℕ) (rest chain : List ℕ) → chain ≡ first ∷ rest → 1 ≤ weight (is_head first) chain
 first_weighs first rest chain is = rw is (omega (arith, sum_by-cons (is_head first) first rest, counts_itself first))
 
+-- the first block of a chain stands in it
 pub begin_weighs : (words : Words) (code count : ℕ) (chain : List ℕ) (b : Begins words code count chain)
     → 1 ≤ weight (is_head b.first) chain
 begin_weighs words code count chain b = first_weighs b.first b.rest chain b.is

@@ -29,6 +29,7 @@ acts_elsewhere sizes action m n other a = λ b lt. a.elsewhere (Next b) lt (othe
 transfer_keeps_nexts : (sizes : Sizes) (v : TransferView) (m n : Words) → Acted sizes (action_of sizes v) m n → NextsStay sizes m n
 transfer_keeps_nexts sizes v m n a = λ b lt. leaves_other_words sizes v m n (Next b) a refl lt
 
+-- every step of a transfer keeps the chains, also one that installs a state
 pub transfer_keeps : (sizes : Sizes) (m n : Words) (views after : ProcessViews) (states : States)
     (batch_blocks current_blocks held_blocks : BlockLists) (i : ℕ) (x : ProcessView) → IsShape sizes → i < sizes.processes
     → ChainsHold sizes m (states (state_tag m)) views batch_blocks current_blocks held_blocks

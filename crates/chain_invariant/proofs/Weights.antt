@@ -14,9 +14,11 @@ use Rattle.chain_invariant.specs.Chains.{without, is_head}
 pub counts_itself : (this : ℕ) → is_head this this ≡ 1
 counts_itself this = grind (arith, nat_tests)
 
+-- a head that counts is the one asked for
 pub counts_equal : (this head : ℕ) → 1 ≤ is_head this head → head ≡ this
 counts_equal this head h = grind (arith, nat_tests)
 
+-- no other head counts
 pub counts_no_other : (this head : ℕ) → head ≢ this → is_head this head ≡ 0
 counts_no_other this head h = grind (arith, nat_tests)
 
@@ -27,9 +29,11 @@ has_weighs xs b has =
     let here = ap (is_head b) has.2 in
     omega (arith, part, here, counts_itself b)
 
+-- what weighs nothing in a list is not contained
 pub weighs_none : (xs : List ℕ) (b : ℕ) → weight (is_head b) xs ≡ 0 → ¬ Contains xs b
 weighs_none xs b none has = omega (arith, has_weighs xs b has)
 
+-- the weight of a member is part of the whole
 pub weight_part : (f : ℕ → ℕ) (b : ℕ) (xs : List ℕ) → 1 ≤ weight (is_head b) xs → f b ≤ weight f xs
 weight_part f b [] some = absurd (omega arith)
 weight_part f b (x ∷ xs) some = elim (cases_eq x b) [
@@ -77,6 +81,7 @@ pick_weighs f b x rest less false e h =
     no_more : (t x : ℕ) → (0 + t) * x ≡ t * x
     no_more t x = omega arith
 
+-- a list weighs what it does without a block, and the weight of that block as often as it stands there
 pub weight_without : (f : ℕ → ℕ) (b : ℕ) (xs : List ℕ) → weight f (without b xs) + weight (is_head b) xs * f b ≡ weight f xs
 weight_without f b [] = omega arith
 weight_without f b (x ∷ xs) =
@@ -86,5 +91,6 @@ weight_without f b (x ∷ xs) =
 pub total_past : (count b : ℕ) → count ≤ b → total count (is_head b) ≡ 0
 total_past count b le = total_none count (is_head b) (λ o lt. counts_no_other b o (λ e. omega arith))
 
+-- among all numbers below a bound one counts once
 pub total_one : (count b : ℕ) → b < count → total count (is_head b) ≡ 1
 total_one count b lt = total_of_one count b (is_head b) lt (λ o lo ne. counts_no_other b o ne) ∙ counts_itself b

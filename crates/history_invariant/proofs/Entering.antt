@@ -80,6 +80,7 @@ more_gots : (entries : List Entry) (block : ℕ) → Contains (grip entries) blo
 more_gots entries block mine balance =
     omega (arith, balance, times_contained block (grip entries) mine, length_without block (grip entries))
 
+-- a free of a block that its process holds meets what its entry owes
 pub back_owes : (limits : Limits) (bound quantum : ℕ) (history : List Entry) (i block : ℕ) (ledger : Ledger)
     → i < limits.processes
     → Shared limits history

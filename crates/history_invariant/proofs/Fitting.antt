@@ -31,6 +31,7 @@ own_split i place history = omega (
   length-append (own (take place history) i) (own (drop place history) i),
 )
 
+-- a longer beginning of the history has no fewer entries of a process
 pub own_rises : (i first later : ℕ) (history : List Entry)
     → first ≤ later
     → length (own (take first history) i) ≤ length (own (take later history) i)

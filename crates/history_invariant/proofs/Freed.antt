@@ -9,6 +9,7 @@ use Rattle.history_invariant.proofs.Times.{length_without, times_contained}
 use Rattle.history_invariant.proofs.Grips.{grip_once}
 use Rattle.history_invariant.proofs.Shared.{grips_of, legal_shared}
 
+-- a free takes one block out of the grip of its process
 pub freed_one : (limits : Limits) (past : List Entry) (by block : ℕ) → IsLegal limits past → MayFollow limits past (Back by block)
     → length (grip_after (grip (own past by)) (Back by block)) + 1 ≡ length (grip (own past by))
 freed_one limits past by block legal may =

@@ -15,7 +15,8 @@ use Rattle.transfer_schedule.specs.Account.{Returning}
 use Rattle.transfer_schedule.specs.Account.{moves_in, sought_by, Follows, begins, continues, idles, moves, ends}
 use Rattle.transfer_schedule.specs.Account.{gets, refuses, frees, meets, seeks, quits, clears, gives, shelves, retires, enlists, retakes}
 use Rattle.transfer_schedule.specs.Account.{Reached, follows}
-use Rattle.transfer_schedule.proofs.Reaching.{reached_stands, stands_begun}
+use Rattle.transfer_schedule.proofs.AtPhase.{stands_begun}
+use Rattle.transfer_schedule.proofs.Reaching.{reached_stands}
 use Rattle.history_invariant.specs.Ledger.{Ledger, IsAnnounced}
 use Rattle.history_invariant.specs.Fits.{HadFewSince, LedgerFits}
 use Rattle.history_invariant.specs.Steps.{stepped, announced, ended, GoesOn}
@@ -300,6 +301,7 @@ going_fits limits bound quantum history i old new sizes f (steps.moves moving se
 going_fits limits bound quantum history i old new sizes f (steps.ends found moving sent low given nothing) =
     ends_fits limits bound quantum history i old found f moving sent low given nothing
 
+-- a step that makes no entry leaves what its process has seen
 pub going_sees : (old new : Ledger) → GoesOn old new → new.seen ≡ old.seen
 going_sees old new (steps.begins account still same next) = refl
 going_sees old new (steps.announces moving none long) = refl

@@ -54,12 +54,14 @@ pub grip_once : (limits : Limits) (i block : ℕ) (blocks : List ℕ) (grips : �
 grip_once limits i block blocks grips lt g =
     omega (arith, g.once block, g.parts block, term_of_total limits.processes i (λ o. times block (grips o)) lt)
 
+-- a block stands in a grip at most as often as among the held blocks
 pub grip_all : (limits : Limits) (i block : ℕ) (blocks : List ℕ) (grips : ℕ → List ℕ)
     → i < limits.processes
     → GripsAreHeld limits blocks grips
     → times block (grips i) ≤ times block blocks
 grip_all limits i block blocks grips lt g = omega (arith, g.parts block, term_of_total limits.processes i (λ o. times block (grips o)) lt)
 
+-- once a block is given back, the other grips are the blocks that are held still
 pub grips_back : (limits : Limits) (i block : ℕ) (blocks : List ℕ) (grips new : ℕ → List ℕ)
     → i < limits.processes
     → Contains (grips i) block

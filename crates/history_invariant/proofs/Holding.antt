@@ -29,6 +29,7 @@ opening_fits limits bound quantum i = record {
   found = record { pending = λ taking some nothing. cc; dry = λ dry. cc };
 }
 
+-- the empty history is that of the opening
 pub opening_holds : (limits : Limits) (bound quantum : ℕ) (ledgers : Ledgers)
     → ((i : ℕ) → i < limits.processes → ledgers i ≡ opening_ledger limits.batch_length bound quantum)
     → HistoryHolds limits bound quantum [] ledgers
@@ -66,6 +67,7 @@ emptied_sees : (limits : Limits) (history : List Entry) (old new : Ledger) → E
 emptied_sees limits history old new stays = refl
 emptied_sees limits history old new (empties few) = refl
 
+-- an exchange of the state keeps the history
 pub exchange_holds : (limits : Limits) (bound quantum : ℕ) (history : List Entry) (ledgers after : Ledgers)
     → HistoryHolds limits bound quantum history ledgers
     → ((i : ℕ) → i < limits.processes → Emptied limits history (ledgers i) (after i))
@@ -126,6 +128,7 @@ ledger_grips limits history ledgers same g = record {
   below = g.below;
 }
 
+-- the held blocks are shared out among the processes
 pub held_shared : (limits : Limits) (bound quantum : ℕ) (history : List Entry) (ledgers : Ledgers)
     → HistoryHolds limits bound quantum history ledgers
     → SharesOut limits history ledgers

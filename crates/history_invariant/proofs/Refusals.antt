@@ -11,7 +11,8 @@ use Rattle.transfer_schedule.specs.Numbers.{AreSizes, source_of}
 use Rattle.transfer_schedule.specs.Account.{Account, asks_in, Sought}
 use Rattle.transfer_schedule.specs.Laws.{IsSound, FoundNothing}
 use Rattle.transfer_schedule.proofs.Stock.{nothing_stock}
-use Rattle.transfer_schedule.proofs.Reaching.{reached_stands, reached_sizes, stands_sound, stands_refused, stands_misses, asks_serves}
+use Rattle.transfer_schedule.proofs.AtPhase.{stands_sound, stands_refused, stands_misses, asks_serves}
+use Rattle.transfer_schedule.proofs.Reaching.{reached_stands, reached_sizes}
 use Rattle.history_invariant.specs.Ledger.{Ledger}
 use Rattle.history_invariant.specs.Fits.{LedgerFits, HadFewNow}
 use Rattle.history_invariant.proofs.Fitting.{own_since}
@@ -56,6 +57,7 @@ refusal_may_follow limits bound quantum history i ledger sizes lt f phase none =
       },
     )
 
+-- a refused process has got as many blocks more than it gave back as a legal refusal asks for
 pub refusal_has_net : (limits : Limits) (bound quantum : ℕ) (history : List Entry) (i : ℕ) (ledger : Ledger)
     → AreSizes limits.batch_length bound quantum
     → LedgerFits limits bound quantum history i ledger

@@ -72,6 +72,7 @@ join_fits limits bound quantum history i other mine theirs f t le = record {
 seen_whole : (history seen : List Entry) → take (length seen) history ≡ seen → length history ≤ length seen → seen ≡ history
 seen_whole history seen beginning le = sym beginning ∙ take_all (length seen) history le
 
+-- a process that is told what another one has seen keeps the history
 pub join_holds : JoinsKeepHistory
 join_holds limits bound quantum history ledgers after i other lt lo h le moved = record {
   legal = h.legal;

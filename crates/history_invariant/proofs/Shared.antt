@@ -52,6 +52,7 @@ pub gots_more : (entries : List Entry) (entry : Entry)
     → count_by is_got (entries ++ entry ∷ []) ≡ count_by is_got entries + cond (is_got entry) 1 0
 gots_more entries entry = sum_by_push (λ e. cond (is_got e) 1 0) entries entry
 
+-- one entry more counts where it gives a block back
 pub backs_more : (entries : List Entry) (entry : Entry)
     → count_by is_back (entries ++ entry ∷ []) ≡ count_by is_back entries + cond (is_back entry) 1 0
 backs_more entries entry = sum_by_push (λ e. cond (is_back e) 1 0) entries entry
@@ -134,6 +135,7 @@ shared_at limits history (suc place) le legal =
     (shared_more limits (take place history) (get_or history place (Dry 0)) (shared_at limits history place (omega arith) legal)
     (entry_at (MayFollow limits) history place (Dry 0) (omega arith) legal.follows))
 
+-- a legal history shares its held blocks out among its processes
 pub legal_shared : (limits : Limits) (history : List Entry) → IsLegal limits history → Shared limits history
 legal_shared limits history legal =
     subst (Shared limits) (take-length history) (shared_at limits history (length history) (omega arith) legal)

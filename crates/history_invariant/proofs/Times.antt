@@ -15,6 +15,7 @@ times_push b c xs = sum_by-cons (λ other. cond (other == b) 1 0) c xs
 times_nil : (b : ℕ) → times b [] ≡ 0
 times_nil b = refl
 
+-- without a block each other one stands as often
 pub times_without : (b c : ℕ) (xs : List ℕ) → times c (filter (λ other. not (other == b)) xs) ≡ cond (c == b) 0 (times c xs)
 times_without b c [] = grind (arith, nat_tests)
 times_without b c (x ∷ xs) = elim (cases_eq x b) [
@@ -42,6 +43,7 @@ times_without b c (x ∷ xs) = elim (cases_eq x b) [
     other true e k h = cc
     other false e k h = rw (times_push c x xs) (rw (times_push c x (filter (λ other. not (other == b)) xs)) (rw h (sym k)))
 
+-- a list is as much shorter without a block as that stood in it
 pub length_without : (b : ℕ) (xs : List ℕ) → length (filter (λ other. not (other == b)) xs) + times b xs ≡ length xs
 length_without b [] = omega arith
 length_without b (x ∷ xs) = rw (times_push b x xs) (step (x == b) (length_without b xs))
@@ -59,6 +61,7 @@ times_head b x n e = grind (arith, nat_tests)
 times_tail : (b x n : ℕ) → x ≢ b → 0 < cond (x == b) 1 0 + n → 0 < n
 times_tail b x n ne some = grind (arith, nat_tests)
 
+-- what a list contains stands in it at least once
 pub times_contained : (b : ℕ) (xs : List ℕ) → Contains xs b → 0 < times b xs
 times_contained b [] c = absurd (contains_nil b c)
 times_contained b (x ∷ xs) c = rw (times_push b x xs) (elim (contains_cons_cases b x xs c) [
@@ -66,6 +69,7 @@ times_contained b (x ∷ xs) c = rw (times_push b x xs) (elim (contains_cons_cas
   | inr d ↦ (let more = times_contained b xs d in omega arith)
 ])
 
+-- what stands at least once is contained
 pub contained_times : (b : ℕ) (xs : List ℕ) → 0 < times b xs → Contains xs b
 contained_times b [] some = absurd (omega (arith, times_nil b))
 contained_times b (x ∷ xs) some = elim (cases_eq x b) [
@@ -73,6 +77,7 @@ contained_times b (x ∷ xs) some = elim (cases_eq x b) [
   | inr ne ↦ contains_tail b x xs (contained_times b xs (times_tail b x (times b xs) ne (rw (times_push b x xs) at some)))
 ]
 
+-- what is not contained stands in it no time
 pub times_none : (b : ℕ) (xs : List ℕ) → ¬ Contains xs b → times b xs ≡ 0
 times_none b xs out = elim (cases_eq (times b xs) 0) [
   | inl none ↦ none

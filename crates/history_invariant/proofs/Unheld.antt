@@ -6,7 +6,8 @@ use Rattle.pool_model.specs.Limits.{Limits}
 use Rattle.pool_model.specs.History.{held, allowance, HasFewUnheld}
 use Rattle.transfer_schedule.specs.Numbers.{AreSizes, withheld}
 use Rattle.transfer_schedule.specs.Account.{Account, Reached}
-use Rattle.transfer_schedule.proofs.Reaching.{reached_stands, reached_sizes, stands_withholds}
+use Rattle.transfer_schedule.proofs.AtPhase.{stands_withholds}
+use Rattle.transfer_schedule.proofs.Reaching.{reached_stands, reached_sizes}
 use Rattle.process_sums.specs.Sums.{total}
 use Rattle.process_sums.proofs.Sums.{total_le}
 use Rattle.history_invariant.specs.Ledger.{Ledgers}

@@ -98,6 +98,7 @@ inside_as sizes call i (turn ∷ more) li past history s run within same answers
 low_as : (sizes : Sizes) (s : CoreState) (i : ℕ) → s.sizes ≡ sizes → i < s.sizes.processes → i < sizes.processes
 low_as sizes s i e li = rw (← e) li
 
+-- a call is answered as it was asked
 pub calls_are_answered_as_asked : CallsAreAnsweredAsAsked
 calls_are_answered_as_asked sizes past history s run i call more between made many =
     let li = low_as sizes s i (run_sizes sizes past history s run) (turn_low s (Events i call) made) in

@@ -106,6 +106,7 @@ alone_begins_at sizes words views after history ghosts i wish shape li h free re
       data_words = h.data_words;
     }
 
+-- a transfer that is begun alone, by a process at rest, keeps the invariant
 pub alone_begins : (sizes : Sizes) (words : Words) (views after : ProcessViews) (history : List Entry) (i : ℕ) (wish : Wish) → IsShape sizes
     → i < sizes.processes → Meets sizes words views history
     → (views i).transfer.next ≡ Rest → may_go_alone sizes wish (views i) ≡ true
@@ -129,6 +130,7 @@ search_wish : Bool → ProcessView → Option Wish
 search_wish true v = due v.pool
 search_wish false v = None
 
+-- which wish is begun, if one is, as a call begins
 pub call_wish : Call → ProcessView → Option Wish
 call_wish Allocate v = due v.pool
 call_wish (Free block) v = due v.pool
@@ -162,6 +164,7 @@ search_named : (t : Bool) (v : ProcessView) → (search_begun_by t v).calls.call
 search_named true v = refl
 search_named false v = refl
 
+-- a call that has begun is the one that was asked for
 pub call_named : (call : Call) (v : ProcessView) → (call_begun call v).calls.call ≡ Some call
 call_named Allocate v = refl
 call_named (Free block) v = refl
@@ -241,6 +244,7 @@ pub record BeginsSo (sizes : Sizes) (history : List Entry) (i : ℕ) (v x : Proc
   pub calls : InCalls sizes i x g
   pub goes_on : HistoryHolds (limits_of sizes) (transfer_bound sizes) sizes.quantum history (with_ledger i g ledgers)
 
+-- a beginning keeps the invariant, whichever call makes it: so of the view, the ledger and the wish that it gives
 pub begins_at : (sizes : Sizes) (words : Words) (views after : ProcessViews) (history : List Entry) (ghosts : Ghosts) (i : ℕ)
     (x : ProcessView) (wish : Option Wish) (g : Ledger)
     → IsShape sizes → i < sizes.processes
@@ -304,6 +308,7 @@ keeping_ledger (Read block index) l e = refl
 keeping_ledger (Write block index value) l e = refl
 keeping_ledger Search l e = cc
 
+-- the beginning of a call gives such a view and such a ledger
 pub call_goes : (sizes : Sizes) (history : List Entry) (i : ℕ) (v : ProcessView) (ledgers : Ledgers) (call : Call) (t : Bool)
     → changes_pool (Some call) ≡ t → i < sizes.processes
     → HistoryHolds (limits_of sizes) (transfer_bound sizes) sizes.quantum history ledgers
@@ -367,6 +372,7 @@ choosing_by_way sizes i v g Alone stage e uses = apart (sym stage ∙ uses.stage
     apart e = cc
 choosing_by_way sizes i v g Calls stage e uses = cc
 
+-- a process that is choosing is in its calls
 pub choosing_in_calls : (sizes : Sizes) (i : ℕ) (v : ProcessView) (g : Ledger) → v.calls.stage ≡ Choosing → UsesPool sizes i v g
     → InCalls sizes i v g
 choosing_in_calls sizes i v g stage uses =
@@ -415,6 +421,7 @@ starts_at sizes words views after history i call holds Choosing shape li meets e
 starts_at sizes words views after history i call holds Moving shape li meets e outside may held moved = cc
 starts_at sizes words views after history i call holds Own shape li meets e outside may held moved = cc
 
+-- a call that may start keeps the invariant as it starts
 pub call_starts : (sizes : Sizes) (words : Words) (views after : ProcessViews) (history : List Entry) (i : ℕ) (call : Call) (holds : Bool)
     → IsShape sizes → i < sizes.processes
     → Meets sizes words views history → is_at_step (views i).calls.stage ≡ false → may_go sizes holds call (views i) ≡ true

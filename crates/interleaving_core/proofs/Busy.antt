@@ -30,6 +30,7 @@ pub first_inside : (t : Bool) → is_at_step (if t then Own else Moving) ≡ tru
 first_inside true = refl
 first_inside false = refl
 
+-- a call that has begun has begun its next step
 pub begun_in_call : (call : Call) (v : ProcessView) → is_at_step (call_begun call v).calls.stage ≡ true
 begun_in_call Allocate v = first_inside (is_idle (before_call v).pool.plan.pending)
 begun_in_call (Free block) v = first_inside (is_idle (before_call v).pool.plan.pending)
@@ -41,6 +42,7 @@ begun_in_call Search v = searching (is_idle v.pool.plan.pending)
     searching true = first_inside (is_idle (before_call v).pool.plan.pending)
     searching false = refl
 
+-- and its process makes no transfers alone
 pub begun_calls : (call : Call) (v : ProcessView) → is_alone (call_begun call v).calls.way ≡ false
 begun_calls Allocate v = refl
 begun_calls (Free block) v = refl

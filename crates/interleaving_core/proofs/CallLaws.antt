@@ -15,7 +15,8 @@ use Rattle.transfer_schedule.specs.Table.{InTable}
 use Rattle.transfer_schedule.specs.Account.{Account}
 use Rattle.transfer_schedule.specs.Account as schedule
 use Rattle.transfer_schedule.specs.Laws.{CountsSteps}
-use Rattle.transfer_schedule.proofs.Reaching.{reached_stands, reached_sizes, stands_in_time, stands_counts}
+use Rattle.transfer_schedule.proofs.AtPhase.{stands_in_time, stands_counts}
+use Rattle.transfer_schedule.proofs.Reaching.{reached_stands, reached_sizes}
 use Rattle.transfer_machine.specs.Words.{stack}
 use Rattle.pool_machine.specs.declared.call.CallStage.{CallStage}
 use Rattle.pool_machine.specs.declared.call.CallView.{CallView}
@@ -42,6 +43,7 @@ turn_stays : (t : Bool) (s u : CoreState) → u.sizes ≡ s.sizes → (if t then
 turn_stays true s u e = e
 turn_stays false s u e = refl
 
+-- the numbers of a run's pool stay
 pub shapes_stay : laws.ShapesStay
 shapes_stay sizes past history s (opens words shape opening) = refl
 shapes_stay sizes past history s (turns before made old turn run) =
@@ -58,6 +60,7 @@ every_run Fact holds sizes past history s run =
 legal_here : (history : List Entry) (s : CoreState) → RunFits s history → IsLegal (limits_of s.sizes) history
 legal_here history s fits = let (ghosts, h) = fits.meets in h.entries.legal
 
+-- the history of a run is legal
 pub histories_are_legal : laws.HistoriesAreLegal
 histories_are_legal = every_run (λ sizes history s. IsLegal (limits_of sizes) history) legal_here
 
@@ -65,6 +68,7 @@ refusal_follows : (limits : Limits) (past : List Entry) (entry : Option Entry) (
     → entry ≡ Some (Dry by) → HadFew limits past by
 refusal_follows limits past entry by may e = (rw e at may).1
 
+-- a refusal had a moment with few unheld blocks in its window
 pub refusals_had_few : laws.RefusalsHadFew
 refusals_had_few sizes past history s run x by e =
     refusal_follows (limits_of sizes) (take x history) (slice_get history x) by ((histories_are_legal sizes past history s run).follows x) e
@@ -74,6 +78,7 @@ once_here history s fits block =
     let (ghosts, h) = fits.meets in
     (held_shared (limits_of s.sizes) (transfer_bound s.sizes) s.sizes.quantum history ghosts.ledgers h.entries).grips.once block
 
+-- no block is held twice
 pub none_is_held_twice : laws.NoneIsHeldTwice
 none_is_held_twice = every_run (λ sizes history s. (block : ℕ) → times block (held history) ≤ 1) once_here
 
@@ -81,6 +86,7 @@ holders_here : (history : List Entry) (s : CoreState) → RunFits s history → 
     → (is_holder i (holder_of s block) ≡ true) ↔ Contains (grip (own history i)) block
 holders_here history s fits i block = (fits.holders.truly i block, fits.holders.all i block)
 
+-- the holder of a block is the process whose entries got it and didn't give it back
 pub holders_hold : laws.HoldersHold
 holders_hold =
     every_run (λ sizes history s. (i block : ℕ) → (is_holder i (holder_of s block) ≡ true) ↔ Contains (grip (own history i)) block)
@@ -92,14 +98,17 @@ few_here : (history : List Entry) (s : CoreState) → RunFits s history
     + slack (limits_of s.sizes) history (length history)
 few_here history s fits = let (ghosts, h) = fits.meets in few_withheld s.sizes s.words (view_at s) history ghosts fits.shape h
 
+-- few blocks are neither held nor in the stack
 pub few_are_withheld : laws.FewAreWithheld
 few_are_withheld =
     every_run (λ sizes history s. blocks sizes ≤ length (held history) + sizes.length * length (stack sizes s.words) + slack
     (limits_of sizes) history (length history)) few_here
 
+-- a process keeps at most five batches
 pub five_here : (history : List Entry) (s : CoreState) → RunFits s history → (i : ℕ) → i < s.sizes.processes → kept s i ≤ 5 * s.sizes.length
 five_here history s fits i li = let (ghosts, h) = fits.meets in keeps_five s.sizes s.words (view_at s) history ghosts i fits.shape li h
 
+-- so does each process of a run
 pub each_keeps_five : laws.EachKeepsFive
 each_keeps_five = every_run (λ sizes history s. (i : ℕ) → i < sizes.processes → kept s i ≤ 5 * sizes.length) five_here
 
@@ -108,12 +117,14 @@ pub kept_read : (s now : CoreState) (i : ℕ) (words : List ℕ) (v : ProcessVie
     → kept_by s.sizes words i v ≡ kept now i
 kept_read s now i words v e f g = rw (f, g, sym e) refl
 
+-- the same of a state that is known by another name
 pub kept_five : (s now : CoreState) (history : List Entry) (i : ℕ) → s ≡ now → RunFits s history → i < now.sizes.processes
     → kept now i ≤ 5 * now.sizes.length
 kept_five s now history i e fits li =
     let low : i < s.sizes.processes = rw e li in
     rw (sym e) (five_here history s fits i low)
 
+-- so what a process keeps fits 32 bits
 pub kept_small : (s now : CoreState) (history : List Entry) (i : ℕ) → s ≡ now → RunFits s history → i < now.sizes.processes
     → kept now i < 2 ^ 32
 kept_small s now history i e fits li =
@@ -123,6 +134,7 @@ kept_small s now history i e fits li =
     small : (long : ℕ) {n all : ℕ} → n ≤ 5 * long → 2 * long ≤ all → all ≤ most_blocks → n < 2 ^ 32
     small long five two few = omega (arith, five, two, few)
 
+-- a process of one state is one of the same state by another name
 pub process_low : (s now : CoreState) (i : ℕ) → s ≡ now → i < now.sizes.processes → i < s.sizes.processes
 process_low s now i e li = rw e li
 
@@ -130,6 +142,7 @@ counted_here : (history : List Entry) (s : CoreState) → RunFits s history
     → total s.sizes.processes (kept s) + length (held history) + s.sizes.length * length (stack s.sizes s.words) ≡ blocks s.sizes
 counted_here history s fits = let (ghosts, h) = fits.meets in all_counted s.sizes s.words (view_at s) history ghosts h
 
+-- held blocks, kept ones and those of the stack are all blocks
 pub all_are_counted : laws.AllAreCounted
 all_are_counted =
     every_run (λ sizes history s. total sizes.processes (kept s) + length (held history) + sizes.length * length
@@ -140,6 +153,7 @@ table_here : (history : List Entry) (s : CoreState) → RunFits s history → (i
 table_here history s fits i li =
     let (ghosts, h) = fits.meets in (keeps s.sizes (word_at s.sizes s.words) (view_at s) history ghosts i fits.shape li h).table
 
+-- each plan is within the table of spares
 pub plans_within_table : laws.PlansWithinTable
 plans_within_table = every_run (λ sizes history s. (i : ℕ) → i < sizes.processes → InTable (view_at s i).pool.plan) table_here
 
@@ -189,11 +203,13 @@ account_here history s fits i li calls =
           (reached_sizes sizes.length (transfer_bound sizes) sizes.quantum ledger.account schedule.reached).0;
     }
 
+-- a transfer is pending in fewer calls after the one that began it than a batch has blocks
 pub transfers_end_in_time : laws.TransfersEndInTime
 transfers_end_in_time =
     every_run (λ sizes history s. (i : ℕ) → i < sizes.processes → (view_at s i).calls.way ≢ Alone → laws.EndsByAccount sizes (own history i)
     (view_at s i)) account_here
 
+-- a call that moves a transfer has made fewer steps than the quantum, but for a search
 pub quanta_here : (history : List Entry) (s : CoreState) → RunFits s history → (i : ℕ) → i < s.sizes.processes
     → (view_at s i).calls.stage ≡ Moving → is_paced (view_at s i).calls.call ≡ true → (view_at s i).calls.steps < s.sizes.quantum
 quanta_here history s fits i li moving paced =
@@ -206,6 +222,7 @@ quanta_here history s fits i li moving paced =
     in_no_call : (stage : CallStage) → is_at_step stage ≡ false → stage ≡ Moving → ⊥
     in_no_call stage outside e = grind arith
 
+-- so has each such call of a run
 pub quanta_are_kept : laws.QuantaAreKept
 quanta_are_kept =
     every_run (λ sizes history s. (i : ℕ) → i < sizes.processes → (view_at s i).calls.stage ≡ Moving

@@ -219,6 +219,7 @@ aged_run sizes past history i s n t li run (pends_too m old turn since ne) =
       aged = rw same r.aged;
     }
 
+-- while a transfer is pending its process makes fewer entries than a batch has blocks
 pub transfers_are_short : TransfersAreShort
 transfers_are_short sizes past history s run i n t li since =
     let r = aged_run sizes past history i s n t li run since in

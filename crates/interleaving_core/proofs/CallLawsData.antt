@@ -142,6 +142,7 @@ kept_turn s history i block index turn true fits made holds within not =
     (turn_acts s history turn fits made)
 kept_turn s history i block index turn false fits made holds within not = refl
 
+-- a held block's data words are what its holder knows, of the state's own sizes
 abbrev pub KeepsData : Sizes → List Entry → CoreState → Type 0
 KeepsData sizes history s =
     (i block index : ℕ) (turn : Turn) → is_holder i (holder_of s block) ≡ true → index < sizes.words → laws.WritesNot i block index turn s
@@ -151,6 +152,7 @@ data_here : (history : List Entry) (s : CoreState) → RunFits s history → Kee
 data_here history s fits i block index turn holds within not =
     kept_turn s history i block index turn (is_made turn s) fits refl holds within not
 
+-- nobody else changes the data words of a held block
 pub data_is_kept : laws.DataIsKept
 data_is_kept = every_run KeepsData data_here
 
@@ -158,6 +160,7 @@ data_is_kept = every_run KeepsData data_here
 pub begun_first : (call : Call) (v : ProcessView) → v.calls.stage ≡ Between → calling_view call v ≡ call_begun call v
 begun_first call v e = rw e refl
 
+-- a read is answered the data word as it stands, of the state's own sizes
 abbrev pub LoadsData : Sizes → List Entry → CoreState → Type 0
 LoadsData sizes history s = (i block index : ℕ) → (view_at s i).calls.stage ≡ Between → is_made (Events i (Read block index)) s ≡ true
     → turn_answer (Events i (Read block index)) s ≡ Loaded (word_at sizes s.words (Data block index))
@@ -166,9 +169,11 @@ loads_here : (history : List Entry) (s : CoreState) → RunFits s history → Lo
 loads_here history s fits i block index between made =
     rw made (ap (λ v. step_answer v s) (begun_first (Read block index) (view_at s i) between))
 
+-- a read is answered the data word as it stands
 pub reads_load : laws.ReadsLoad
 reads_load = every_run LoadsData loads_here
 
+-- a write sets its data word and no other, of the state's own sizes
 abbrev pub StoresData : Sizes → List Entry → CoreState → Type 0
 StoresData sizes history s =
     (i block index value : ℕ) → (view_at s i).calls.stage ≡ Between → is_made (Events i (Write block index value)) s ≡ true
@@ -189,5 +194,6 @@ stores_here history s fits i block index value between made =
           index value first (turn_acts s history turn fits made)),
     )
 
+-- a write sets its data word and no other
 pub writes_store : laws.WritesStore
 writes_store = every_run StoresData stores_here

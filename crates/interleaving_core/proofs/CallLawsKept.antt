@@ -118,6 +118,7 @@ pends_said sizes table views history ghosts i li h =
     let odd = ap is_odd_reply value ∙ h.stack.helping.counts.parities i (state_tag words) li (omega arith) in
     pending_said (words (Announcement i)) (reply_value_at sizes table i) v.age (s.applied i) told.tag odd told.most told.least
 
+-- how many batches of a process are on their way is read off the words
 pub transit_said : (sizes : Sizes) (table : List ℕ) (views : ProcessViews) (history : List Entry) (ghosts : Ghosts) (i : ℕ)
     → i < sizes.processes → Holds sizes (word_at sizes table) views history ghosts
     → in_transit sizes table i (views i).transfer ≡ length (moving (ghosts.states (state_tag (word_at sizes table))) i (views i).transfer)
@@ -128,6 +129,7 @@ transit_said sizes table views history ghosts i li h =
     moving_many s i (views i).transfer (pends_at sizes table i) (reply_value_at sizes table i)
     (pends_said sizes table views history ghosts i li h) value
 
+-- how many blocks a process keeps is read off the words
 pub kept_said : (sizes : Sizes) (table : List ℕ) (views : ProcessViews) (history : List Entry) (ghosts : Ghosts) (i : ℕ)
     → i < sizes.processes → Holds sizes (word_at sizes table) views history ghosts
     → kept_by sizes table i (views i) ≡ kept_blocks sizes (ghosts.states (state_tag (word_at sizes table))) i (views i)
@@ -139,6 +141,7 @@ kept_said sizes table views history ghosts i li h =
 at_most : {a b c d : ℕ} → a ≡ b → b ≤ c → c ≤ d → a ≤ d
 at_most e le more = omega (arith, e, le, more)
 
+-- they are at most five batches
 pub keeps_five : (sizes : Sizes) (table : List ℕ) (views : ProcessViews) (history : List Entry) (ghosts : Ghosts) (i : ℕ) → IsShape sizes
     → i < sizes.processes → Holds sizes (word_at sizes table) views history ghosts
     → kept_by sizes table i (views i) ≤ 5 * sizes.length
@@ -169,6 +172,7 @@ joined : (l all : ℕ) {kept mine height kept_too held_too height_too : ℕ} →
     → held_too ≡ mine → height_too ≡ height → kept_too + held_too + l * height_too ≡ all
 joined l all counted e f g = rw (e, f, g) counted
 
+-- held blocks, kept ones and those of the stack are all blocks of the pool
 pub all_counted : (sizes : Sizes) (table : List ℕ) (views : ProcessViews) (history : List Entry) (ghosts : Ghosts)
     → Holds sizes (word_at sizes table) views history ghosts
     → total sizes.processes (λ i. kept_by sizes table i (views i)) + length (held history) + sizes.length * length
@@ -188,6 +192,7 @@ all_counted sizes table views history ghosts h =
 few : (l kept mine height all most : ℕ) → kept + mine + l * height ≡ all → kept ≤ most → all ≤ mine + l * height + most
 few l kept mine height all most counted least = omega (arith, counted, least)
 
+-- all blocks but the slack are held or in the stack
 pub few_withheld : (sizes : Sizes) (table : List ℕ) (views : ProcessViews) (history : List Entry) (ghosts : Ghosts) → IsShape sizes
     → Holds sizes (word_at sizes table) views history ghosts
     → blocks sizes ≤ length (held history) + sizes.length * length (stack sizes table) + slack (limits_of sizes) history (length history)

@@ -37,6 +37,7 @@ made_at paced changes quantum made Choosing = 0
 made_at paced changes quantum made Moving = if paced then made else 0
 made_at paced changes quantum made Own = if changes then quantum else 0
 
+-- how many steps of a transfer the present call has made, at each stage
 abbrev pub made_now_at : ℕ → CallView → CallStage → ℕ
 made_now_at quantum calls stage = made_at (is_paced calls.call) (changes_pool calls.call) quantum calls.steps stage
 
@@ -161,6 +162,7 @@ at_between : (quantum n : ℕ) (v : ProcessView) → v.calls.stage ≡ Between �
 at_between quantum n v stage aged =
     subst (λ (stage : CallStage). quantum * n + made_now_at quantum v.calls stage ≤ v.pool.plan.done) stage aged
 
+-- as a call begins that meets a pending transfer, this has made a quantum of steps for each call since
 pub begun_ages : (quantum : ℕ) (v : ProcessView) (n : ℕ) (call : Call) → v.calls.stage ≡ Between → is_idle v.pool.plan.pending ≡ false
     → Aged quantum n v → Aged quantum n (call_begun call v)
 begun_ages quantum v n Allocate stage busy aged = rw (busy_before v busy) (rw busy (at_between quantum n v stage aged))
@@ -191,6 +193,7 @@ changed_ages : (quantum : ℕ) (v : ProcessView) (t : Bool) (call : Call) → is
 changed_ages quantum v true call e none = inr (idle_is v.pool.plan.pending e, refl)
 changed_ages quantum v false call e none = inl (none_made quantum v.pool.plan.done (is_paced (Some call)) none)
 
+-- a search that has chosen begins a transfer that has made none, or comes to its own step
 pub chosen_ages : (quantum : ℕ) (v : ProcessView) → v.pool.plan.done ≡ 0
     → Aged quantum 0 (search_chosen v) ⊎ ((search_chosen v).pool.plan.pending ≡ Idle) × ((search_chosen v).calls.stage ≡ Own)
 chosen_ages quantum v none =

@@ -145,11 +145,13 @@ pub made_view : (s : CoreState) (turn : Turn) → is_made turn s ≡ true → by
     (met_word s.sizes s.words (next_action s.sizes (turning_view turn s)))
 made_view s turn made lt = rw made (own_view s (by_of turn) (turning_view turn s) lt)
 
+-- a turn leaves the views of other processes
 pub other_view : (s : CoreState) (turn : Turn) (i : ℕ) (t : Bool) → by_of turn ≢ i
     → view_at (if t then with_step (by_of turn) (turning_view turn s) s else s) i ≡ view_at s i
 other_view s turn i true ne = get_or-set_other s.views (by_of turn) i _ (opening_view s.sizes i) (λ e. ne (sym e))
 other_view s turn i false ne = refl
 
+-- a turn that isn't made leaves the state
 pub ignored_state : (s : CoreState) (turn : Turn) → is_made turn s ≡ false → after_turn turn s ≡ s
 ignored_state s turn off = rw off refl
 
@@ -164,6 +166,7 @@ within_goes s i call low Choosing e within = rw e refl
 within_goes s i call low Moving e within = rw e refl
 within_goes s i call low Own e within = rw e refl
 
+-- a process that is in a call makes its turn
 pub within_made : (s : CoreState) (i : ℕ) (call : Call) → i < s.sizes.processes → is_in_call (view_at s i).calls.stage ≡ true
     → is_made (Events i call) s ≡ true
 within_made s i call li within =
@@ -181,6 +184,7 @@ not_alone Alone stage alone inside = absurd (outside_alone stage (alone refl) in
     outside_alone Own e inside = cc
 not_alone Calls stage alone inside = refl
 
+-- a call that has started is no transfer alone
 pub started_calls : (call : Call) (v : ProcessView) (stage : CallStage) → is_alone (started_at stage call v).calls.way ≡ false
 started_calls call v Between = begun_calls call v
 started_calls call v Choosing = refl
@@ -206,6 +210,7 @@ way_is Calls stage calls fresh inside = refl
 inside_is : (v : ProcessView) → is_alone v.calls.way ≡ false → is_busy v ≡ true → is_at_step v.calls.stage ≡ true
 inside_is v calls busy = rw calls at busy
 
+-- the view with which a turn is made is about to make a step
 pub turn_turns : (history : List Entry) (s : CoreState) (i : ℕ) (call : Call) → RunFits s history → is_made (Events i call) s ≡ true
     → Turning s.sizes (turning_view (Events i call) s)
 turn_turns history s i call fits made =
@@ -251,6 +256,7 @@ after_is s history i call fits made calls =
         → next_met sizes v word ≡ call_met_at sizes v word v.calls.stage
     met_calls sizes v word calls = rw calls refl
 
+-- what a turn is answered is the answer of its call's step
 pub answer_is : (s : CoreState) (i : ℕ) (call : Call) → is_made (Events i call) s ≡ true
     → is_alone (turning_view (Events i call) s).calls.way ≡ false
     → turn_answer (Events i call) s ≡ call_answer_at (turning_view (Events i call) s)
@@ -303,6 +309,7 @@ FirstStepsLeave sizes history s =
     (i : ℕ) (call : Call) → (view_at s i).calls.stage ≡ Between → is_made (Events i call) s ≡ true
     → steps_left sizes (view_at (after_turn (Events i call) s) i) + 1 ≤ most_moves sizes call + 1
 
+-- the first step of a call leaves few turns
 pub first_left : (history : List Entry) (s : CoreState) → RunFits s history → FirstStepsLeave s.sizes history s
 first_left history s fits i call between made =
     let li = turn_low s (Events i call) made in
@@ -335,6 +342,7 @@ inside_left sizes call v Moving e within none =
 inside_left sizes call v Own e within none =
     at_stage (is_paced v.calls.call) v.calls.chosen sizes.quantum (transfer_bound sizes) v.calls.steps v.pool.plan.done v.calls.stage Own e
 
+-- each later one leaves one turn fewer
 pub later_left : (history : List Entry) (s : CoreState) → RunFits s history → LaterStepsLeave s.sizes history s
 later_left history s fits i call li within =
     let v = view_at s i in
@@ -381,9 +389,11 @@ spent sizes past history i n most s t li run le (ignored m first old turn goes o
     let r = spent sizes past history i m most s old li run le goes in
     record { past = _; history = _; run = turns r.past r.history old turn r.run; left = rw (ignored_state old turn off) r.left }
 
+-- a process of the state is one of the sizes
 pub low_here : (sizes : Sizes) (s : CoreState) (i : ℕ) → s.sizes ≡ sizes → i < s.sizes.processes → i < sizes.processes
 low_here sizes s i e li = rw e at li
 
+-- a call is answered within its bound of turns
 pub calls_are_short : CallsAreShort
 calls_are_short sizes past history s run i n call t between made goes =
     let first = every_run FirstStepsLeave first_left sizes past history s run i call between made in

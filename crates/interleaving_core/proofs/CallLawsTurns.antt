@@ -40,6 +40,7 @@ PendingMoves sizes history s =
     (i : ℕ) → i < sizes.processes → HasPending i s → (is_rest (view_at s i).transfer.next ≡ false)
     × ((view_at s i).pool.plan.done < sizes.quantum * sizes.length)
 
+-- a turn of a process whose transfer is pending is a step of it
 pub pending_moves : (history : List Entry) (s : CoreState) → RunFits s history → PendingMoves s.sizes history s
 pending_moves history s fits i li pends =
     let (ghosts, h) = fits.meets in
@@ -73,6 +74,7 @@ TurnsAge sizes history s =
     → Aged sizes.quantum (n + length (entries_of (turn_answer (Events i call) s))) (view_at (after_turn (Events i call) s) i)
     × ((view_at (after_turn (Events i call) s) i).calls.way ≡ Calls)
 
+-- each call makes a quantum of a pending transfer's steps
 pub turns_age : (history : List Entry) (s : CoreState) → RunFits s history → TurnsAge s.sizes history s
 turns_age history s fits i n call made aged goes pends =
     let v = turning_view (Events i call) s in

@@ -79,6 +79,7 @@ module _ (sizes : Sizes) (words : List ℕ) (views : ProcessViews) (history : Li
       in_call_conditions sizes (grip (own history i)) v v.calls.call refl (used.stage.changes moving) moving (uses_calls v.calls.way way)
       (subst (λ es. NamesHeld sizes (grip es) v.calls.call) (sym entries) (h.names i li)) (λ paced. used.stage.few moving paced)
 
+-- a process that is to make a step of a transfer meets the conditions on the call that its view names
 pub calls_meet_conditions : CallsMeetConditions
 calls_meet_conditions sizes words views history shape (ghosts, h) i li moves = conditions_by sizes words views history ghosts h i li
     (is_alone (views i).calls.way) refl moves

@@ -196,6 +196,7 @@ due_acts sizes words views history i due =
     table_acted sizes words (next_action sizes (views i)) due.table.whole
     (next_in_range sizes (word_at sizes words) (views i) (is_alone (views i).calls.way) refl allowed)
 
+-- a step leaves the data words of blocks that its process doesn't hold
 pub steps_leave_data : StepsLeaveData
 steps_leave_data sizes words views history i due block index lb lk isnt =
     let (ghosts, h) = due.table.meets in
@@ -237,6 +238,7 @@ module _ (sizes : Sizes) (words : List ℕ) (views : ProcessViews) (history : Li
       due.table.low h alone known told refl (in_its_call (views i) alone refl due.busy) (due_acts sizes words views history i due) d
       (tells ghosts h) (word_met sizes words (views i))
 
+-- what a process knows of its data words still holds, with what the step told it
 pub steps_tell_data : StepsTellData
 steps_tell_data sizes words views history i due known d =
     let v = views i in
@@ -248,18 +250,21 @@ steps_tell_data sizes words views history i due known d =
     subst (DataHolds sizes new (grip (own (history_after sizes words v history) i)))
     (told_by_way sizes named v (is_alone v.calls.way) known) all
 
+-- also where the process notes no word that it read
 pub steps_keep_data : StepsKeepData
 steps_keep_data sizes words views history i due known d =
     let new = word_at sizes (words_after sizes words (views i)) in
     due_tells sizes words views history i due known d (changed_by_call (views i).calls.call known)
     (λ ghosts h. own_changes sizes (word_at sizes words) new views history ghosts i due.table.shape due.table.low h known d)
 
+-- a step makes no entry of another process
 pub steps_enter_own : StepsEnterOwn
 steps_enter_own sizes words views history i due other ne =
     let (ghosts, h) = due.table.meets in
     let number = numbered sizes (word_at sizes words) views history ghosts i due.table.low h in
     step_elsewhere history (views i) other (word_met sizes words (views i)) (is_alone (views i).calls.way) (λ e. ne (e ∙ number))
 
+-- no block is in the grip of two processes
 pub holders_are_apart : HoldersAreApart
 holders_are_apart sizes words views history shape (ghosts, h) i block li has =
     holders_apart sizes (word_at sizes words) (word_at sizes words) views history ghosts i shape li h block has

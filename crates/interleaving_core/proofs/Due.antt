@@ -25,6 +25,7 @@ use Rattle.interleaving_core.proofs.Busy.{moving_busy, calling_busy}
 use Rattle.interleaving_core.proofs.Standing.{fresh_rests, alone_between, both_first}
 use Rattle.interleaving_core.proofs.Tables.{table_step, rests}
 
+-- a step keeps the invariant
 pub steps_keep_invariant : StepsKeepInvariant
 steps_keep_invariant sizes words views history i due after moved =
     table_step sizes words views after history i due.table.shape due.table.whole due.table.low due.table.meets due.busy moved
@@ -74,6 +75,7 @@ calling_kept sizes words views begun history i call holds true m may held inside
 calling_kept sizes words views begun history i call holds false m may held inside moved =
     call_starts sizes (word_at sizes words) views begun history i call holds m.shape m.low m.meets inside may held moved
 
+-- a call that may go is due for its step
 pub calls_are_due : CallsAreDue
 calls_are_due sizes words views begun history i call holds m may held moved =
     let v = views i in
@@ -92,6 +94,7 @@ kept_from sizes words views after history i x due moved =
     let step = steps_keep_invariant sizes words (with_process i x views) history i due after in
     rw here at step (moves_again i x (view_after sizes words x) views after moved)
 
+-- a call's turn keeps the invariant
 pub calls_keep_invariant : CallsKeepInvariant
 calls_keep_invariant sizes words views after history i call holds m may held moved =
     let x = calling_view call (views i) in
@@ -107,6 +110,7 @@ moving_kept sizes words views begun history i wish true m may rest moved = alone
     (word_at sizes words) views begun history i wish m.shape m.low m.meets (rests (views i).transfer.next rest) may moved
 moving_kept sizes words views begun history i wish false m may rest moved = rw (replaced_by_itself i views begun moved) m.meets
 
+-- a transfer alone that may go is due for its step
 pub moves_are_due : MovesAreDue
 moves_are_due sizes words views begun history i wish m may moved =
     let v = views i in
@@ -115,6 +119,7 @@ moves_are_due sizes words views begun history i wish m may moved =
     (moving_busy wish v v.calls.way (is_rest v.transfer.next) refl
     (fresh_rests sizes (word_at sizes words) views history i m.low m.meets) refl (both_first (may_use_transfers v.calls.way) _ may))
 
+-- its turn keeps the invariant
 pub moves_keep_invariant : MovesKeepInvariant
 moves_keep_invariant sizes words views after history i wish m may moved =
     let x = moving_view wish (views i) in

@@ -55,6 +55,7 @@ longer limits history tail start h = record {
   few = rw (take-append-le h.place history tail h.within) h.few;
 }
 
+-- takes that found nothing had few unheld blocks, also seen from a longer history
 pub few_longer : (limits : Limits) (history tail : List Entry) (ledger : Ledger) (plan : Numbers) → TakesHadFew limits history ledger plan
     → TakesHadFew limits (history ++ tail) ledger plan
 few_longer limits history tail ledger plan h = record {
@@ -116,6 +117,7 @@ few_ends limits history true reply old new plan after m dry knows h = record {
 few_ends limits history false reply old new plan after m dry knows h =
     few_same limits history old new plan after (m.found refl) (m.begun refl) (m.ended refl) dry h
 
+-- the same after a step of a transfer
 pub few_moved : (limits : Limits) (history : List Entry) (next : NextStep) (word : ℕ) (pool : PoolView) (old new : Ledger)
     → PlacesMove next (is_taking pool.plan.pending) old new
     → (next ≡ LoadReply → is_taking pool.plan.pending ≡ true → reply_of (value_of word) ≡ Nothing → old.found_nothing ≡ true)
@@ -143,10 +145,12 @@ pub begun_dry : (wish : Wish) (v : ProcessView) → (view_begun wish v).pool.pla
 begun_dry Take v = refl
 begun_dry (Give head) v = refl
 
+-- the beginning of a transfer leaves what is known of the last take
 pub due_dry : (wish : Option Wish) (v : ProcessView) → (begun_if_due wish v).pool.plan.dry ≡ v.pool.plan.dry
 due_dry None v = refl
 due_dry (Some wish) v = begun_dry wish v
 
+-- so does the beginning of a call
 pub called_dry : (call : Call) (v : ProcessView) → (call_begun call v).pool.plan.dry ≡ v.pool.plan.dry
 called_dry Allocate v = due_dry (due v.pool) v
 called_dry (Free block) v = due_dry (due v.pool) v
@@ -158,6 +162,7 @@ called_dry Search v = search_dry (schedule.is_idle v.pool.plan.pending) v
     search_dry true v = due_dry (due v.pool) v
     search_dry false v = refl
 
+-- takes that found nothing had few unheld blocks, also after the beginning of a call
 pub few_called : (limits : Limits) (history : List Entry) (call : Call) (v : ProcessView) (ledger : Ledger)
     → TakesHadFew limits history ledger v.pool.plan
     → TakesHadFew limits history (ledger_begun call ledger) (call_begun call v).pool.plan
@@ -189,6 +194,7 @@ few_by_call limits history past i word pool (Some (Write block index value)) led
 few_by_call limits history past i word pool (Some Search) ledger h =
     few_allocated limits history past i (next_block pool) ledger pool.plan _ (own_same word pool (Some Search)).dry h
 
+-- and after the own step of a call
 pub few_owned : (limits : Limits) (history tail : List Entry) (i word : ℕ) (pool : PoolView) (call : Option Call) (ledger : Ledger)
     → TakesHadFew limits history ledger pool.plan
     → TakesHadFew limits (history ++ tail) (ledger_by_call history i pool call ledger) (pool_own_met word pool call).plan
@@ -207,6 +213,7 @@ call_places word LoadFinalState ledger =
 call_places word LoadReply ledger =
     record { opens = λ e. cc; found = λ e. refl; begun = λ e. refl; stays = λ ne. absurd (ne refl); ended = λ e. refl }
 
+-- a step of a transfer in a call moves the ledger's places as a transfer does
 pub call_places_by : (taking : Bool) (word : ℕ) (next : NextStep) (ledger : Ledger) → is_taking ledger.account.plan.pending ≡ taking
     → PlacesMove next taking ledger (ledger_moved_at word next ledger)
 call_places_by taking word next ledger e =
@@ -220,6 +227,7 @@ ledger_alone (Try second step) taking ledger = ledger
 ledger_alone LoadFinalState taking ledger = ledger
 ledger_alone LoadReply taking ledger = record ledger { ended_place = if taking then ledger.begun_place else ledger.ended_place }
 
+-- so does one of a transfer alone
 pub alone_places : (next : NextStep) (taking : Bool) (ledger : Ledger) → PlacesMove next taking ledger (ledger_alone next taking ledger)
 alone_places Rest taking ledger = record { opens = λ e. cc; found = λ e. refl; begun = λ e. refl; stays = λ e. refl; ended = λ e. cc }
 alone_places Announce taking ledger = record { opens = λ e. refl; found = λ e. cc; begun = λ e. cc; stays = λ e. refl; ended = λ e. cc }
@@ -236,6 +244,7 @@ pub record SameBook (old new : Ledger) : Type 0 where
   pub entries : new.entries ≡ old.entries
   pub seen : new.seen ≡ old.seen
 
+-- and it leaves the ledger's entries and its account
 pub alone_book : (next : NextStep) (taking : Bool) (ledger : Ledger) → SameBook ledger (ledger_alone next taking ledger)
 alone_book Rest taking ledger = record { account = refl; entries = refl; seen = refl }
 alone_book Announce taking ledger = record { account = refl; entries = refl; seen = refl }

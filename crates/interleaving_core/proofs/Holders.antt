@@ -57,6 +57,7 @@ opened_names n i block e = none_named i (sym (ap (is_holder i) (opened_none n bl
       | inr ge ↦ get_or_past (replicate {A = Option ℕ} n None) block None (rw (length-replicate {A = Option ℕ} n None) ge)
     ]
 
+-- at the opening nobody holds a block
 pub opened_holders : (sizes : Sizes) → HoldersFit sizes [] (replicate (blocks sizes) None)
 opened_holders sizes = record {
   size = length-replicate (blocks sizes) None;
@@ -225,6 +226,7 @@ same_fits : (sizes : Sizes) (history : List Entry) (holders : List (Option ℕ))
     → HoldersFit sizes (history ++ []) holders
 same_fits sizes history holders h = subst (λ entries. HoldersFit sizes entries holders) (sym (append-nil history)) h
 
+-- what a step enters is noted in the table of holders
 pub step_holders : (sizes : Sizes) (table : List ℕ) (views : ProcessViews) (history : List Entry) (holders : List (Option ℕ))
     (happened : Happened)
     → HoldersFit sizes history holders

@@ -130,6 +130,7 @@ call_allowed sizes words views history ghosts i Moving shape li h calls e =
 call_allowed sizes words views history ghosts i Own shape li h calls e =
     own_step_allowed sizes words views history ghosts i shape li h calls e
 
+-- the next step of a busy process is in the ranges of its table
 pub step_allowed : (sizes : Sizes) (words : Words) (views : ProcessViews) (history : List Entry) (i : ℕ) → IsShape sizes
     → i < sizes.processes → Meets sizes words views history → is_busy (views i) ≡ true → StepAllowed sizes words (views i)
 step_allowed sizes words views history i shape li (ghosts, h) busy =

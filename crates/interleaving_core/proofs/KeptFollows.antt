@@ -111,6 +111,7 @@ stack_same sizes s turn e content =
     ap (λ (z : Sizes). stack z (after_turn turn s).words) (sym (turn_sizes turn s ∙ e))
     ∙ (content ∙ ap (λ (z : Sizes). stack z s.words) e)
 
+-- what a process keeps follows from the answers of its own calls
 pub kept_follows_calls : KeptFollowsCalls
 kept_follows_calls sizes past history s run turn answers =
     let fits = run_fits sizes past history s run in

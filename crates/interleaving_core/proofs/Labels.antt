@@ -80,9 +80,11 @@ turn_fits (Try second step) = tries_in_turn step (turn_of (Try second step)) (on
 turn_fits LoadFinalState = refl
 turn_fits LoadReply = refl
 
+-- the kind of a turn fits what is to happen
 pub turns_fit : TurnsFit
 turns_fit v = turn_fits v.next
 
+-- the kind of a transfer's step fits its word
 pub transfer_kinds_fit : TransferKindsFit
 transfer_kinds_fit sizes v = step_fits sizes v v.next refl
 
@@ -119,6 +121,7 @@ own_step_fits sizes v false Choosing way here busy not = absurd (false≢true (r
 own_step_fits sizes v false Moving way here busy not = absurd (false≢true (sym (rw (way, here) at not)))
 own_step_fits sizes v false Own way here busy not = rw (way, here) (own_fits v v.calls.call refl)
 
+-- the kind of a next step fits its action
 pub next_kinds_fit : NextKindsFit
 next_kinds_fit sizes v busy = (
   transfer_fits sizes v (is_alone v.calls.way) v.calls.stage refl refl busy,
@@ -156,6 +159,7 @@ next_answers v word false alone busy =
     answer_calls : AnswerFits v (call_answer_at v word v.calls.stage) → AnswerFits v (next_answer v word)
     answer_calls fits = subst (AnswerFits v) (sym (ap (λ t. if t then Step (kind_of v.transfer.next) else call_answer v word) alone)) fits
 
+-- the kind of an answer fits what happened
 pub answers_fit : AnswersFit
 answers_fit v word busy = next_answers v word (is_alone v.calls.way) refl busy
 
@@ -191,6 +195,7 @@ phases_here history s fits i li =
     (fresh_rests s.sizes (word_at s.sizes s.words) (view_at s) history i li fits.meets)
     (alone_stage s.sizes (word_at s.sizes s.words) (view_at s) history i li fits.meets)
 
+-- the number of a phase fits the stage
 pub phases_fit : PhasesFit
 phases_fit = every_run _ phases_here
 
@@ -202,5 +207,6 @@ waiting_fits v false phase.Between g e = (refl, g, ap is_moving e)
 waiting_fits v false (phase.Moving stage) g e = inr (ap is_moving e)
 waiting_fits v false phase.Own g e = (refl, g, ap is_moving e)
 
+-- the number of what is pending fits the plan
 pub waitings_fit : WaitingsFit
 waitings_fit v = waiting_fits v (is_rest v.transfer.next) (phase_of v) refl refl

@@ -139,6 +139,7 @@ both_ways : (t : Bool) → (t ≡ false → ⊥) → t ≡ true
 both_ways true never = refl
 both_ways false never = absurd (never refl)
 
+-- a transfer alone is answered within its bound of turns
 pub transfers_alone_end : TransfersAloneEnd
 transfers_alone_end sizes past history s run i wish more rest made many =
     let turn = Moves i wish in

@@ -93,6 +93,7 @@ way_within Alone stage alone fresh within = absurd (none stage (alone refl) with
     none Own e within = cc
 way_within Calls stage alone fresh within = refl
 
+-- a process in a call is one that calls
 pub inside_calls : (s : CoreState) (history : List Entry) (i : ℕ) → RunFits s history → i < s.sizes.processes
     → is_in_call (view_at s i).calls.stage ≡ true → (view_at s i).calls.way ≡ Calls
 inside_calls s history i fits li within =
@@ -107,6 +108,7 @@ inside_calls s history i fits li within =
     apart : Fresh ≡ Alone → ⊥
     apart e = cc
 
+-- and it makes no move alone
 pub no_move : (s : CoreState) (i : ℕ) (wish : Wish) → (view_at s i).calls.way ≡ Calls → is_made (Moves i wish) s ≡ false
 no_move s i wish e = rw e (none_second (nat_lt i s.sizes.processes))
   where
@@ -223,6 +225,7 @@ inside_answered sizes i (Events by call ∷ more) li = elim (cases_eq by i) [
   | inr ne ↦ other_inside sizes i (Events by call) more li (isnt by i ne) (inside_answered sizes i more li)
 ]
 
+-- a call that goes on is answered in the end
 pub calls_are_answered : CallsAreAnswered
 calls_are_answered sizes past history s run i call more between made many =
     let li = low_here sizes s i (shapes_stay sizes past history s run) (turn_low s (Events i call) made) in

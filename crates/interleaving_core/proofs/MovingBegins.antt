@@ -74,6 +74,7 @@ allocates_here : (history : List Entry) (s : CoreState) → RunFits s history �
 allocates_here history s fits i stands young =
     call_begins s i Allocate stands (age_for s.sizes (due (view_at s i).pool.plan) (view_at s i).transfer.age young) refl
 
+-- where an allocate may begin, its turn begins it
 pub allocates_begin : laws.AllocatesBegin
 allocates_begin = every_run _ allocates_here
 
@@ -83,6 +84,7 @@ frees_here : (history : List Entry) (s : CoreState) → RunFits s history → (i
 frees_here history s fits i block stands young holds =
     call_begins s i (Free block) stands (age_for s.sizes (due (view_at s i).pool.plan) (view_at s i).transfer.age young) holds
 
+-- where a free may begin, its turn begins it
 pub frees_begin : laws.FreesBegin
 frees_begin = every_run _ frees_here
 
@@ -93,6 +95,7 @@ reads_here history s fits i block index stands holds within =
     call_begins s i (Read block index) stands refl
     (both_are (is_holder i (holder_of s block)) (nat_lt index s.sizes.words) holds (is_less index s.sizes.words within))
 
+-- where a read may begin, its turn begins it
 pub reads_begin : laws.ReadsBegin
 reads_begin = every_run _ reads_here
 
@@ -103,6 +106,7 @@ writes_here history s fits i block index value stands holds within =
     call_begins s i (Write block index value) stands refl
     (both_are (is_holder i (holder_of s block)) (nat_lt index s.sizes.words) holds (is_less index s.sizes.words within))
 
+-- where a write may begin, its turn begins it
 pub writes_begin : laws.WritesBegin
 writes_begin = every_run _ writes_here
 
@@ -122,6 +126,7 @@ takes_here : (history : List Entry) (s : CoreState) → RunFits s history → (i
     → (view_at s i).pool.plan.spares ≤ 1 → is_made (Moves i Take) s ≡ true
 takes_here history s fits i stands few = transfer_begins s i Take stands (is_most (view_at s i).pool.plan.spares 1 few)
 
+-- where a take alone may begin, its turn begins it
 pub takes_begin : laws.TakesBegin
 takes_begin = every_run _ takes_here
 
@@ -141,5 +146,6 @@ gives_here history s fits i stands some =
     let heads = (keeps s.sizes (word_at s.sizes s.words) (view_at s) history ghosts i fits.shape stands.low h).heads in
     transfer_begins s i (Give (newest (view_at s i).pool)) stands (gives_newest (view_at s i).pool heads some)
 
+-- where a give alone may begin, its turn begins it
 pub gives_begin : laws.GivesBegin
 gives_begin = every_run _ gives_here

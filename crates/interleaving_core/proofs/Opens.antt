@@ -51,6 +51,7 @@ few_opening : (sizes : Sizes) (i : ℕ)
     → TakesHadFew (limits_of sizes) [] ((opening_ghosts sizes).ledgers i) (opening_view sizes i).pool.plan
 few_opening sizes i = record { pending = λ f. absurd (grind arith); dry = λ d. absurd (grind arith) }
 
+-- the opening's words and views meet the invariant with no history
 pub opening_holds : (sizes : Sizes) (words : List ℕ) (views : ProcessViews) → IsShape sizes → AreOpening sizes words
     → ((i : ℕ) → i < sizes.processes → views i ≡ opening_view sizes i)
     → MeetsInvariant sizes words views []

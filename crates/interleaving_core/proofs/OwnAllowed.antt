@@ -42,6 +42,7 @@ module _ (sizes : Sizes) (words : Words) (views : ProcessViews) (history : List 
       in
       (can.0, can.1)
 
+-- the own step of a call is in the ranges of its table, and what it makes of the view too
 pub own_step_allowed : (sizes : Sizes) (words : Words) (views : ProcessViews) (history : List Entry) (ghosts : Ghosts) (i : ℕ)
     → IsShape sizes → i < sizes.processes → Holds sizes words views history ghosts
     → (views i).calls.way ≢ Alone → (views i).calls.stage ≡ Own

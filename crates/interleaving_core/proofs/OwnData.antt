@@ -86,6 +86,7 @@ learnt b k block index seen old value e = elim (cases_eq b block) [
 pub same_block : (b k block index : ℕ) → Data b k ≡ Data block index → b ≡ block
 same_block b k block index e = cc
 
+-- data words of one name are of one index
 pub same_index : (b k block index : ℕ) → Data b k ≡ Data block index → k ≡ index
 same_index b k block index e = cc
 

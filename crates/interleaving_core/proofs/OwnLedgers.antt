@@ -52,6 +52,7 @@ allocated_goes : (sizes : Sizes) (i word : ℕ) (v : ProcessView) (g : Ledger) (
 allocated_goes sizes i word v g history None h own call = refusals_leave sizes i v word g history (Dry i) h own call
 allocated_goes sizes i word v g history (Some block) h own call = gets_leave sizes i v word g history (Got i block) h own call
 
+-- after its own step a process is between two calls, with its entry in the ledger
 pub own_goes : (sizes : Sizes) (i word : ℕ) (v : ProcessView) (g : Ledger) (history : List Entry) (call : Option Call) → InCalls sizes i v g
     → Scheduled sizes g.account → v.calls.stage ≡ Own → v.calls.call ≡ call
     → InCalls sizes i (own_met v word) (ledger_by_call history i v.pool call g)
@@ -71,6 +72,7 @@ pub record OwnDue (sizes : Sizes) (words : Words) (views : ProcessViews) (histor
   pub scheduled : Scheduled sizes (ghosts.ledgers i).account
   pub own : (views i).calls.stage ≡ Own
 
+-- what a process at its own step owes to the other parts
 pub due_of : (sizes : Sizes) (words : Words) (views : ProcessViews) (history : List Entry) (ghosts : Ghosts) (i : ℕ) → IsShape sizes
     → i < sizes.processes → Holds sizes words views history ghosts
     → (views i).calls.way ≢ Alone → (views i).calls.stage ≡ Own → OwnDue sizes words views history ghosts i

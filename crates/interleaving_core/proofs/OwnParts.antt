@@ -40,6 +40,7 @@ allocated_grip : (history : List Entry) (i : ℕ) (block : Option ℕ) (ledger :
 allocated_grip history i None ledger = grip_more ledger.entries (Dry i)
 allocated_grip history i (Some block) ledger = grip_more ledger.entries (Got i block)
 
+-- the grip after a call's entry is what the call leaves held
 pub grip_by_call : (history : List Entry) (i : ℕ) (pool : PoolView) (call : Option Call) (ledger : Ledger)
     → grip (ledger_by_call history i pool call ledger).entries ≡ held_by_call pool call (grip ledger.entries)
 grip_by_call history i pool None ledger = refl
@@ -55,6 +56,7 @@ allocated_finds : (history : List Entry) (i : ℕ) (block : Option ℕ) (ledger 
 allocated_finds history i None ledger = refl
 allocated_finds history i (Some block) ledger = refl
 
+-- a call's entry leaves whether a take found nothing
 pub finds_by_call : (history : List Entry) (i : ℕ) (pool : PoolView) (call : Option Call) (ledger : Ledger)
     → (ledger_by_call history i pool call ledger).found_nothing ≡ ledger.found_nothing
 finds_by_call history i pool None ledger = refl
@@ -85,6 +87,7 @@ allocate_leaves_stack : (sizes : Sizes) (words new : Words) (block : Option ℕ)
 allocate_leaves_stack sizes words new None a = loads_state sizes words new a
 allocate_leaves_stack sizes words new (Some block) a = acts_on_other sizes (Load (Next block)) words new refl a
 
+-- an own step leaves the words of the stack
 pub own_leaves_stack : (sizes : Sizes) (words new : Words) (pool : PoolView) (call : Option Call)
     → Acted sizes (own_action_for pool call) words new → StackWordsStay sizes words new
 own_leaves_stack sizes words new pool None a = loads_state sizes words new a

@@ -17,5 +17,6 @@ plan_same (Some (Read block index)) x = same_transfer x
 plan_same (Some (Write block index value)) x = same_transfer x
 plan_same (Some Search) x = took_same x
 
+-- an own step leaves the transfer of the plan
 pub own_same : (word : ℕ) (pool : PoolView) (call : Option Call) → SameTransfer pool.plan (pool_own_met word pool call).plan
 own_same word pool call = rw (own_plan word pool call) (plan_same call pool.plan)

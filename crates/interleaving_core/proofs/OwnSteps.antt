@@ -77,6 +77,7 @@ transfers_stay i x views after moved same = fun_ext (λ o. elim (cases_eq o i) [
   | inr ne ↦ ap (λ v. v.transfer) (moved.elsewhere o ne)
 ])
 
+-- what holds of the stack goes on where its words and the transfers stay
 pub stack_stays : (sizes : Sizes) (words new : Words) (i : ℕ) (x : ProcessView) (views after : ProcessViews) (states : States)
     → MovedProcess i x views after → x.transfer ≡ (views i).transfer → StackWordsStay sizes words new
     → StackHolds sizes words (transfers views) states → StackHolds sizes new (transfers after) states

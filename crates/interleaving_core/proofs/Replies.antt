@@ -22,6 +22,7 @@ answer_loaded : (sizes : Sizes) (words : List ℕ) (v : TransferView) → v.next
     → (met_of sizes v (met_word sizes words (action_of sizes v))).answer ≡ reply_of (value_of (reply_word sizes (word_at sizes words) v))
 answer_loaded sizes words v e = rw e refl
 
+-- a transfer is answered by the reply of the state that applied it
 pub answers_are_replies : AnswersAreReplies
 answers_are_replies sizes words views history i due moves e =
     let (ghosts, h) = due.table.meets in

@@ -131,6 +131,7 @@ moves_action sizes v false Choosing alone here moves = absurd (false≢true (rw 
 moves_action sizes v false Moving alone here moves = rw (alone, here) refl
 moves_action sizes v false Own alone here moves = absurd (false≢true (rw (alone, here) at moves))
 
+-- a step that moves a transfer is the transfer's own
 pub moves_met : (sizes : Sizes) (v : ProcessView) (word : ℕ) (t : Bool) (stage : CallStage) → is_alone v.calls.way ≡ t
     → v.calls.stage ≡ stage
     → moves_transfer v ≡ true → (next_met sizes v word).transfer ≡ met_of sizes v.transfer word
@@ -140,6 +141,7 @@ moves_met sizes v word false Choosing alone here moves = absurd (false≢true (r
 moves_met sizes v word false Moving alone here moves = rw (alone, here) refl
 moves_met sizes v word false Own alone here moves = absurd (false≢true (rw (alone, here) at moves))
 
+-- any other step of a busy process is the own step of its call
 pub own_acts : (sizes : Sizes) (v : ProcessView) (t : Bool) (stage : CallStage) → is_alone v.calls.way ≡ t → v.calls.stage ≡ stage
     → is_busy v ≡ true → moves_transfer v ≡ false → next_action sizes v ≡ own_action v
 own_acts sizes v true stage alone here busy not = absurd (false≢true (sym (rw alone at not)))
@@ -251,6 +253,7 @@ made_content s history turn fits made =
       own_content s by views history ghosts fits.shape li h does moved ages busy,
     )
 
+-- an own step leaves the content of the stack
 pub own_step_leaves : (s : CoreState) (history : List Entry) (turn : Turn) → RunFits s history → is_made turn s ≡ true
     → moves_transfer (turning_view turn s) ≡ false → LeavesContent s (with_step (by_of turn) (turning_view turn s) s)
 unfolding OwnLeaves
@@ -270,5 +273,6 @@ content_of_turn s history turn true fits made =
     ]
 content_of_turn s history turn false fits made = inl (record { content = refl; replies = λ o lo. refl })
 
+-- the content changes only by an exchange of the state, which applies pending transfers
 pub content_moves : ContentMoves
 content_moves sizes past history s turn run = content_of_turn s history turn (is_made turn s) (run_fits sizes past history s run) refl

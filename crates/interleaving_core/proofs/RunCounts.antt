@@ -49,6 +49,7 @@ moves_unless_rest s h = grind arith
 still_at_rest : (s : NextStep) → is_rest s ≡ true → is_moving s ≡ false
 still_at_rest s h = grind arith
 
+-- a step that isn't rest isn't told to be
 pub isnt_rest : (s : NextStep) → s ≢ Rest → is_rest s ≡ false
 isnt_rest s h = grind arith
 
@@ -57,6 +58,7 @@ most_of : (t : Bool) (steps bound : ℕ) → (t ≡ false → steps + 1 ≤ boun
 most_of true steps bound left none = omega (arith, none refl)
 most_of false steps bound left none = omega (arith, left refl)
 
+-- a transfer that isn't at rest has made fewer steps than its bound
 pub left_of : (sizes : Sizes) (v : ProcessView) → PoolRuns sizes v → OverlayIsFew sizes v.transfer → is_rest v.transfer.next ≡ false
     → v.pool.plan.done + 1 ≤ transfer_bound sizes
 left_of sizes v runs few busy =
@@ -64,6 +66,7 @@ left_of sizes v runs few busy =
     let left = step_left sizes v.transfer v.transfer.next runs.index few in
     omega arith
 
+-- of each process of a run too
 pub bounded : (s : CoreState) (history : List Entry) (i : ℕ) → RunFits s history → i < s.sizes.processes → StepsBounded s i
 bounded s history i fits li =
     let (ghosts, h) = fits.meets in
@@ -74,6 +77,7 @@ bounded s history i fits li =
     let none : is_rest v.transfer.next ≡ true → v.pool.plan.done ≡ 0 = λ e. pool.runs.kept.none (still_at_rest v.transfer.next e) in
     record { most = most_of (is_rest v.transfer.next) v.pool.plan.done (transfer_bound s.sizes) left none; left = left; none = none }
 
+-- no transfer of a run makes more steps than its bound
 pub transfers_are_bounded : TransfersAreBounded
 transfers_are_bounded sizes past history s i run li = bounded s history i (run_fits sizes past history s run) li
 
@@ -158,6 +162,7 @@ call_steps Search v none = search_steps (is_idle v.pool.plan.pending) v none
     search_steps true v none = due_steps (due v.pool) v none
     search_steps false v none = refl
 
+-- a call that starts leaves how many steps a pending transfer has made
 pub started_steps : (call : Call) (v : ProcessView) (stage : CallStage) → ((w : Wish) → due v.pool ≡ Some w → v.pool.plan.done ≡ 0)
     → (started_at stage call v).pool.plan.done ≡ v.pool.plan.done
 started_steps call v Between none = call_steps call v none
@@ -219,6 +224,7 @@ its_own_counts : (turn : Turn) (s : CoreState) (history : List Entry) → RunFit
 its_own_counts turn s history fits goes =
     let test = is_same (by_of turn) (by_of turn) refl in rw test (own_turn_counts s history turn (is_made turn s) fits refl goes)
 
+-- a turn of a process counts one step of its transfer, any other turn none
 pub turn_counts : (process : ℕ) (turn : Turn) (s : CoreState) (history : List Entry) → RunFits s history
     → rests (after_turn turn s) process ≡ false
     → steps_made (after_turn turn s) process ≡ steps_made s process + is_step_of process turn s
@@ -231,5 +237,6 @@ turn_counts process turn s history fits goes = elim (cases_eq (by_of turn) proce
       rw test (ap (λ v. v.pool.plan.done) same ∙ plus_none (steps_made s process))
 ]
 
+-- each step of a process's transfer counts one, unless it ends it, and no other turn counts
 pub steps_count : StepsCount
 steps_count sizes past history s turn process run low goes = turn_counts process turn s history (run_fits sizes past history s run) goes

@@ -12,6 +12,7 @@ use Rattle.interleaving_core.proofs.Joins.{transfers}
 use Rattle.interleaving_core.proofs.RunStates.{holds_show}
 use Rattle.interleaving_core.proofs.Runs.{run_fits}
 
+-- in every run no two batches have one head
 pub heads_stay_apart : HeadsStayApart
 heads_stay_apart sizes past history s run =
     let fits = run_fits sizes past history s run in

@@ -56,6 +56,7 @@ none_second : (a b : Bool) → b ≡ false → (a && b) ≡ false
 none_second true b e = e
 none_second false b e = refl
 
+-- a turn of a process that moves a transfer is a step of it, and the own step of a call is none
 pub runs_make_steps : RunsMakeSteps
 runs_make_steps sizes past history s by run li =
     let fits = run_fits sizes past history s run in

@@ -38,6 +38,7 @@ applied_unless_pending word reply applied age parity tag most least not = elim (
     next_differs : (t a b : ℕ) → t ≡ b → a + 1 ≡ b → t % 2 ≡ a % 2 → ⊥
     next_differs t a b e next same = omega arith
 
+-- a pending announcement is the one after the last that was applied
 pub next_where_pending : (word reply applied age : ℕ) → is_odd_reply reply ≡ (applied % 2 == 1) → tag_of word ≡ age → applied ≤ age
     → age ≤ applied + 1 → is_pending word reply ≡ true → applied + 1 ≡ age
 next_where_pending word reply applied age parity tag most least is = elim (cases_eq applied age) [
@@ -45,6 +46,7 @@ next_where_pending word reply applied age parity tag most least is = elim (cases
   | inr ne ↦ omega arith
 ]
 
+-- an announcement that was applied isn't pending
 pub calm_where_applied : (word reply applied age : ℕ) → is_odd_reply reply ≡ (applied % 2 == 1) → tag_of word ≡ age → applied ≡ age
     → is_pending word reply ≡ false
 calm_where_applied word reply applied age parity tag e = pends_not word reply applied parity (rw (tag, e) refl)
@@ -89,11 +91,13 @@ module _ (s : CoreState) (views : Views) (states : States) (h : StackHolds s.siz
       (reply_to s o) ((present (word_at s.sizes s.words) states).applied o) (views o).age (parity_is o lo) own.tag e in
       ((λ e. calm (own.idle e)), (λ e. calm (tries.ended e)))
 
+-- the words and views of a run show a state
 pub runs_show_states : RunsShowStates
 runs_show_states sizes past history s run =
     let (ghosts, h) = (run_fits sizes past history s run).meets in
     (present (word_at s.sizes s.words) ghosts.states, holds_show s (transfers (view_at s)) ghosts.states h.stack (λ o lo. refl))
 
+-- an announcement is pending in its owner's two tries alone
 pub two_tries_apply : TwoTriesApply
 two_tries_apply sizes past history s process run low =
     let (ghosts, h) = (run_fits sizes past history s run).meets in

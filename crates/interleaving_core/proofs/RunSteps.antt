@@ -31,6 +31,7 @@ turn_within sizes past more history s turn process run never rest =
     one_less : (a b c d bound : ℕ) → d ≡ a + b → d + c + 1 ≤ bound → a + (b + c) + 1 ≤ bound
     one_less a b c d bound e h = omega arith
 
+-- a transfer ends within its bound of its owner's turns
 pub transfers_end : TransfersEnd
 unfolding steps_of NeverRests
 transfers_end sizes past [] history s process run low never =
@@ -44,6 +45,7 @@ transfers_end sizes past (turn ∷ more) history s process run low (busy, never)
     turn_within sizes past more history s turn process run never
     (transfers_end sizes (past ++ turn ∷ []) more _ (after_turn turn s) process (turns past history s turn run) low never)
 
+-- so does one from its beginning on
 pub whole_transfers_end : WholeTransfersEnd
 whole_transfers_end sizes past more history s turn process run low rest never =
     let within = turn_within sizes past more history s turn process run never

@@ -27,13 +27,16 @@ either_sizes : (t : Bool) (x s : CoreState) → x.sizes ≡ s.sizes → (if t th
 either_sizes true x s e = e
 either_sizes false x s e = refl
 
+-- a turn leaves the sizes
 pub turn_sizes : (turn : Turn) (s : CoreState) → (after_turn turn s).sizes ≡ s.sizes
 turn_sizes turn s = either_sizes (is_made turn s) (with_step (by_of turn) (turning_view turn s) s) s refl
 
+-- a run has the sizes that it was opened with
 pub run_sizes : (sizes : Sizes) (past : List Turn) (history : List Entry) (s : CoreState) → IsRun sizes past history s → s.sizes ≡ sizes
 run_sizes sizes past history s (opens words shape opening) = refl
 run_sizes sizes past history s (turns before made old turn run) = turn_sizes turn old ∙ run_sizes sizes before made old run
 
+-- a run meets the invariant
 pub run_holds : RunsMeetInvariant
 run_holds sizes past history s run =
     let fits = run_fits sizes past history s run in
@@ -61,6 +64,7 @@ more_turns sizes past (turn ∷ more) history s run =
     regrouped {sizes = sizes} {a = a} {b = b} {c = c} {d = d} {s = s} e f run =
         subst (λ (all : List Turn). IsRun sizes all d s) e (subst (λ (all : List Entry). IsRun sizes a all s) f run)
 
+-- one turn more makes a run of a run
 pub runs_go_on : RunsGoOn
 runs_go_on sizes words more shape opening = more_turns sizes [] more [] (opened sizes words) (opens words shape opening)
 
@@ -86,6 +90,7 @@ none_entered : (s : CoreState) → [] ≡ entries_made [] s
 unfolding entries_made
 none_entered s = refl
 
+-- each list of turns makes a run
 pub runs_are_made : RunsAreMade
 runs_are_made sizes past history s (opens words shape opening) =
     (words, opening, none_made (opened sizes words), none_entered (opened sizes words))
@@ -114,6 +119,7 @@ moves_on Calls rest t alone busy = grind arith
 goes_on : (inside t : Bool) → inside ≡ true → (inside || t) ≡ true
 goes_on inside t e = rw e refl
 
+-- a busy process makes its turn
 pub busy_go_on : BusyProcessesGoOn
 busy_go_on s process low busy =
     let v = view_at s process in (
@@ -136,9 +142,11 @@ either_view true s by other v ne =
     ne
 either_view false s by other v ne = refl
 
+-- a turn leaves the views of others
 pub others_leave : OthersLeaveViews
 others_leave s turn other ne = either_view (is_made turn s) s (by_of turn) other (turning_view turn s) ne
 
+-- a turn leaves its process the view that its step gives
 pub own_view : (s : CoreState) (by : ℕ) (v : ProcessView) → by < length s.views
     → view_at (with_step by v s) by ≡ next_met s.sizes v (met_word s.sizes s.words (next_action s.sizes v))
 own_view s by v low =

@@ -49,6 +49,7 @@ pub opening_none : (sizes : Sizes) → opening_views sizes 0 ≡ []
 unfolding opening_views
 opening_none sizes = refl
 
+-- the opening views of one process more
 pub opening_more : (sizes : Sizes) (count : ℕ)
     → opening_views sizes (count + 1) ≡ opening_views sizes count ++ opening_view sizes count ∷ []
 unfolding opening_views
@@ -91,6 +92,7 @@ moved_seats sizes xs i v lt = record {
   elsewhere = λ o ne. get_or-set_other xs i o v (opening_view sizes o) ne;
 }
 
+-- a view that is set and set again moves by the second alone
 pub moved_twice : (sizes : Sizes) (xs : List ProcessView) (i : ℕ) (v x : ProcessView) → i < length xs
     → MovedProcess i x (λ o. get_or (set xs i v) o (opening_view sizes o)) (λ o. get_or (set xs i x) o (opening_view sizes o))
 moved_twice sizes xs i v x lt = record {
@@ -132,6 +134,7 @@ calling_meets s history i call false fits li may inside =
     inside may
     (truly_held s.sizes history s.holders i call fits.holders) (moved_seats s.sizes s.views i (started call v) (rw fits.seats li))
 
+-- a turn that is made is so from a view that meets the invariant
 pub turn_meets : (s : CoreState) (history : List Entry) (turn : Turn) → RunFits s history → is_made turn s ≡ true
     → by_of turn < s.sizes.processes
     → MeetsInvariant s.sizes s.words (λ o. get_or (set s.views (by_of turn) (turning_view turn s)) o (opening_view s.sizes o)) history
@@ -141,6 +144,7 @@ turn_meets s history (Moves by wish) fits made li =
 turn_meets s history (Events by call) fits made li =
     calling_meets s history by call (is_at_step (view_at s by).calls.stage) fits li (both_may (nat_lt by s.sizes.processes) _ made) refl
 
+-- and that view is busy
 pub turn_busy : (s : CoreState) (history : List Entry) (turn : Turn) → RunFits s history → is_made turn s ≡ true
     → by_of turn < s.sizes.processes → is_busy (turning_view turn s) ≡ true
 turn_busy s history (Moves by wish) fits made li =
@@ -154,6 +158,7 @@ turn_busy s history (Events by call) fits made li =
     calling_busy call v v.calls.way (is_at_step v.calls.stage) refl
     (alone_between s.sizes (word_at s.sizes s.words) (view_at s) history by li fits.meets) refl
 
+-- a turn that is made is one of a process of the pool
 pub turn_low : (s : CoreState) (turn : Turn) → is_made turn s ≡ true → by_of turn < s.sizes.processes
 turn_low s (Moves by wish) made = both_low by s.sizes.processes (may_go_alone s.sizes wish (view_at s by)) made
 turn_low s (Events by call) made = both_low by s.sizes.processes (may_go s.sizes (holds_for s.holders by call) call (view_at s by)) made
@@ -202,9 +207,11 @@ pub record HasLengths (s : CoreState) (sizes : Sizes) : Type 0 where
   pub views : length s.views ≡ sizes.processes
   pub holders : length s.holders ≡ blocks sizes
 
+-- a state at the end of some run
 abbrev pub SomeRun : Sizes → CoreState → Type 0
 SomeRun sizes s = (past : List Turn) × (history : List Entry) × IsRun sizes past history s
 
+-- a run has as many words, views and holders as its sizes say
 pub run_lengths : (sizes : Sizes) (s now : CoreState) → s ≡ now → SomeRun sizes s → HasLengths s now.sizes
 run_lengths sizes s now same (past, history, run) =
     let fits = run_fits sizes past history s run in
@@ -219,18 +226,21 @@ item_seen : {A : Type 0} (list : CoreState → List A) (s now : CoreState) (i n 
     → x ≡ get_or (list s) i x → x ≡ get_or (list now) i d
 item_seen list s now i n d x same long low is = rw (sym same) (is ∙ get_or_default (list s) i x d (rw long low))
 
+-- a word that is read off a run's table is the state's
 pub word_seen : (sizes : Sizes) (s now : CoreState) (place word : ℕ) → s ≡ now → SomeRun sizes s → place < table_words now.sizes
     → word ≡ get_or s.words place word → word ≡ get_or now.words place 0
 word_seen sizes s now place word same run low is =
     let lengths = run_lengths sizes s now same run in
     item_seen (λ (x : CoreState). x.words) s now place (table_words now.sizes) 0 word same lengths.words low is
 
+-- a view that is read off its list is the process's
 pub view_seen : (sizes : Sizes) (s now : CoreState) (process : ℕ) (v : ProcessView) → s ≡ now → SomeRun sizes s
     → process < now.sizes.processes → v ≡ get_or s.views process v → v ≡ view_at now process
 view_seen sizes s now process v same run low is =
     let lengths = run_lengths sizes s now same run in
     item_seen (λ (x : CoreState). x.views) s now process now.sizes.processes (opening_view now.sizes process) v same lengths.views low is
 
+-- a holder that is read off its list is the block's
 pub holder_seen : (sizes : Sizes) (s now : CoreState) (block : ℕ) (holder : Option ℕ) → s ≡ now → SomeRun sizes s → block < blocks now.sizes
     → holder ≡ get_or s.holders block holder → holder ≡ holder_of now block
 holder_seen sizes s now block holder same run low is =
@@ -257,6 +267,7 @@ run_among sizes past history s i run li =
       | inr ne ↦ let test : (o == n) ≡ false = grind (arith, nat_tests) in rw test refl
     ]
 
+-- a process of a run is among the states of its table, with what it holds
 pub run_holding : (sizes : Sizes) (past : List Turn) (history : List Entry) (s : CoreState) (i : ℕ) (call : Call)
     → IsRun sizes past history s → i < s.sizes.processes → IsAmongHolding s.sizes s.words (view_at s i) (holds_for s.holders i call) call
 unfolding run_among
@@ -273,6 +284,7 @@ run_ignores sizes past history s turn made run =
     (history ++ entries_of (if b then step_answer (turning_view turn s) s else Ignored))
     (if b then with_step (by_of turn) (turning_view turn s) s else s)) made (turns past history s turn run)
 
+-- a turn that is made goes on with the run, with the entry that it answers
 pub run_makes : (sizes : Sizes) (past : List Turn) (history : List Entry) (s : CoreState) (turn : Turn) → is_made turn s ≡ true
     → IsRun sizes past history s
     → IsRun sizes (past ++ turn ∷ []) (history ++ entries_of (step_answer (turning_view turn s) s))
@@ -296,10 +308,12 @@ among_for : (sizes : Sizes) (past : List Turn) (history : List Entry) (s : CoreS
 among_for sizes past history s (Moves by wish) run li = run_among sizes past history s by run li
 among_for sizes past history s (Events by call) run li = run_holding sizes past history s by call run li
 
+-- a turn is of a process of the pool, and its view is due for a step
 pub record IsDue (turn : Turn) (s : CoreState) : Type 0 where
   pub low : by_of turn < length s.views
   pub among : IsAmongFor turn s
 
+-- a turn that is made in a run is due
 pub run_due : (sizes : Sizes) (s now : CoreState) (turn : Turn) (b : Bool) → s ≡ now → SomeRun sizes s → b ≡ is_made turn now → b ≡ true
     → IsDue turn s
 run_due sizes s now turn b same (past, history, run) can holds =
@@ -328,6 +342,7 @@ turned_state s now turn b words seats holders happened same can holds turned not
     let made = run_made s now turn b same can holds in
     rw (sym same) (rw (made, noted, turned.answers, turned.acts, turned.meets) refl)
 
+-- what the running step answers is the turn's answer
 pub turned_answer : (s now : CoreState) (turn : Turn) (b : Bool) (words : List ℕ) (seats : List ProcessView) (happened : Happened) → s ≡ now
     → b ≡ is_made turn now → b ≡ true
     → Turned s.sizes (by_of turn) (turning_view turn s) s.words s.views words seats happened → happened ≡ turn_answer turn now
@@ -344,6 +359,7 @@ moving_next sizes table v wish may among =
     let fresh = fresh_rests sizes (word_at sizes table) (with_view v among.others) among.past v.transfer.number among.low among.meets in
     moving_busy wish v v.calls.way (is_rest v.transfer.next) refl (rw here at fresh) refl (first_may (may_use_transfers v.calls.way) _ may)
 
+-- a process in a call is busy
 pub calling_next : (sizes : Sizes) (table : List ℕ) (v : ProcessView) (call : Call) → IsAmong sizes table v
     → is_busy (calling_view call v) ≡ true
 calling_next sizes table v call among =
@@ -355,12 +371,14 @@ calling_next sizes table v call among =
 is_low : (a b : ℕ) → a < b → nat_lt a b ≡ true
 is_low a b lt = grind (arith, nat_tests)
 
+-- whether a transfer alone may go is asked of the state's own view
 pub may_go_alone_here : (sizes : Sizes) (s now : CoreState) (by : ℕ) (wish : Wish) (v : ProcessView) (b : Bool) → s ≡ now
     → SomeRun sizes s → by < s.sizes.processes → v ≡ get_or s.views by v → b ≡ may_go_alone s.sizes wish v → b ≡ is_made (Moves by wish) now
 may_go_alone_here sizes s now by wish v b same run low here may =
     let among = is_low by s.sizes.processes low in
     rw (sym same) (rw among (may ∙ ap (may_go_alone s.sizes wish) (view_seen sizes s s by v refl run low here)))
 
+-- so is whether a call may go
 pub may_go_here : (sizes : Sizes) (s now : CoreState) (by : ℕ) (call : Call) (v : ProcessView) (b holds : Bool) → s ≡ now
     → SomeRun sizes s → by < s.sizes.processes → v ≡ get_or s.views by v → holds ≡ holds_for s.holders by call
     → b ≡ may_go s.sizes holds call v → b ≡ is_made (Events by call) now

@@ -38,6 +38,7 @@ pub numbered : (sizes : Sizes) (words : Words) (views : ProcessViews) (history :
     → (views i).transfer.number ≡ i
 numbered sizes words views history ghosts i li h = (each_process sizes words (transfers views) ghosts.states i li h.stack).number
 
+-- the view of a process has its number
 pub number_holds : (sizes : Sizes) (words : Words) (views : ProcessViews) (history : List Entry) (i : ℕ) → i < sizes.processes
     → Meets sizes words views history → (views i).transfer.number ≡ i
 number_holds sizes words views history i li (ghosts, h) = numbered sizes words views history ghosts i li h
@@ -58,12 +59,14 @@ fresh_rests sizes words views history i li (ghosts, h) fresh =
     fresh_is_not_alone : (way : Way) → way ≡ Fresh → way ≡ Alone → ⊥
     fresh_is_not_alone way e f = grind arith
 
+-- a process of transfers alone has begun no step of a call
 pub alone_between : (sizes : Sizes) (words : Words) (views : ProcessViews) (history : List Entry) (i : ℕ) → i < sizes.processes
     → Meets sizes words views history → (views i).calls.way ≡ Alone
     → is_at_step (views i).calls.stage ≡ false
 alone_between sizes words views history i li (ghosts, h) alone =
     ap is_at_step (transfers_used sizes i (views i) (ghosts.ledgers i) (views i).calls.way alone (h.pools i li)).stage
 
+-- it stands between two calls
 pub alone_stage : (sizes : Sizes) (words : Words) (views : ProcessViews) (history : List Entry) (i : ℕ) → i < sizes.processes
     → Meets sizes words views history → (views i).calls.way ≡ Alone → (views i).calls.stage ≡ Between
 alone_stage sizes words views history i li (ghosts, h) alone =
@@ -80,16 +83,19 @@ rests_idle sizes words views history i shape li (ghosts, h) rest =
 few : (a b : ℕ) → nat_le a b ≡ true → a ≤ b
 few a b t = grind (arith, nat_tests)
 
+-- where a test says less, it is
 pub less : (a b : ℕ) → nat_lt a b ≡ true → a < b
 less a b t = grind (arith, nat_tests)
 
 same : (a b : ℕ) → (a == b) ≡ true → a ≡ b
 same a b t = grind (arith, nat_tests)
 
+-- where both hold the first does
 pub both_first : (a b : Bool) → (a && b) ≡ true → a ≡ true
 both_first true b e = refl
 both_first false b e = e
 
+-- where both hold the second does
 pub both_second : (a b : Bool) → (a && b) ≡ true → b ≡ true
 both_second true b e = e
 both_second false b e = absurd (grind arith)
@@ -122,6 +128,7 @@ wish_fits_at sizes words views history ghosts i (Give head) shape li h may =
     let limit = shape.few_blocks in
     (rw (sym is) (omega arith), (omega arith, some, is))
 
+-- a wish that may be made fits a word and may begin
 pub wish_fits : (sizes : Sizes) (words : Words) (views : ProcessViews) (history : List Entry) (i : ℕ) (wish : Wish) → IsShape sizes
     → i < sizes.processes → Meets sizes words views history
     → (views i).transfer.next ≡ Rest → may_wish wish (views i).pool ≡ true → FitsWish wish × MayBegin wish (views i).pool
@@ -134,6 +141,7 @@ uses_no_transfers Fresh e = λ is. grind arith
 uses_no_transfers Alone e = λ is. grind arith
 uses_no_transfers Calls e = λ is. grind arith
 
+-- a call that may be made is none of a process of transfers alone
 pub call_way : (sizes : Sizes) (holds : Bool) (call : Call) (v : ProcessView) → may_call sizes holds call v ≡ true → v.calls.way ≢ Alone
 call_way sizes holds call v may =
     uses_no_transfers v.calls.way (both_first (may_use_calls v.calls.way) (is_young_for sizes call v && names_fit sizes holds call) may)
@@ -155,11 +163,13 @@ young_by sizes (Read block index) v e = tt
 young_by sizes (Write block index value) v e = tt
 young_by sizes Search v e = less v.transfer.age (most_age sizes) e
 
+-- it is young enough for its call
 pub call_young : (sizes : Sizes) (holds : Bool) (call : Call) (v : ProcessView) → may_call sizes holds call v ≡ true
     → IsYoungFor sizes call v
 call_young sizes holds call v may =
     young_by sizes call v (both_first (is_young_for sizes call v) (names_fit sizes holds call) (call_rest sizes holds call v may))
 
+-- and names blocks and indices of the pool
 pub call_names : (sizes : Sizes) (holds : Bool) (call : Call) (v : ProcessView) → may_call sizes holds call v ≡ true
     → names_fit sizes holds call ≡ true
 call_names sizes holds call v may =
@@ -177,6 +187,7 @@ call_can sizes words views history ghosts i shape li h =
     let limit = shape.few_blocks in
     omega arith)
 
+-- what a call asks of a view so that it can begin, each view of the invariant has
 pub call_can_begin : (sizes : Sizes) (words : Words) (views : ProcessViews) (history : List Entry) (i : ℕ)
     → IsShape sizes → i < sizes.processes → Meets sizes words views history → CanBegin (views i)
 call_can_begin sizes words views history i shape li (ghosts, h) = call_can sizes words views history ghosts i shape li h

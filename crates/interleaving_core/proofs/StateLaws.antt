@@ -13,7 +13,8 @@ use Rattle.transfer_schedule.specs.declared.pending.Pending.{Pending}
 use Rattle.transfer_schedule.specs.declared.pending.Pending.TheVariants.{Idle, Taking, Giving}
 use Rattle.transfer_schedule.specs.declared.own_step.Source.TheVariants as source
 use Rattle.transfer_schedule.proofs.Products.{times_le}
-use Rattle.transfer_schedule.proofs.Reaching.{reached_stands, stands_gives}
+use Rattle.transfer_schedule.proofs.AtPhase.{stands_gives}
+use Rattle.transfer_schedule.proofs.Reaching.{reached_stands}
 use Rattle.transfer_schedule.proofs.Stock.{nothing_stock}
 use Rattle.std.specs.Prelude.{Option, None, Some}
 use Rattle.transfer_schedule.specs.Laws.{serves}
@@ -54,6 +55,7 @@ has_states sizes table views history ghosts shape h = record {
       states_are_blocks sizes (word_at sizes table) (transfers views) ghosts.states m place shape h.stack some le lt;
 }
 
+-- the words of a run show states that follow one another
 pub states_follow : laws.StatesFollowOne
 states_follow sizes words views history shape (ghosts, h) =
     (ghosts.states, has_states sizes words views history ghosts shape h, λ i li. (h.stack.helping.tries i li).installed)
@@ -88,6 +90,7 @@ empty_takes sizes words views history shape (ghosts, h) i li answered = (
       (sym (reply_said sizes words views history ghosts i li h) ∙ answered.said),
 )
 
+-- a take that finds nothing had few unheld blocks
 pub empty_takes_had_few : laws.EmptyTakesHadFew
 empty_takes_had_few sizes words views history shape (ghosts, h) i li = record {
   ledger = ghosts.ledgers i;
@@ -105,6 +108,7 @@ tries_applied sizes words views history shape (ghosts, h) i li tried =
     pends_said sizes words views history ghosts i li h
     ∙ not_same _ _ (tries_apply sizes (word_at sizes words) (transfers views) ghosts.states i li h.stack tried)
 
+-- where both tries failed the state's number is two above the first loaded one at least
 pub failed_tries : laws.FailedTriesMoveState
 failed_tries sizes words views history shape (ghosts, h) i li tried none = (h.stack.helping.tries i li).failed tried none
 
@@ -112,6 +116,7 @@ failed_tries sizes words views history shape (ghosts, h) i li tried none = (h.st
 pub loads_in_range : laws.LoadsAreInRange
 loads_in_range sizes words views history shape (ghosts, h) i li = h.stack.loads i li
 
+-- the last answer stays its process's reply in the current record
 pub answers_stay : laws.AnswersStay
 answers_stay sizes words views history shape (ghosts, h) i li none =
     h.stack.answers i li none ∙ sym (reply_said sizes words views history ghosts i li h)
@@ -186,6 +191,7 @@ none_exactly x long giving = (
       no_source x (omega (arith, empty)) (no_spare x.length x.spares long (omega (arith, empty))),
 )
 
+-- an allocate finds no block exactly where its process keeps none
 pub none_where_none_is_kept : laws.NoneWhereNoneIsKept
 none_where_none_is_kept sizes words views history shape (ghosts, h) i li =
     let s = scheduled sizes (word_at sizes words) views history ghosts i shape li h in

@@ -99,6 +99,7 @@ call_in_range sizes v Own can = own_in_range sizes v v.calls.call can
     own_in_range sizes v (Some (Write block index value)) (low, within) = (low, within)
     own_in_range sizes v (Some Search) can = allocate_in_range sizes v.pool (source_of v.pool.plan) can
 
+-- the word of a next step is in the table
 pub next_in_range : (sizes : Sizes) (words : Words) (v : ProcessView) (t : Bool) → is_alone v.calls.way ≡ t → StepAllowed sizes words v
     → InRange sizes (name_of (next_action sizes v))
 next_in_range sizes words v true alone allowed = rw alone (acts_in_range sizes v.transfer v.transfer.next (allowed.act alone))
@@ -130,6 +131,7 @@ call_number sizes v word Choosing = refl
 call_number sizes v word Moving = met_number sizes v.transfer word v.transfer.next
 call_number sizes v word Own = refl
 
+-- a step leaves the number of its process
 pub next_number : (sizes : Sizes) (v : ProcessView) (word : ℕ) (t : Bool) → is_alone v.calls.way ≡ t
     → (next_met sizes v word).transfer.number ≡ v.transfer.number
 next_number sizes v word true alone = rw alone (met_number sizes v.transfer word v.transfer.next)
@@ -152,6 +154,7 @@ table_step sizes table views after history i shape whole li h busy moved =
 pub with_view_here : (v : ProcessView) (others : ProcessViews) → with_view v others v.transfer.number ≡ v
 with_view_here v others = let test : (v.transfer.number == v.transfer.number) ≡ true = grind (arith, nat_tests) in rw test refl
 
+-- views with another one of a process have moved by it
 pub with_view_moved : (v x : ProcessView) (others : ProcessViews) → x.transfer.number ≡ v.transfer.number
     → MovedProcess v.transfer.number x (with_view v others) (with_view x others)
 with_view_moved v x others same = record {
@@ -193,6 +196,7 @@ among_idle sizes table v shape among rest =
     let idle = rests_idle sizes (word_at sizes table) (with_view v among.others) among.past v.transfer.number shape among.low among.meets in
     rw here at idle rest
 
+-- a wish that may be made fits a word and may begin, of a view among some states
 pub among_fits : (sizes : Sizes) (table : List ℕ) (v : ProcessView) (wish : Wish) → IsShape sizes → IsAmong sizes table v
     → v.transfer.next ≡ Rest → may_wish wish v.pool ≡ true → FitsWish wish × MayBegin wish v.pool
 among_fits sizes table v wish shape among rest may =
@@ -230,6 +234,7 @@ moving_among sizes table v wish true shape rest may among =
     }
 moving_among sizes table v wish false shape rest may among = among
 
+-- a transfer alone that may go leaves a view among some states
 pub among_moving : (sizes : Sizes) (table : List ℕ) (v : ProcessView) (wish : Wish) → IsShape sizes → may_go_alone sizes wish v ≡ true
     → IsAmong sizes table v → IsAmong sizes table (moving_view wish v)
 among_moving sizes table v wish shape may among = moving_among sizes table v wish (is_rest v.transfer.next) shape refl may among
@@ -239,6 +244,7 @@ due_number : (wish : Option Wish) (v : ProcessView) → (begun_if_due wish v).tr
 due_number None v = refl
 due_number (Some wish) v = refl
 
+-- the beginning of a call leaves the number of its process
 pub begun_number : (call : Call) (v : ProcessView) → (call_begun call v).transfer.number ≡ v.transfer.number
 begun_number Allocate v = due_number (due v.pool) v
 begun_number (Free block) v = due_number (due v.pool) v
@@ -256,6 +262,7 @@ started_number call v Choosing = due_number (due v.pool) v
 started_number call v Moving = begun_number call v
 started_number call v Own = begun_number call v
 
+-- where one of two holds and the first doesn't, the second does
 pub either_may : (a b : Bool) → a ≡ false → (a || b) ≡ true → b ≡ true
 either_may true b e h = grind arith
 either_may false b e h = h
@@ -280,6 +287,7 @@ calling_among sizes table v call holds false shape inside may h =
           (rw here at begins) inside may h.held (with_view_moved v x among.others number);
     }
 
+-- a call that may go leaves a view among some states
 pub among_calling : (sizes : Sizes) (table : List ℕ) (v : ProcessView) (call : Call) (holds : Bool) → IsShape sizes
     → may_go sizes holds call v ≡ true → IsAmongHolding sizes table v holds call → IsAmong sizes table (calling_view call v)
 among_calling sizes table v call holds shape may h = calling_among sizes table v call holds (is_at_step v.calls.stage) shape refl may h
@@ -289,10 +297,12 @@ pub alone_met : (sizes : Sizes) (table : List ℕ) (v : ProcessView) → is_alon
     → view_met sizes v (met_word sizes table (action_of sizes v.transfer)) ≡ next_met sizes v (met_word sizes table (next_action sizes v))
 alone_met sizes table v alone = rw alone refl
 
+-- in a call the next step is the call's
 pub call_meets : (sizes : Sizes) (table : List ℕ) (v : ProcessView) → is_alone v.calls.way ≡ false
     → call_met sizes v (met_word sizes table (call_action sizes v)) ≡ next_met sizes v (met_word sizes table (next_action sizes v))
 call_meets sizes table v calls = rw calls refl
 
+-- and its answer is the call's
 pub call_answers : (sizes : Sizes) (table : List ℕ) (v : ProcessView) → is_alone v.calls.way ≡ false
     → call_answer v (met_word sizes table (call_action sizes v)) ≡ next_answer v (met_word sizes table (next_action sizes v))
 call_answers sizes table v calls = rw calls refl

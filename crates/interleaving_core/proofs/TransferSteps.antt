@@ -38,6 +38,7 @@ is_nothing Nothing = true
 is_nothing (Took head) = false
 is_nothing Gave = false
 
+-- a reply that is told to be nothing is
 pub says_nothing : (reply : Reply) → is_nothing reply ≡ true → reply ≡ Nothing
 says_nothing Nothing e = refl
 says_nothing (Took head) e = grind arith
@@ -53,20 +54,24 @@ finds_nothing s v o =
 abbrev pub known_of : (ℕ → Bool) → Ledgers → Ledgers
 known_of found ledgers o = if found o then record (ledgers o) { found_nothing = true } else ledgers o
 
+-- what is known of an empty take leaves the entries
 pub known_entries : (t : Bool) (g : Ledger) → (if t then record g { found_nothing = true } else g).entries ≡ g.entries
 known_entries true g = refl
 known_entries false g = refl
 
+-- and the account
 pub known_account : (t : Bool) (g : Ledger) → (if t then record g { found_nothing = true } else g).account ≡ g.account
 known_account true g = refl
 known_account false g = refl
 
+-- a take that finds nothing notes that few blocks were unheld
 pub emptied : (limits : Limits) (history : List Entry) (t : Bool) (g : Ledger)
     → (t ≡ true → HasFewUnheld limits history (length history))
     → Emptied limits history g (if t then record g { found_nothing = true } else g)
 emptied limits history true g few = empties (few refl)
 emptied limits history false g few = stays
 
+-- a take that found nothing is still known to have
 pub known_found : (t : Bool) (g : Ledger) → g.found_nothing ≡ true
     → (if t then record g { found_nothing = true } else g).found_nothing ≡ true
 known_found true g e = refl
@@ -76,6 +81,7 @@ known_found false g e = e
 nothing_to_know : (s : StackState) (i : ℕ) (x : TransferView) (g : Ledger) → has_announced x.next ≡ false → KnowsOfNothing s i x g
 nothing_to_know s i x g none = λ announced applied take nothing. absurd (false≢true (sym none ∙ announced))
 
+-- what is known of an empty take goes on while its announcement stays
 pub goes_on_knowing : (s : StackState) (i : ℕ) (v x : TransferView) (g new : Ledger) → SameAnnouncement v x
     → new.found_nothing ≡ g.found_nothing → KnowsOfNothing s i v g → KnowsOfNothing s i x new
 goes_on_knowing s i v x g new goes found h =

@@ -126,6 +126,7 @@ begins_here history s fits i call between made =
     let first = begun_first call (view_at s i) between in
     turn_makes s history i call call fits made (ap (λ (v : ProcessView). v.calls.call) first ∙ begun_call call (view_at s i))
 
+-- between two calls a turn begins the call that is asked for
 pub calls_begin_as_asked : laws.CallsBeginAsAsked
 calls_begin_as_asked = every_run _ begins_here
 
@@ -155,6 +156,7 @@ stays_here history s fits (Events i asked) call li within same =
     let searches = λ (e : v.calls.stage ≡ Choosing). (choosing_in_calls s.sizes i v (ghosts.ledgers i) e (h.pools i li)).stage.searches e in
     turn_makes s history i asked call fits made (goes_with asked v v.calls.stage refl within searches ∙ same)
 
+-- in a call the turn goes on with it
 pub calls_stay : laws.CallsStay
 calls_stay = every_run _ stays_here
 
@@ -200,6 +202,7 @@ alone_here history s fits i wish rest made =
           (sym (ap (λ (v : ProcessView). v.transfer.age) after)));
     }
 
+-- at rest a turn begins the transfer that is wished
 pub transfers_begin_as_asked : laws.TransfersBeginAsAsked
 transfers_begin_as_asked = every_run _ alone_here
 
@@ -222,6 +225,7 @@ steps_here history s fits turn made = (
   },
 )
 
+-- a turn that is made is one step of its process's view
 pub turns_make_steps : laws.TurnsMakeSteps
 turns_make_steps = every_run _ steps_here
 
@@ -229,5 +233,6 @@ ignored_here : (history : List Entry) (s : CoreState) → RunFits s history → 
     → (after_turn turn s ≡ s) × (turn_answer turn s ≡ Ignored)
 ignored_here history s fits turn off = (ignored_state s turn off, rw off refl)
 
+-- a turn that may not be made changes nothing
 pub other_turns_are_ignored : laws.OtherTurnsAreIgnored
 other_turns_are_ignored = every_run _ ignored_here

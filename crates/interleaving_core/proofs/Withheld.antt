@@ -11,9 +11,11 @@ use Rattle.chain_invariant.proofs.Kept.{kept_is_withheld}
 use Rattle.call_invariant.specs.Uses.{PoolKeeps}
 use Rattle.call_invariant.proofs.Uses.{idle_pool_rests}
 
+-- what is told to be idle is
 pub idle_is : (p : Pending) → is_idle p ≡ true → p ≡ Idle
 idle_is p e = grind arith
 
+-- what a process keeps is at most what its plan withholds
 pub withholds : (sizes : Sizes) (t : StackState) (i : ℕ) (v : ProcessView) → PoolKeeps sizes v
     → kept_blocks sizes t i v ≤ withheld v.pool.plan
 withholds sizes t i v k =

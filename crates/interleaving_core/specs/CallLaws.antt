@@ -106,6 +106,7 @@ left_at paced chosen quantum bound steps done Choosing = bound + 1
 left_at paced chosen quantum bound steps done Moving = moving_left paced chosen quantum bound steps done
 left_at paced chosen quantum bound steps done Own = 1
 
+-- how many turns a call has left at most
 abbrev pub steps_left : Sizes → ProcessView → ℕ
 steps_left sizes v =
     left_at (is_paced v.calls.call) v.calls.chosen sizes.quantum (transfer_bound sizes) v.calls.steps v.pool.plan.done v.calls.stage
@@ -199,6 +200,7 @@ ReadsLoad = EveryRun (λ sizes history s. (i block index : ℕ)
     → is_made (Events i (Read block index)) s ≡ true
     → turn_answer (Events i (Read block index)) s ≡ Loaded (word_at sizes s.words (Data block index)))
 
+-- a write sets its data word and no other
 abbrev pub WritesStore : Type 0
 WritesStore = EveryRun (λ sizes history s. (i block index value : ℕ)
     → (view_at s i).calls.stage ≡ Between

@@ -35,9 +35,11 @@ use Rattle.interleaving_core.specs.Steps.{is_busy, next_action, next_answer, nex
 abbrev pub Loads : WordName → Action → Type 0
 Loads name action = action ≡ Load name
 
+-- the action stores to a word of this name
 abbrev pub Stores : WordName → Action → Type 0
 Stores name action = (word : ℕ) × (action ≡ Store name word)
 
+-- the action exchanges a word of this name
 abbrev pub Exchanges : WordName → Action → Type 0
 Exchanges name action = (old : ℕ) × ((new : ℕ) × (action ≡ Exchange name old new))
 
@@ -146,5 +148,6 @@ abbrev pub WaitingFits : ProcessView → Option Stage → Type 0
 WaitingFits v None = (is_rest v.transfer.next ≡ true) ⊎ (is_moving (phase_of v) ≡ true)
 WaitingFits v (Some stage) = (stage ≡ stage_of v.transfer) × (is_rest v.transfer.next ≡ false) × (is_moving (phase_of v) ≡ false)
 
+-- the number of what is pending fits the plan
 abbrev pub WaitingsFit : Type 0
 WaitingsFit = (v : ProcessView) → WaitingFits v (waiting_of v)

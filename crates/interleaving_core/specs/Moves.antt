@@ -102,6 +102,7 @@ abbrev pub started_at : CallStage → Call → ProcessView → ProcessView
 started_at Choosing call v = search_chosen v
 started_at stage call v = call_begun call v
 
+-- the view of a process that starts a call: as it begins, or goes on with what it has begun
 abbrev pub started : Call → ProcessView → ProcessView
 started call v = started_at v.calls.stage call v
 

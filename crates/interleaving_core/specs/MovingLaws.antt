@@ -37,6 +37,7 @@ abbrev pub ReadsBegin : Type 0
 ReadsBegin = EveryRun (λ sizes history s. (i block index : ℕ) → StandsBetween sizes i s → is_holder i (holder_of s block) ≡ true
     → index < sizes.words → is_made (Events i (Read block index)) s ≡ true)
 
+-- where a write may begin, its turn begins it
 abbrev pub WritesBegin : Type 0
 WritesBegin = EveryRun (λ sizes history s. (i block index value : ℕ) → StandsBetween sizes i s → is_holder i (holder_of s block) ≡ true
     → index < sizes.words → is_made (Events i (Write block index value)) s ≡ true)
@@ -53,6 +54,7 @@ abbrev pub TakesBegin : Type 0
 TakesBegin = EveryRun (λ sizes history s. (i : ℕ) → StandsAtRest sizes i s → (view_at s i).pool.plan.spares ≤ 1
     → is_made (Moves i Take) s ≡ true)
 
+-- where a give alone may begin, its turn begins it
 abbrev pub GivesBegin : Type 0
 GivesBegin = EveryRun (λ sizes history s. (i : ℕ) → StandsAtRest sizes i s → 1 ≤ (view_at s i).pool.plan.spares
     → is_made (Moves i (Give (newest (view_at s i).pool))) s ≡ true)

@@ -67,6 +67,7 @@ unfoldable pub after_turns : List Turn → CoreState → CoreState
 after_turns [] s = s
 after_turns (turn ∷ more) s = after_turns more (after_turn turn s)
 
+-- the entries that turns make, one after the other
 unfoldable pub entries_made : List Turn → CoreState → List Entry
 entries_made [] s = []
 entries_made (turn ∷ more) s = entries_of (turn_answer turn s) ++ entries_made more (after_turn turn s)
@@ -109,6 +110,7 @@ pub record RunHolds (sizes : Sizes) (history : List Entry) (s : CoreState) : Typ
   pub holders : length s.holders ≡ blocks s.sizes
   pub meets : MeetsInvariant s.sizes s.words (view_at s) history
 
+-- so does every run
 abbrev pub RunsMeetInvariant : Type 0
 RunsMeetInvariant =
     (sizes : Sizes) (past : List Turn) (history : List Entry) (s : CoreState)
@@ -142,6 +144,7 @@ pub record TurnsAreSteps (s : CoreState) (by : ℕ) : Type 0 where
   pub events : (view_at s by).calls.stage ≡ Moving → (call : Call) → is_step (Events by call) s ≡ true
   pub own : (view_at s by).calls.stage ≡ Own → (call : Call) → is_step (Events by call) s ≡ false
 
+-- so are the turns of every run
 abbrev pub RunsMakeSteps : Type 0
 RunsMakeSteps =
     (sizes : Sizes) (past : List Turn) (history : List Entry) (s : CoreState) (by : ℕ)
@@ -155,6 +158,7 @@ pub record StepsBounded (s : CoreState) (process : ℕ) : Type 0 where
   pub left : rests s process ≡ false → steps_made s process + 1 ≤ transfer_bound s.sizes
   pub none : rests s process ≡ true → steps_made s process ≡ 0
 
+-- so it is in every run
 abbrev pub TransfersAreBounded : Type 0
 TransfersAreBounded =
     (sizes : Sizes) (past : List Turn) (history : List Entry) (s : CoreState) (process : ℕ)
@@ -171,6 +175,7 @@ StepsCount =
     → rests (after_turn turn s) process ≡ false
     → steps_made (after_turn turn s) process ≡ steps_made s process + is_step_of process turn s
 
+-- a turn leaves the views of the other processes
 abbrev pub OthersLeaveViews : Type 0
 OthersLeaveViews = (s : CoreState) (turn : Turn) (other : ℕ) → other ≢ by_of turn → view_at (after_turn turn s) other ≡ view_at s other
 
@@ -198,6 +203,7 @@ pub record PendsInTries (s : CoreState) (process : ℕ) : Type 0 where
   pub before : has_announced (next_step s process) ≡ false → pends s process ≡ false
   pub after : has_tried (next_step s process) ≡ true → pends s process ≡ false
 
+-- so it is in every run
 abbrev pub TwoTriesApply : Type 0
 TwoTriesApply =
     (sizes : Sizes) (past : List Turn) (history : List Entry) (s : CoreState) (process : ℕ)
@@ -212,6 +218,7 @@ pub record ShowsState (s : CoreState) (t : StackState) : Type 0 where
   pub applied : (process : ℕ) → process < s.sizes.processes → pends s process ≡ false → t.applied process ≡ announced_count s process
   pub pending : (process : ℕ) → process < s.sizes.processes → pends s process ≡ true → t.applied process + 1 ≡ announced_count s process
 
+-- in every run they show one
 abbrev pub RunsShowStates : Type 0
 RunsShowStates =
     (sizes : Sizes) (past : List Turn) (history : List Entry) (s : CoreState)
@@ -258,6 +265,7 @@ pub record HeadsApart (s : CoreState) (t : StackState) : Type 0 where
       → All (λ head. head < blocks s.sizes) (moving t process (view_at s process).transfer)
   pub once : (head : ℕ) → times_pooled s.sizes t (view_at s) head ≤ 1
 
+-- so they are in every run
 abbrev pub HeadsStayApart : Type 0
 HeadsStayApart =
     (sizes : Sizes) (past : List Turn) (history : List Entry) (s : CoreState)

@@ -103,6 +103,7 @@ pub record SetsOutInCall (call : Call) (old v : ProcessView) : Type 0 where
   pub chooses : old.calls.stage ≡ Choosing → v ≡ search_chosen old
   pub begins : old.calls.stage ≡ Between → v ≡ call_begun call old
 
+-- a view from which a turn's step is made: of a call that is asked for, or goes on; or of a transfer alone
 abbrev pub SetsOut : Turn → ProcessView → ProcessView → Type 0
 SetsOut (Moves by wish) old v = SetsOutAlone wish old v
 SetsOut (Events by call) old v = SetsOutInCall call old v

@@ -87,8 +87,8 @@ impl CoreRun {
     /// the one step of a read or a write. Ignored exactly where no such process is in the shape, where it has begun
     /// a transfer outside any call, or where it is between two calls and the call names a block that it doesn't
     /// hold or an index that its blocks don't have; then nothing changes. It takes no memory. An event that begins
-    /// an allocate or a free with which a transfer is due needs a process whose age isn't the last one; no other is
-    /// asked for its age.
+    /// an allocate or a free with which a transfer is due, or a search whatever is due, needs a process whose age
+    /// isn't the last one; no other is asked for its age.
     pub fn event(&mut self, event: &Event) -> Happened
         requires { event.now.by < self.old.sizes.processes → (view_at self.old event.now.by).calls.stage ≡ Between → IsYoungFor self.old.sizes event.now.call (view_at self.old event.now.by) }
         ensures answer { result ≡ turn_answer (Events event.now.by event.now.call) self.old }

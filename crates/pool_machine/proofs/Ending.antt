@@ -103,6 +103,7 @@ last quantum most k steps Choosing ne h = absurd (h.chosen refl)
 last quantum most k steps Moving ne h = let e = h.all refl in let m = h.made refl in let f = h.few refl in omega arith
 last quantum most k steps Own ne h = let o = h.own refl in omega arith
 
+-- a call but a search has made at most its transfer steps and its own one
 pub ends : (sizes : Sizes) (call : Call) (n : ℕ) (views : ℕ → ProcessView) (words : ℕ → ℕ) → 1 ≤ sizes.quantum → is_paced (Some call) ≡ true
     → CallSteps sizes call n views words → n ≤ most_moves sizes call + 1
 ends sizes call zero views words some paced steps = omega arith

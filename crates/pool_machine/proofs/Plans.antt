@@ -35,6 +35,7 @@ begun_as_due v Idle = refl
 begun_as_due v Taking = refl
 begun_as_due v Giving = refl
 
+-- what begins with a call is what the plan chooses
 pub choice_is_the_plans : (v : ProcessView) → (before_call v).pool.plan ≡ schedule.after_choice v.pool.plan
 choice_is_the_plans v = begun_as_due v (schedule.due v.pool.plan)
 
@@ -49,10 +50,12 @@ allocated_plan word pool source.Current = refl
 allocated_plan word pool source.Spare = refl
 allocated_plan word pool source.Nothing = refl
 
+-- a free is one of the plan, wherever the block goes
 pub freed_plan : (block : ℕ) (pool : PoolView) (t : Target) → (freed block pool t).plan ≡ schedule.after_gave_one pool.plan
 freed_plan block pool target.Current = refl
 freed_plan block pool target.Fresh = refl
 
+-- an own step is one of the plan
 pub own_plan : (word : ℕ) (pool : PoolView) (call : Option Call) → (pool_own_met word pool call).plan ≡ plan_after call pool.plan
 own_plan word pool None = refl
 own_plan word pool (Some Allocate) = allocated_plan word pool (schedule.source_of pool.plan)
@@ -86,6 +89,7 @@ after_fits sizes (Some Search) x h = took_fits sizes x h
 begun_fits_at : (sizes : Sizes) (v : ProcessView) → PlanFits sizes v.pool.plan → PlanFits sizes (before_call v).pool.plan
 begun_fits_at sizes v h = rw (choice_is_the_plans v) (choice_fits sizes v.pool.plan h)
 
+-- a call that begins leaves the sizes of the plan
 pub begun_fits : (sizes : Sizes) (call : Call) (v : ProcessView) → PlanFits sizes v.pool.plan → PlanFits sizes (call_begun call v).pool.plan
 begun_fits sizes Allocate v h = begun_fits_at sizes v h
 begun_fits sizes (Free block) v h = begun_fits_at sizes v h
@@ -120,6 +124,7 @@ met_fits_at sizes v word Choosing h = h
 met_fits_at sizes v word Moving h = moved_fits sizes word v.pool v.transfer.next h
 met_fits_at sizes v word Own h = rw (own_plan word v.pool v.calls.call) (after_fits sizes v.calls.call v.pool.plan h)
 
+-- each step of a call leaves them
 pub met_fits : (sizes : Sizes) (v : ProcessView) (word : ℕ) → PlanFits sizes v.pool.plan → PlanFits sizes (call_met sizes v word).pool.plan
 met_fits sizes v word h = met_fits_at sizes v word v.calls.stage h
 

@@ -1,3 +1,4 @@
+// How the own step of a call answers.
 use pool_model::Entry;
 
 /// How the own step of a call answers.

@@ -1,3 +1,4 @@
+// One step of a process, and what happened in it.
 use crate::call::Call;
 use pool_model::Entry;
 use transfer_machine::Kind;

@@ -198,6 +198,33 @@ fn ways(rt: HostRuntime) -> Result<(), Fail> {
     Ok(())
 }
 
+// The last transfer that the age leaves room for runs to its end, and calls with nothing due go on. Then a take is due: what may
+// begin one can't be called any more.
+#[test]
+#[tactic(auto, using(crate::proofs::Plans::opening_fits))]
+fn at_the_ages_end(rt: HostRuntime) -> Result<(), Fail> {
+    let shape = Shape::new(1, 10, 1)?;
+    let mut words = opening_words(rt.alloc(), &shape)?;
+    let mut view = ProcessView::open(&shape, 0);
+    view.transfer.age = shape.most_age() - 1;
+    let rows = [got(0, 9), got(1, 8), got(2, 1), got(3, 1), got(36, 1)];
+    for (call, happened, steps) in rows {
+        let made = make(&rt, &shape, &mut words, &mut view, call);
+        assert_eq!(rt; made, (happened, steps), "{call:?}");
+        assert_eq!(rt; view.transfer.age, shape.most_age(), "{call:?}");
+    }
+    let cases = [
+        (Call::Allocate, false),
+        (Call::Free { block: 0 }, false),
+        (Call::Search, false),
+        (Call::Read { block: 0, index: 0 }, true),
+    ];
+    for (call, may) in &cases {
+        assert!(rt; may_call(&view, &shape, *call, true) == *may, "{call:?}");
+    }
+    Ok(())
+}
+
 // A transfer that was begun outside any call goes on by its own steps.
 #[test]
 fn a_transfer_alone(rt: HostRuntime) -> Result<(), Fail> {

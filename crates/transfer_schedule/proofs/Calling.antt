@@ -136,6 +136,7 @@ own_rested size entries begun Allocate x p =
 own_rested size entries begun Free x p =
     record { ended = p.ended; standing = gave_stands x entries begun p.ended p.ready; sized = (gave_sizes x).0 ∙ p.sized }
 
+-- an own step leaves what is pending
 pub own_pending : (own : OwnStep) (x : Numbers) → (after_own own x).pending ≡ x.pending
 own_pending Allocate x = (took_same x).pending
 own_pending Free x = (gave_same x).pending
@@ -154,9 +155,11 @@ call_rested size entries begun call x s fits =
       before = λ busy. next.ready.begun_before (ap is_idle (sym (own_pending call.own (ready_for call x))) ∙ busy);
     }
 
+-- the first of calls that fit fits
 pub first_fits : (call : PlannedCall) (calls : List PlannedCall) (x : Numbers) → FitAll (call ∷ calls) x → Fits call x
 first_fits call calls x fit = fit zero call refl
 
+-- the calls after the first fit the numbers that it leaves
 pub rest_fit : (call : PlannedCall) (calls : List PlannedCall) (x : Numbers) → FitAll (call ∷ calls) x → FitAll calls (after_call x call)
 rest_fit call calls x fit = λ k c e. fit (suc k) c e
 
@@ -240,6 +243,7 @@ pub record Kept (size : ℕ) (x : Numbers) : Type 0 where
   pub begun : ℕ
   pub rested : Rested size entries begun x
 
+-- the facts of a plan between two calls hold after each list of calls that fit
 pub calls_rest : (size entries begun : ℕ) (calls : List PlannedCall) (x : Numbers)
     → Rested size entries begun x
     → FitAll calls x
@@ -249,6 +253,7 @@ calls_rest size entries begun (call ∷ calls) x s fit =
     let c = call_rested size entries begun call x s (first_fits call calls x fit) in
     calls_rest size (entries + 1) c.from calls (after_call x call) c.rested (rest_fit call calls x fit)
 
+-- they hold at the opening
 pub opening_rested : (length bound quantum : ℕ) → AreSizes length bound quantum → Rested length 0 0 (opening length bound quantum)
 opening_rested length bound quantum sizes = record { ended = 0; standing = opening_stands length bound quantum sizes; sized = refl }
 
@@ -275,19 +280,23 @@ moment_spared size entries begun x y s (ready call fits) =
     let (from, next, same) = call_prepared size entries begun call x s fits in
     record { age = entries - from; spared = spared_ready (ready_for call x) entries from next.ended next.ready; sized = next.sized }
 
+-- the table of spares holds at each moment of the next call
 pub moment_table : (size : ℕ) (x y : Numbers) → Kept size x → IsMoment x y → InTable y
 moment_table size x y k m = let s = moment_spared size k.entries k.begun x y k.rested m in spared_table y s.age s.spared
 
+-- at most four batches are kept at each moment with nothing pending
 pub moment_rests : (size : ℕ) (x y : Numbers) → Kept size x → IsMoment x y → y.pending ≡ Idle → kept y ≤ 4 * size
 moment_rests size x y k m e =
     let s = moment_spared size k.entries k.begun x y k.rested m in
     subst (λ n. kept y ≤ 4 * n) s.sized (spared_rests y s.age s.spared e)
 
+-- at most five are withheld at each moment
 pub moment_withholds : (size : ℕ) (x y : Numbers) → Kept size x → IsMoment x y → withheld y ≤ 5 * size
 moment_withholds size x y k m =
     let s = moment_spared size k.entries k.begun x y k.rested m in
     subst (λ n. withheld y ≤ 5 * n) s.sized (spared_withholds y s.age s.spared)
 
+-- a call finds no block only where the last ended take found nothing
 pub call_nothing : (size : ℕ) (call : PlannedCall) (x : Numbers)
     → Kept size x
     → Fits call x

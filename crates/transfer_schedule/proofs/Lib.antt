@@ -4,6 +4,7 @@ pub mod Stock
 pub mod Standing
 pub mod Spared
 pub mod Calling
+pub mod AtPhase
 pub mod Reaching
 pub mod MovingAlone
 pub mod ShortTakes

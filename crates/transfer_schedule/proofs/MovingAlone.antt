@@ -42,5 +42,6 @@ alone_full length bound quantum y sizes (ends {x = x} found m busy giving) =
 full_spared : (x : Numbers) → StaysFull x → Spared x 0
 full_spared x s = let some = quantum_some x.length x.bound x.quantum s.sizes.some s.sizes.soon in grind (arith, nat_tests)
 
+-- a process that makes transfers alone has few spares, and its current list never grows old
 pub alone_spared : (length bound quantum : ℕ) (x : Numbers) → AreSizes length bound quantum → MovedAlone length bound quantum x → Spared x 0
 alone_spared length bound quantum x sizes m = full_spared x (alone_full length bound quantum x sizes m)

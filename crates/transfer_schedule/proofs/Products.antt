@@ -4,21 +4,27 @@ use Rattle.std.specs.Int.{div_ceil}
 use Rattle.std.proofs.Math.Nat.{le-div_iff_mul-le, mul_comm}
 use Rattle.std.proofs.lemmas.Bool.{cases_eq, cases_lt}
 
+-- a number twice is its sum with itself
 pub times_two : (l : ℕ) → l * 2 ≡ l + l
 times_two l = omega arith
 
+-- a number three times is the sum of three of it
 pub times_three : (l : ℕ) → l * 3 ≡ l + l + l
 times_three l = omega arith
 
+-- once more is one number more
 pub times_more : (l n : ℕ) → l * (n + 1) ≡ l * n + l
 times_more l n = omega arith
 
+-- once less and the number are the product
 pub times_less : (l n : ℕ) → 0 < n → l * (n - 1) + l ≡ l * n
 times_less l n some = sym (times_more l (n - 1)) ∙ ap (λ k. l * k) (omega arith)
 
+-- a product rises with its factor
 pub times_le : (l m n : ℕ) → m ≤ n → l * m ≤ l * n
 times_le l m n le = grind arith
 
+-- the lower product has the lower factor
 pub less_of_times : (l m n : ℕ) → l * m < l * n → m < n
 less_of_times l m n lt = elim (cases_lt m n) [ inl less ↦ less | inr more ↦ absurd (omega (arith, times_le l n m more)) ]
 

@@ -1,118 +1,27 @@
--- What holds of every account that the schedule reaches.
-use Rattle.std.proofs.Common.{◌≡◌, ◌≢◌, ℕ, ◌+◌, ◌-◌, ◌*◌, ◌<◌, ◌≤◌, Bool, true, false, if◌then◌else◌, sym, refl, ◌∙◌, ap, subst, inl, inr}
+-- Every account that the schedule reaches stands: each step keeps the facts of its phase.
+use Rattle.std.proofs.Common.{◌≡◌, ◌≢◌, ℕ, ◌+◌, ◌*◌, ◌<◌, ◌≤◌, Bool, true, false, if◌then◌else◌, sym, refl, ◌∙◌, ap, subst, inl, inr}
 use Rattle.std.proofs.Common.{arith}
-use Rattle.std.proofs.lemmas.Bool.{cases_eq, false≢true}
+use Rattle.std.proofs.lemmas.Bool.{cases_eq}
 use Rattle.std.proofs.lemmas.Bool.Decides.{nat_tests}
 use Rattle.transfer_schedule.specs.declared.own_step.Source.TheVariants.{Nothing}
-use Rattle.transfer_schedule.specs.declared.pending.Pending.{Pending}
 use Rattle.transfer_schedule.specs.declared.pending.Pending.TheVariants.{Giving}
 use Rattle.transfer_schedule.specs.Numbers.{Numbers, AreSizes, is_idle, is_taking, is_giving, after_begin, after_choice, after_steps}
 use Rattle.transfer_schedule.specs.Numbers.{after_end, after_took_one, after_gave_one, after_shelved, source_of, stock}
-use Rattle.transfer_schedule.specs.Table.{InTable}
 use Rattle.transfer_schedule.specs.Account.{CallPhase, Between, Moving, Own, Seeking, Choosing, Sought, Leaving, Clearing, Shedding}
 use Rattle.transfer_schedule.specs.Account.{Resting, Joining, Returning, Account, after_move, moves_in, asks_in, chooses_in, stepped}
 use Rattle.transfer_schedule.specs.Account.{ended_with, last_take, sought_by}
 use Rattle.transfer_schedule.specs.Account.{Follows, begins, continues, idles, moves, ends, gets, refuses, frees, meets, seeks, quits}
 use Rattle.transfer_schedule.specs.Account.{clears, gives, shelves, retires, enlists, retakes, Reached, opens, follows}
-use Rattle.transfer_schedule.specs.Laws.{HasSizes, RestsWithFour, WithholdsFive, IsSound, EndsInTime, GivesLeaveBatch, CountsSteps}
-use Rattle.transfer_schedule.specs.Laws.{BeginsShort, RefusesSoon, serves, SoundWhileServing, MissesNow, FoundNothing, IsCleared}
-use Rattle.transfer_schedule.specs.Laws.{RestsCleared, is_at_rest}
-use Rattle.transfer_schedule.specs.Laws.{WaitsAnnounced, JustBegun, PendsWhileMoving, is_still, IdlesWhileStill}
-use Rattle.transfer_schedule.proofs.Products.{times_two, times_three, times_le, quantum_some}
-use Rattle.transfer_schedule.proofs.Operations.{one_more_few, no_steps, end_steps, choice_busy, choice_sizes, end_sizes, took_sizes}
-use Rattle.transfer_schedule.proofs.Operations.{gave_sizes, took_nothing, busy_not_idle, not_idle_busy, idle_is}
+use Rattle.transfer_schedule.specs.Laws.{HasSizes}
+use Rattle.transfer_schedule.specs.Laws.{serves}
+use Rattle.transfer_schedule.proofs.Products.{times_two, times_three}
+use Rattle.transfer_schedule.proofs.Operations.{one_more_few, end_steps, choice_busy, choice_sizes, end_sizes, took_sizes}
+use Rattle.transfer_schedule.proofs.Operations.{gave_sizes, took_nothing}
 use Rattle.transfer_schedule.proofs.Stock.{end_stock, took_stock, gave_stock}
 use Rattle.transfer_schedule.proofs.Standing.{Standing, Ready, opening_stands, choice_stands, choice_ready, steps_stand, steps_ready}
-use Rattle.transfer_schedule.proofs.Standing.{end_ready, took_stands, gave_stands, young, young_ready, nothing_dry, standing_spares}
+use Rattle.transfer_schedule.proofs.Standing.{end_ready, took_stands, gave_stands, standing_spares}
 use Rattle.transfer_schedule.proofs.Standing.{ready_spares}
-use Rattle.transfer_schedule.proofs.Spared.{Spared, spared_standing, spared_ready, spared_table, spared_rests, spared_withholds}
-
--- the facts of an account between two calls: a pending transfer began before the last entry
-record Waits (a : Account) : Type 0 where
-  standing : Standing a.plan 0 a.entries a.begun a.ended
-  late : is_idle a.plan.pending ≡ false → a.begun < a.entries
-
--- of one whose call has made transfer steps
-record Moves (made : ℕ) (a : Account) : Type 0 where
-  standing : Standing a.plan made a.entries a.begun a.ended
-  busy : is_idle a.plan.pending ≡ false
-  few : made < a.plan.quantum
-
--- at the transfer of a search or of a retire, which a search may have begun after the last entry
-record Seeks (chosen : Bool) (a : Account) : Type 0 where
-  made : ℕ
-  standing : Standing a.plan made a.entries a.begun a.ended
-  busy : is_idle a.plan.pending ≡ false
-  now : chosen ≡ true → a.begun ≡ a.entries
-
--- in a search, with the transfer that it met ended
-record Chooses (a : Account) : Type 0 where
-  standing : Standing a.plan 0 a.entries a.begun a.ended
-  idle : is_idle a.plan.pending ≡ true
-
--- in a search, before its own step
-record Looks (a : Account) : Type 0 where
-  ready : Ready a.plan a.entries a.begun a.ended
-  now : source_of a.plan ≡ Nothing → (a.plan.dry ≡ true) × (a.ended ≡ a.entries)
-
--- in a retire, with nothing pending
-record Clears (a : Account) : Type 0 where
-  sizes : AreSizes a.plan.length a.plan.bound a.plan.quantum
-  room : a.plan.current ≤ a.plan.length
-  spares : a.plan.spares ≤ 3
-  idle : is_idle a.plan.pending ≡ true
-
--- at a give of its own
-record Sheds (a : Account) : Type 0 where
-  sizes : AreSizes a.plan.length a.plan.bound a.plan.quantum
-  room : a.plan.current ≤ a.plan.length
-  spares : a.plan.spares ≤ 2
-  giving : is_giving a.plan.pending ≡ true
-  now : a.begun ≡ a.entries
-
--- at rest, and in an enlist before its take
-record Reposes (a : Account) : Type 0 where
-  sizes : AreSizes a.plan.length a.plan.bound a.plan.quantum
-  idle : is_idle a.plan.pending ≡ true
-  none : a.plan.spares ≡ 0
-  few : a.plan.current < a.plan.length
-  broken : a.unbroken ≡ false
-
--- at its take
-record Comes (a : Account) : Type 0 where
-  sizes : AreSizes a.plan.length a.plan.bound a.plan.quantum
-  taking : is_taking a.plan.pending ≡ true
-  none : a.plan.spares ≡ 0
-  few : a.plan.current < a.plan.length
-  now : a.begun ≡ a.entries
-  broken : a.unbroken ≡ false
-
--- the facts of an account in each phase
-abbrev AtPhase : CallPhase → Account → Type 0
-AtPhase Between a = Waits a
-AtPhase (Moving made) a = Moves made a
-AtPhase Own a = Ready a.plan a.entries a.begun a.ended
-AtPhase (Seeking chosen) a = Seeks chosen a
-AtPhase Choosing a = Chooses a
-AtPhase Sought a = Looks a
-AtPhase Leaving a = Seeks false a
-AtPhase Clearing a = Clears a
-AtPhase Shedding a = Sheds a
-AtPhase Resting a = Reposes a
-AtPhase Joining a = Reposes a
-AtPhase Returning a = Comes a
-
--- the facts of an account at its phase, and that its stock and what was got are two batches above what was given back
-pub record Stands (a : Account) : Type 0 where
-  at_phase : AtPhase a.phase a
-  held : a.unbroken ≡ true → a.backs ≤ a.gots
-  net : serves a.phase ≡ true → a.unbroken ≡ true → 2 * a.plan.length + a.backs ≤ stock a.plan + a.gots
-
-at : (phase : CallPhase) (a : Account) → a.phase ≡ phase → Stands a → AtPhase phase a
-at phase a e s = subst (λ p. AtPhase p a) e s.at_phase
-
-no_net : {A : Type 0} → false ≡ true → A
-no_net e = absurd (false≢true e)
+use Rattle.transfer_schedule.proofs.AtPhase.{AtPhase, Moves, Seeks, Stands, at, no_net, some_of}
 
 -- each operation keeps the stock and what was got at least two batches above what was given back
 choice_net : (x : Numbers) (gots backs : ℕ)
@@ -146,9 +55,6 @@ gave_net : (x : Numbers) (gots backs : ℕ)
     → 2 * x.length + backs ≤ stock x + gots
     → 2 * (after_gave_one x).length + (backs + 1) ≤ stock (after_gave_one x) + gots
 gave_net x gots backs few room net = omega (arith, gave_stock x few room, (gave_sizes x).0)
-
-some_of : (x : Numbers) → AreSizes x.length x.bound x.quantum → 0 < x.quantum
-some_of x sizes = quantum_some x.length x.bound x.quantum sizes.some sizes.soon
 
 move_last : (quantum made : ℕ) → made + 1 ≡ quantum → after_move quantum made ≡ Own
 move_last quantum made e = grind (arith, nat_tests)
@@ -531,6 +437,7 @@ step_stands a b s (retakes e) =
       net = no_net;
     }
 
+-- so every account that is reached stands
 pub reached_stands : (length bound quantum : ℕ) (a : Account) → AreSizes length bound quantum → Reached length bound quantum a → Stands a
 reached_stands length bound quantum a sizes opens = record {
   at_phase = record { standing = opening_stands length bound quantum sizes; late = λ busy. no_net (sym busy) };
@@ -569,311 +476,7 @@ step_sizes length bound quantum a b h (retires e none few) = h
 step_sizes length bound quantum a b h (enlists e) = h
 step_sizes length bound quantum a b h (retakes e) = h
 
+-- a reached plan has the sizes of its opening
 pub reached_sizes : (length bound quantum : ℕ) (a : Account) → Reached length bound quantum a → HasSizes length bound quantum a.plan
 reached_sizes length bound quantum a opens = (refl, refl, refl)
 reached_sizes length bound quantum b (follows {a = a} r f) = step_sizes length bound quantum a b (reached_sizes length bound quantum a r) f
-
--- a fact of every reached account, by what holds in each phase
-record Facts (Fact : Account → Type 0) (a : Account) : Type 0 where
-  standing : (made : ℕ) → Standing a.plan made a.entries a.begun a.ended → Fact a
-  ready : Ready a.plan a.entries a.begun a.ended → Fact a
-  clears : Clears a → Fact a
-  sheds : Sheds a → Fact a
-  reposes : Reposes a → Fact a
-  comes : Comes a → Fact a
-
-by_phase : (Fact : Account → Type 0) (a : Account) → Stands a → Facts Fact a → Fact a
-by_phase Fact a s f = go a.phase refl
-  where
-    go : (phase : CallPhase) → a.phase ≡ phase → Fact a
-    go Between e = f.standing 0 (let w = at Between a e s in w.standing)
-    go (Moving made) e = f.standing made (let m = at (Moving made) a e s in m.standing)
-    go Own e = f.ready (at Own a e s)
-    go (Seeking chosen) e = (let m = at (Seeking chosen) a e s in f.standing m.made m.standing)
-    go Choosing e = f.standing 0 (let m = at Choosing a e s in m.standing)
-    go Sought e = f.ready (let l = at Sought a e s in l.ready)
-    go Leaving e = (let m = at Leaving a e s in f.standing m.made m.standing)
-    go Clearing e = f.clears (at Clearing a e s)
-    go Shedding e = f.sheds (at Shedding a e s)
-    go Resting e = f.reposes (at Resting a e s)
-    go Joining e = f.reposes (at Joining a e s)
-    go Returning e = f.comes (at Returning a e s)
-
--- while a process serves, its plan stands or is ready for an own step
-by_service : (Fact : Account → Type 0) (a : Account) → Stands a → serves a.phase ≡ true
-    → ((made : ℕ) → Standing a.plan made a.entries a.begun a.ended → Fact a)
-    → (Ready a.plan a.entries a.begun a.ended → Fact a) → Fact a
-by_service Fact a s serving standing ready = go a.phase refl
-  where
-    go : (phase : CallPhase) → a.phase ≡ phase → Fact a
-    go Between e = standing 0 (let w = at Between a e s in w.standing)
-    go (Moving made) e = standing made (let m = at (Moving made) a e s in m.standing)
-    go Own e = ready (at Own a e s)
-    go (Seeking chosen) e = (let m = at (Seeking chosen) a e s in standing m.made m.standing)
-    go Choosing e = standing 0 (let m = at Choosing a e s in m.standing)
-    go Sought e = ready (let l = at Sought a e s in l.ready)
-    go Leaving e = no_net (ap serves (sym e) ∙ serving)
-    go Clearing e = no_net (ap serves (sym e) ∙ serving)
-    go Shedding e = no_net (ap serves (sym e) ∙ serving)
-    go Resting e = no_net (ap serves (sym e) ∙ serving)
-    go Joining e = no_net (ap serves (sym e) ∙ serving)
-    go Returning e = no_net (ap serves (sym e) ∙ serving)
-
-sound_standing : (a : Account) (made : ℕ)
-    → Standing a.plan made a.entries a.begun a.ended
-    → (a.unbroken ≡ true → 2 * a.plan.length + a.backs ≤ stock a.plan + a.gots)
-    → IsSound a
-sound_standing a made s net = grind (arith, nat_tests)
-
-sound_ready : (a : Account) → Ready a.plan a.entries a.begun a.ended
-    → (a.unbroken ≡ true → 2 * a.plan.length + a.backs ≤ stock a.plan + a.gots) → IsSound a
-sound_ready a r net = grind (arith, nat_tests)
-
-pub stands_sound : (a : Account) → Stands a → SoundWhileServing a
-stands_sound a s serving =
-    by_service IsSound a s serving (λ made t. sound_standing a made t (s.net serving)) (λ r. sound_ready a r (s.net serving))
-
--- the bounds on spares and kept blocks
-standing_spared : (a : Account) (made : ℕ) → Standing a.plan made a.entries a.begun a.ended → Spared a.plan (a.entries - a.begun)
-standing_spared a made t =
-    subst (λ x. Spared x (a.entries - a.begun)) (no_steps a.plan) (spared_standing a.plan 0 made a.entries a.begun a.ended t)
-
-clears_table : (a : Account) → Clears a → InTable a.plan
-clears_table a c = grind (arith, nat_tests)
-
-sheds_table : (a : Account) → Sheds a → InTable a.plan
-sheds_table a c = grind (arith, nat_tests)
-
-reposes_table : (a : Account) → Reposes a → InTable a.plan
-reposes_table a c = grind (arith, nat_tests)
-
-comes_table : (a : Account) → Comes a → InTable a.plan
-comes_table a c = grind (arith, nat_tests)
-
-pub stands_table : (a : Account) → Stands a → InTable a.plan
-stands_table a s = by_phase (λ a. InTable a.plan) a s (record {
-  standing = λ made t. spared_table a.plan (a.entries - a.begun) (standing_spared a made t);
-  ready = λ r. spared_table a.plan (a.entries - a.begun) (spared_ready a.plan a.entries a.begun a.ended r);
-  clears = clears_table a;
-  sheds = sheds_table a;
-  reposes = reposes_table a;
-  comes = comes_table a;
-})
-
-clears_rests : (a : Account) → Clears a → RestsWithFour a.plan
-clears_rests a c idle = let k = ap is_idle idle in grind (arith, nat_tests, times_le a.plan.length a.plan.spares 3)
-
-sheds_rests : (a : Account) → Sheds a → RestsWithFour a.plan
-sheds_rests a c idle = let k = ap is_giving idle in grind (arith, nat_tests)
-
-reposes_rests : (a : Account) → Reposes a → RestsWithFour a.plan
-reposes_rests a c idle = grind (arith, nat_tests)
-
-comes_rests : (a : Account) → Comes a → RestsWithFour a.plan
-comes_rests a c idle = let k = ap is_taking idle in grind (arith, nat_tests)
-
-pub stands_rests : (a : Account) → Stands a → RestsWithFour a.plan
-stands_rests a s = by_phase (λ a. RestsWithFour a.plan) a s (record {
-  standing = λ made t. spared_rests a.plan (a.entries - a.begun) (standing_spared a made t);
-  ready = λ r. spared_rests a.plan (a.entries - a.begun) (spared_ready a.plan a.entries a.begun a.ended r);
-  clears = clears_rests a;
-  sheds = sheds_rests a;
-  reposes = reposes_rests a;
-  comes = comes_rests a;
-})
-
-clears_withholds : (a : Account) → Clears a → WithholdsFive a.plan
-clears_withholds a c = grind (arith, nat_tests, times_le a.plan.length a.plan.spares 3)
-
-sheds_withholds : (a : Account) → Sheds a → WithholdsFive a.plan
-sheds_withholds a c = grind (arith, nat_tests, times_le a.plan.length a.plan.spares 2)
-
-reposes_withholds : (a : Account) → Reposes a → WithholdsFive a.plan
-reposes_withholds a c = grind (arith, nat_tests)
-
-comes_withholds : (a : Account) → Comes a → WithholdsFive a.plan
-comes_withholds a c = grind (arith, nat_tests)
-
-pub stands_withholds : (a : Account) → Stands a → WithholdsFive a.plan
-stands_withholds a s = by_phase (λ a. WithholdsFive a.plan) a s (record {
-  standing = λ made t. spared_withholds a.plan (a.entries - a.begun) (standing_spared a made t);
-  ready = λ r. spared_withholds a.plan (a.entries - a.begun) (spared_ready a.plan a.entries a.begun a.ended r);
-  clears = clears_withholds a;
-  sheds = sheds_withholds a;
-  reposes = reposes_withholds a;
-  comes = comes_withholds a;
-})
-
-clears_idle : (a : Account) → Clears a → EndsInTime a
-clears_idle a c busy = absurd (busy (idle_is a.plan.pending c.idle))
-
-pub stands_in_time : (a : Account) → Stands a → EndsInTime a
-stands_in_time a s = by_phase EndsInTime a s (record {
-  standing = λ made t busy. omega (arith, young a.plan made a.entries a.begun a.ended t (not_idle_busy a.plan.pending busy));
-  ready = λ r busy. omega (arith, young_ready a.plan a.entries a.begun a.ended r (not_idle_busy a.plan.pending busy));
-  clears = clears_idle a;
-  sheds = λ c busy. omega (arith, c.now, c.sizes.long);
-  reposes = λ r busy. absurd (busy (idle_is a.plan.pending r.idle));
-  comes = λ c busy. omega (arith, c.now, c.sizes.long);
-})
-
-pub stands_gives : (a : Account) → Stands a → GivesLeaveBatch a
-stands_gives a s serving = by_service (λ a. a.plan.pending ≡ Giving → a.plan.length < stock a.plan) a s serving
-    (λ made t giving. omega (
-      arith,
-      t.give_stock (ap is_giving giving),
-      young a.plan made a.entries a.begun a.ended t (ap is_idle giving),
-    ))
-    (λ r giving. omega (arith, r.give_stock (ap is_giving giving), young_ready a.plan a.entries a.begun a.ended r (ap is_idle giving)))
-
-pub stands_counts : (a : Account) → Stands a → CountsSteps a
-stands_counts a s = record {
-  pending = λ made e. let m = at (Moving made) a e s in busy_not_idle a.plan.pending m.busy;
-  few = λ made e. let m = at (Moving made) a e s in m.few;
-  done = λ made e. let m = at (Moving made) a e s in m.standing.done_now m.busy;
-}
-
-pub stands_begins : (a : Account) → Stands a → BeginsShort a
-stands_begins a s e idle taking short =
-    let w = at Between a e s in
-    let t = w.standing in
-    let rest = ap is_idle idle in
-    record { dry = t.idle_dry rest (omega arith); recent = t.idle_recent rest (omega arith) }
-
-pub stands_refuses : (a : Account) → Stands a → RefusesSoon a
-stands_refuses a s e none =
-    let n = nothing_dry a.plan a.entries a.begun a.ended (at Own a e s) none in
-    record { dry = n.0; recent = omega (arith, n.1) }
-
-pub stands_misses : (a : Account) → Stands a → MissesNow a
-stands_misses a s e none = let l = at Sought a e s in let n = l.now none in record { dry = n.0; recent = omega (arith, n.1) }
-
--- an allocate or a search
-pub asks_serves : (phase : CallPhase) → asks_in phase ≡ true → serves phase ≡ true
-asks_serves Own asks = refl
-asks_serves Sought asks = refl
-asks_serves Between asks = no_net asks
-asks_serves (Moving made) asks = no_net asks
-asks_serves (Seeking chosen) asks = no_net asks
-asks_serves Choosing asks = no_net asks
-asks_serves Leaving asks = no_net asks
-asks_serves Clearing asks = no_net asks
-asks_serves Shedding asks = no_net asks
-asks_serves Resting asks = no_net asks
-asks_serves Joining asks = no_net asks
-asks_serves Returning asks = no_net asks
-
-pub stands_refused : (a : Account) → Stands a → (phase : CallPhase) → a.phase ≡ phase → asks_in phase ≡ true → source_of a.plan ≡ Nothing
-    → FoundNothing (2 * a.plan.length - 2) a
-stands_refused a s Own e asks none = stands_refuses a s e none
-stands_refused a s Sought e asks none =
-    let n : FoundNothing 0 a = stands_misses a s e none in record { dry = n.dry; recent = omega (arith, n.recent) }
-stands_refused a s Between e asks none = no_net asks
-stands_refused a s (Moving made) e asks none = no_net asks
-stands_refused a s (Seeking chosen) e asks none = no_net asks
-stands_refused a s Choosing e asks none = no_net asks
-stands_refused a s Leaving e asks none = no_net asks
-stands_refused a s Clearing e asks none = no_net asks
-stands_refused a s Shedding e asks none = no_net asks
-stands_refused a s Resting e asks none = no_net asks
-stands_refused a s Joining e asks none = no_net asks
-stands_refused a s Returning e asks none = no_net asks
-
-cleared_at_rest : (a : Account) → Reposes a → IsCleared a
-cleared_at_rest a r = record { idle = idle_is a.plan.pending r.idle; none = r.none; few = r.few }
-
-pub stands_rested : (a : Account) → Stands a → RestsCleared a
-stands_rested a s rest = go a.phase refl rest
-  where
-    go : (phase : CallPhase) → a.phase ≡ phase → is_at_rest phase ≡ true → IsCleared a
-    go Resting e rest = cleared_at_rest a (at Resting a e s)
-    go Joining e rest = cleared_at_rest a (at Joining a e s)
-    go Between e rest = no_net rest
-    go (Moving made) e rest = no_net rest
-    go Own e rest = no_net rest
-    go (Seeking chosen) e rest = no_net rest
-    go Choosing e rest = no_net rest
-    go Sought e rest = no_net rest
-    go Leaving e rest = no_net rest
-    go Clearing e rest = no_net rest
-    go Shedding e rest = no_net rest
-    go Returning e rest = no_net rest
-
-pub stands_still : (a : Account) → Stands a → IdlesWhileStill a
-stands_still a s still = go a.phase refl still
-  where
-    go : (phase : CallPhase) → a.phase ≡ phase → is_still phase ≡ true → is_idle a.plan.pending ≡ true
-    go Choosing e still = (let c = at Choosing a e s in c.idle)
-    go Clearing e still = (let c = at Clearing a e s in c.idle)
-    go Resting e still = (let r = at Resting a e s in r.idle)
-    go Joining e still = (let r = at Joining a e s in r.idle)
-    go Between e still = no_net still
-    go (Moving made) e still = no_net still
-    go Own e still = no_net still
-    go (Seeking chosen) e still = no_net still
-    go Sought e still = no_net still
-    go Leaving e still = no_net still
-    go Shedding e still = no_net still
-    go Returning e still = no_net still
-
--- between two calls a pending transfer has made a step
-some_done : (quantum entries begun done : ℕ) → 0 < quantum → begun < entries → done ≡ quantum * (entries - begun) + 0 → 1 ≤ done
-some_done quantum entries begun done some late is = omega (arith, times_le quantum 1 (entries - begun) (omega arith))
-
-pub stands_waits : (a : Account) → Stands a → WaitsAnnounced a
-stands_waits a s e pends =
-    let w = at Between a e s in
-    let busy = not_idle_busy a.plan.pending pends in
-    some_done a.plan.quantum a.entries a.begun a.plan.done (some_of a.plan w.standing.sizes) (w.late busy) (w.standing.done_now busy)
-
--- a transfer that moves and has made no step has just begun
-none_done : (quantum made entries begun : ℕ) → 0 < quantum → 0 ≡ quantum * (entries - begun) + made → begun ≤ entries → entries ≡ begun
-none_done quantum made entries begun some none le = elim (cases_eq (entries - begun) 0) [
-  | inl e ↦ omega arith
-  | inr more ↦ absurd (omega (arith, times_le quantum 1 (entries - begun) (omega arith)))
-]
-
-fresh_standing : (a : Account) (made : ℕ) → Standing a.plan made a.entries a.begun a.ended → is_idle a.plan.pending ≡ false
-    → a.plan.done ≡ 0 → a.entries ≡ a.begun
-fresh_standing a made t busy none =
-    none_done a.plan.quantum made a.entries a.begun (some_of a.plan t.sizes) (sym none ∙ t.done_now busy) (t.begun_before busy)
-
-pub stands_begun : (a : Account) → Stands a → JustBegun a
-stands_begun a s moving none = go a.phase refl moving
-  where
-    go : (phase : CallPhase) → a.phase ≡ phase → moves_in phase ≡ true → a.entries ≡ a.begun
-    go Between e moving = no_net moving
-    go (Moving made) e moving = (let m = at (Moving made) a e s in fresh_standing a made m.standing m.busy none)
-    go Own e moving = no_net moving
-    go (Seeking chosen) e moving = (let m = at (Seeking chosen) a e s in fresh_standing a m.made m.standing m.busy none)
-    go Choosing e moving = no_net moving
-    go Sought e moving = no_net moving
-    go Leaving e moving = (let m = at Leaving a e s in fresh_standing a m.made m.standing m.busy none)
-    go Clearing e moving = no_net moving
-    go Shedding e moving = (let m = at Shedding a e s in sym m.now)
-    go Resting e moving = no_net moving
-    go Joining e moving = no_net moving
-    go Returning e moving = (let m = at Returning a e s in sym m.now)
-
-busy_giving : (p : Pending) → is_giving p ≡ true → is_idle p ≡ false
-busy_giving p e = grind arith
-
-busy_taking : (p : Pending) → is_taking p ≡ true → is_idle p ≡ false
-busy_taking p e = grind arith
-
-pub stands_pends : (a : Account) → Stands a → PendsWhileMoving a
-stands_pends a s moving = go a.phase refl moving
-  where
-    go : (phase : CallPhase) → a.phase ≡ phase → moves_in phase ≡ true → is_idle a.plan.pending ≡ false
-    go Between e moving = no_net moving
-    go (Moving made) e moving = (let m = at (Moving made) a e s in m.busy)
-    go Own e moving = no_net moving
-    go (Seeking chosen) e moving = (let m = at (Seeking chosen) a e s in m.busy)
-    go Choosing e moving = no_net moving
-    go Sought e moving = no_net moving
-    go Leaving e moving = (let m = at Leaving a e s in m.busy)
-    go Clearing e moving = no_net moving
-    go Shedding e moving = (let m = at Shedding a e s in busy_giving a.plan.pending m.giving)
-    go Resting e moving = no_net moving
-    go Joining e moving = no_net moving
-    go Returning e moving = (let m = at Returning a e s in busy_taking a.plan.pending m.taking)

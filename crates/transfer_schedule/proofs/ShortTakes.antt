@@ -35,6 +35,7 @@ own_stock : (own : OwnStep) (x : Numbers) (entries begun ended : ℕ) → Ready 
 own_stock Allocate x entries begun ended r = grind (arith, nat_tests, times_less x.length x.spares)
 own_stock Free x entries begun ended r = omega (arith, gave_stock x (ready_spares x entries begun ended r) r.room)
 
+-- a call after which nothing is pending and little is left ended a take that found nothing
 pub call_short : (size entries begun : ℕ) (call : PlannedCall) (x : Numbers)
     → Rested size entries begun x
     → Fits call x

@@ -18,6 +18,7 @@ pub record Spared (x : Numbers) (age : ℕ) : Type 0 where
   pub give_late : is_giving x.pending ≡ true → x.spares ≡ 3 → x.current ≤ age
   pub aged : is_idle x.pending ≡ false → x.quantum * age ≤ x.done
 
+-- so many spares has a plan that stands, also after further steps
 pub spared_standing : (x : Numbers) (steps made entries begun ended : ℕ)
     → Standing x made entries begun ended
     → Spared (after_steps steps x) (entries - begun)
@@ -27,6 +28,7 @@ spared_standing x steps made entries begun ended s =
 times_less_one : (q n : ℕ) → q * n ≤ q * (n + 1)
 times_less_one q n = omega arith
 
+-- so many has one before an own step
 pub spared_ready : (x : Numbers) (entries begun ended : ℕ) → Ready x entries begun ended → Spared x (entries - begun)
 spared_ready x entries begun ended r =
     let some = quantum_some x.length x.bound x.quantum r.sizes.some r.sizes.soon in grind (
@@ -35,6 +37,7 @@ spared_ready x entries begun ended r =
       times_less_one x.quantum (entries - begun),
     )
 
+-- with so many the table of spares holds
 pub spared_table : (x : Numbers) (age : ℕ) → Spared x age → InTable x
 spared_table x age s = record {
   room = s.room;

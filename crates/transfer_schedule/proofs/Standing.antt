@@ -57,6 +57,7 @@ young x made entries begun ended s busy = omega (
   s.begun_before busy,
 )
 
+-- before an own step it is younger by one call more
 pub young_ready : (x : Numbers) (entries begun ended : ℕ)
     → Ready x entries begun ended
     → is_idle x.pending ≡ false
@@ -67,6 +68,7 @@ young_ready x entries begun ended r busy = omega (
   r.begun_before busy,
 )
 
+-- the plan of the opening stands
 pub opening_stands : (length bound quantum : ℕ) → AreSizes length bound quantum → Standing (opening length bound quantum) 0 0 0 0
 opening_stands length bound quantum sizes = grind (arith, nat_tests)
 
@@ -107,11 +109,13 @@ pub end_ready : (x : Numbers) (found : Bool) (made entries begun ended : ℕ)
 end_ready x found made entries begun ended s busy =
     grind (arith, nat_tests, young x made entries begun ended s busy, times_more x.length x.spares, one_more_few x.spares)
 
+-- it stands after an allocate
 pub took_stands : (x : Numbers) (entries begun ended : ℕ)
     → Ready x entries begun ended
     → Standing (after_took_one x) 0 (entries + 1) begun ended
 took_stands x entries begun ended r = grind (arith, nat_tests, times_less x.length x.spares)
 
+-- it stands after a free
 pub gave_stands : (x : Numbers) (entries begun ended : ℕ)
     → Ready x entries begun ended
     → Standing (after_gave_one x) 0 (entries + 1) begun ended
@@ -126,8 +130,10 @@ pub nothing_dry : (x : Numbers) (entries begun ended : ℕ)
 nothing_dry x entries begun ended r none =
     (grind (arith, nat_tests, young_ready x entries begun ended r), grind (arith, nat_tests, young_ready x entries begun ended r))
 
+-- a plan that stands has at most three spares
 pub standing_spares : (x : Numbers) (made entries begun ended : ℕ) → Standing x made entries begun ended → x.spares ≤ 3
 standing_spares x made entries begun ended s = grind (arith, nat_tests)
 
+-- one before an own step has at most three
 pub ready_spares : (x : Numbers) (entries begun ended : ℕ) → Ready x entries begun ended → x.spares ≤ 3
 ready_spares x entries begun ended r = grind (arith, nat_tests)

@@ -11,17 +11,21 @@ use Rattle.transfer_schedule.proofs.Operations.{one_more_few}
 pub choice_kept : (x : Numbers) → kept (after_choice x) ≡ kept x
 choice_kept x = grind (arith, nat_tests, times_two, times_three)
 
+-- the end of a take that found a batch adds that to the stock, and no other end changes it
 pub end_stock : (x : Numbers) (found : Bool)
     → x.spares ≤ 3
     → stock (after_end found x) ≡ stock x + (if is_taking x.pending then (if found then x.length else 0) else 0)
 end_stock x found few = grind (arith, nat_tests, times_more x.length x.spares, one_more_few x.spares)
 
+-- an allocate that finds a block takes one of the stock
 pub took_stock : (x : Numbers) → source_of x ≢ Nothing → 1 ≤ x.length → stock (after_took_one x) + 1 ≡ stock x
 took_stock x some long = grind (arith, nat_tests, times_less x.length x.spares)
 
+-- where it finds none, the stock is empty
 pub nothing_stock : (x : Numbers) → source_of x ≡ Nothing → stock x ≡ 0
 nothing_stock x none = grind (arith, nat_tests)
 
+-- a free adds one to the stock
 pub gave_stock : (x : Numbers) → x.spares ≤ 3 → x.current ≤ x.length → stock (after_gave_one x) ≡ stock x + 1
 gave_stock x few room = grind (arith, nat_tests, times_more x.length x.spares, one_more_few x.spares)
 

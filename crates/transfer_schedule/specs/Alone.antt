@@ -1,3 +1,4 @@
+-- The plan of a process that makes transfers outside any call.
 use Rattle.std.specs.Prelude.{◌≡◌, ℕ, ◌+◌, ◌≤◌, Bool, true, false}
 use Rattle.transfer_schedule.specs.declared.pending.Pending.{Pending}
 use Rattle.transfer_schedule.specs.Beginning.{MayBegin}

@@ -1,3 +1,4 @@
+-- Lists of calls as a plan sees them, and the moments of a call.
 use Rattle.std.specs.Prelude.{◌≡◌, ◌≢◌, ℕ, ◌+◌, ◌<◌, ◌≤◌, Bool, IsTrue, false, Option, None, Some, List, [], ◌∷◌, ◌++◌, length, take, fold}
 use Rattle.std.specs.Prelude.{slice_get}
 use Rattle.transfer_schedule.specs.declared.pending.Pending.TheVariants.{Idle, Taking, Giving}

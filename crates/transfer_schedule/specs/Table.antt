@@ -1,3 +1,4 @@
+-- How many spares a plan may have while a transfer is pending.
 use Rattle.std.specs.Prelude.{◌≡◌, ℕ, ◌≤◌}
 use Rattle.std.specs.Int.{div_ceil}
 use Rattle.transfer_schedule.specs.declared.pending.Pending.TheVariants.{Idle, Taking, Giving}

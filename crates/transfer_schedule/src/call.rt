@@ -1,3 +1,4 @@
+// Calls of a pool, as its plan sees them.
 use crate::own_step::{Source, Target};
 
 /// What a call is for.

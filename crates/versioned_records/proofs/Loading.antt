@@ -49,6 +49,7 @@ loads_action : (sizes : Sizes) (t : TransferView) (tag row index : ℕ) → IsTo
 loads_action sizes t tag row index d =
     ap (λ r. Load (RecordWord r index)) (sym d.same_row) ∙ sym (ap (action_at sizes t) d.next)
 
+-- the load of a record word is the next action
 pub load_is_next : (sizes : Sizes) (a : About) (v : SeatView) (tag row index : ℕ) → LoadsWord a v tag row index
     → Load (RecordWord row index) ≡ next_action sizes (turning a v.mind.view)
 load_is_next sizes a v tag row index l =

@@ -206,11 +206,13 @@ load_seen a b v r old e same reads =
     subst (λ z. Load (RecordWord r.row r.index) ≡ next_action r.sizes (turning z v.mind.view)) (sym same)
     (load_is_next r.sizes a v r.tag r.row r.index reads_so.loads)
 
+-- a reader's index is in the record
 pub within_seen : (a : About) (v : SeatView) (r old : Reading) → r ≡ old → CanStep old.sizes a v → CanRead a v old
     → r.index < record_words r.sizes
 within_seen a v r old e can reads =
     subst (λ (o : Reading). o.index < record_words o.sizes) (sym e) (load_within old.sizes a v old.tag old.row old.index can reads.loads)
 
+-- so it is below the most words of a record
 pub below_seen : (a : About) (v : SeatView) (r old : Reading) → r ≡ old → CanStep old.sizes a v → CanRead a v old → r.index < 66
 below_seen a v r old e can reads = subst (λ (o : Reading). o.index < 66) (sym e) (reads_below old.sizes a v old can reads)
 

@@ -26,6 +26,7 @@ stores_action sizes t tag row index value d =
     ∙ (ap (λ k. Store (RecordWord t.next_record index) (tagged (loaded_tag t.loaded + 1) k)) (sym d.same_value)
     ∙ sym (ap (action_at sizes t) d.next)))
 
+-- the store of a record word is the next action
 pub store_is_next : (sizes : Sizes) (a : About) (v : SeatView) (tag row index value word : ℕ) → StoresWord sizes a v tag row index value
     → word ≡ tagged tag value → Store (RecordWord row index) word ≡ next_action sizes (turning a v.mind.view)
 store_is_next sizes a v tag row index value word s e =
@@ -39,6 +40,7 @@ pub record StoreFits (sizes : Sizes) (tag index value : ℕ) : Type 0 where
   pub tag_fits : tag < tag_limit
   pub value_fits : value < value_limit
 
+-- and what it stores fits its word
 pub store_fits : (sizes : Sizes) (a : About) (v : SeatView) (tag row index value : ℕ) → CanStep sizes a v
     → StoresWord sizes a v tag row index value → StoreFits sizes tag index value
 store_fits sizes a v tag row index value c s =

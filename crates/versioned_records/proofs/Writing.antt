@@ -90,12 +90,14 @@ store_seen a b v w old e same writes =
     subst (λ z. Store (RecordWord w.row w.index) (next_word w) ≡ next_action w.sizes (turning z v.mind.view)) (sym same)
     (store_is_next w.sizes a v w.tag w.row w.index (next_value w) (next_word w) (subst (CanWrite a v) (sym e) writes) refl)
 
+-- a writer's next word fits
 pub fits_seen : (a : About) (v : SeatView) (w old : Writing) → w ≡ old → CanStep old.sizes a v → CanWrite a v old
     → StoreFits w.sizes w.tag w.index (next_value w)
 fits_seen a v w old e can writes =
     subst (λ (o : Writing). StoreFits o.sizes o.tag o.index (next_value o)) (sym e)
     (store_fits old.sizes a v old.tag old.row old.index (next_value old) can writes)
 
+-- its index is below the most words of a record
 pub below_seen : (a : About) (v : SeatView) (w old : Writing) → w ≡ old → CanStep old.sizes a v → CanWrite a v old → w.index < 66
 below_seen a v w old e can writes =
     let d = due_there old.sizes a v can in

@@ -33,6 +33,7 @@ wrote w = record w { index = w.index + 1 }
 abbrev pub next_value : Writing → ℕ
 next_value w = slice_index w.values w.index
 
+-- the word that a writer stores next
 abbrev pub next_word : Writing → ℕ
 next_word w = tagged w.tag (next_value w)
 

@@ -1,6 +1,7 @@
-use Rattle.transfer_schedule.proofs.Reaching.{reached_stands, reached_sizes, stands_table, stands_rests, stands_withholds, stands_in_time}
-use Rattle.transfer_schedule.proofs.Reaching.{stands_gives, stands_counts, stands_sound, stands_begins, stands_refuses}
-use Rattle.transfer_schedule.proofs.Reaching.{stands_misses, stands_rested, stands_waits, stands_begun, stands_pends, stands_still}
+use Rattle.transfer_schedule.proofs.AtPhase.{stands_table, stands_rests, stands_withholds, stands_in_time}
+use Rattle.transfer_schedule.proofs.Reaching.{reached_stands, reached_sizes}
+use Rattle.transfer_schedule.proofs.AtPhase.{stands_gives, stands_counts, stands_sound, stands_begins, stands_refuses}
+use Rattle.transfer_schedule.proofs.AtPhase.{stands_misses, stands_rested, stands_waits, stands_begun, stands_pends, stands_still}
 use Rattle.transfer_schedule.proofs.laws.of_accounts.Goals as goal
 
 pub returns-clause-sizes : goal.returns-clause-sizes
