@@ -52,6 +52,7 @@ use Rattle.block_pool.proofs.Standing.{plan_quantum}
 can_begin : (sizes : Sizes) (x : Process) → BetweenCalls sizes x → CanBegin x.seat.view.mind.view
 can_begin sizes x f = seat_can_begin x.seat.view f.among f.of_process
 
+-- between two calls the transfer that is due can begin
 pub due_begins : (sizes : Sizes) (x : Process) → BetweenCalls sizes x → CanBeginDue x.pool
 due_begins sizes x f =
     let begins = can_begin sizes x f in
@@ -66,6 +67,7 @@ may_begin : (sizes : Sizes) (call : Call) (v : ProcessView) → v.calls.stage �
 may_begin sizes call v e may =
     ap (λ stage. is_at_step stage || may_start_at stage sizes true call v) e ∙ may
 
+-- a call whose names are in range, of a block that its caller holds, begins from between two calls where its process has the age for it
 pub call_starts : (sizes : Sizes) (call : Call) (x : Process) → BetweenCalls sizes x → is_young_for sizes call x.seat.view.mind.view ≡ true
     → names_fit sizes true call ≡ true → BlockIsHeld (held_in x.seat.view.mind) call
     → CanGo sizes call (call_begun call x.seat.view.mind.view) x.seat.view
@@ -78,6 +80,7 @@ call_starts sizes call x f young names held =
       view = begun_first call v.mind.view f.between;
     }
 
+-- the test `<` on numbers answers true where it holds
 pub low_test : (a b : ℕ) → a < b → nat_lt a b ≡ true
 low_test a b lt = grind (arith, nat_tests)
 
@@ -105,6 +108,7 @@ pub begun_parts : (call : Call) (d : Option Wish) (t : TransferView) (p : PoolVi
 begun_parts call None t p calls = refl
 begun_parts call (Some wish) t p calls = refl
 
+-- a call that can begin stands, in the running parts, where the transfer that is due has begun
 pub starts_there : (sizes : Sizes) (call : Call) (x y : Process)
     → x.seat.view.mind.view.transfer ≡ x.transfer → x.seat.view.mind.view.pool ≡ x.pool
     → y.seat ≡ x.seat → y.transfer ≡ transfer_begun (due x.pool) x.transfer → y.pool ≡ pool_begun_by (due x.pool) x.pool
@@ -126,18 +130,22 @@ starts_there sizes call x y own_transfer own_pool seat transfer pool go =
     let there = subst (λ w. CanGo sizes call w x.seat.view) same go in
     subst (λ s. CanGo sizes call (beginning call y) s.view) (sym seat) there
 
+-- an allocate can begin between two calls, where its pass has the age for the transfer that is due
 pub allocate_starts : (sizes : Sizes) (x y : Process) → BetweenCalls sizes x → HasAgeFor sizes x.pool.plan x.transfer.age
     → y.seat ≡ x.seat → y.transfer ≡ transfer_begun (due x.pool) x.transfer → y.pool ≡ pool_begun_by (due x.pool) x.pool
     → CanGo sizes Allocate (beginning Allocate y) y.seat.view
 allocate_starts sizes x y f young seat transfer pool =
-    starts_there sizes Allocate x y f.transfer f.pool seat transfer pool (call_starts sizes Allocate x f (young_test sizes x f young) refl tt)
+    starts_there sizes Allocate x y f.transfer f.pool seat transfer pool (call_starts sizes Allocate x f
+    (young_test sizes x f young) refl tt)
 
+-- and so can a free of a block that the process holds
 pub free_starts : (sizes : Sizes) (block : ℕ) (x y : Process) → BetweenCalls sizes x → HasAgeFor sizes x.pool.plan x.transfer.age
     → Contains (held_in x.seat.view.mind) block
     → y.seat ≡ x.seat → y.transfer ≡ transfer_begun (due x.pool) x.transfer → y.pool ≡ pool_begun_by (due x.pool) x.pool
     → CanGo sizes (Free block) (beginning (Free block) y) y.seat.view
 free_starts sizes block x y f young held seat transfer pool =
-    starts_there sizes (Free block) x y f.transfer f.pool seat transfer pool (call_starts sizes (Free block) x f (young_test sizes x f young) refl held)
+    starts_there sizes (Free block) x y f.transfer f.pool seat transfer pool (call_starts sizes (Free block) x f
+    (young_test sizes x f young) refl held)
 
 -- a read or a write is at its own step at once
 owning_so : (sizes : Sizes) (call : Call) (x : Process) → BetweenCalls sizes x
@@ -149,11 +157,13 @@ owning_so sizes call x f go =
     ∙ ap (λ (p : PoolView). record { transfer = x.transfer; pool = p; calls = calling Own call 0 }) f.pool in
     subst (λ w. CanGo sizes call w x.seat.view) same go
 
+-- a read of a word of a held block stands at its own step at once
 pub read_starts : (sizes : Sizes) (block index : ℕ) (x : Process) → BetweenCalls sizes x → Contains (held_in x.seat.view.mind) block
     → index < sizes.words → IsOwning sizes (Read block index) 0 x
 read_starts sizes block index x f held low =
     owning_so sizes (Read block index) x f (call_starts sizes (Read block index) x f refl (low_test index sizes.words low) held)
 
+-- and so does a write
 pub write_starts : (sizes : Sizes) (block index value : ℕ) (x : Process) → BetweenCalls sizes x
     → Contains (held_in x.seat.view.mind) block → index < sizes.words → IsOwning sizes (Write block index value) 0 x
 write_starts sizes block index value x f held low =
@@ -166,6 +176,7 @@ begun_plan_by : (d : Option Wish) (t : TransferView) (p : PoolView) (calls : Cal
 begun_plan_by None t p calls = refl
 begun_plan_by (Some wish) t p calls = refl
 
+-- the plan once what is due has begun is the schedule's choice
 pub begun_plan : (x y : Process) → y.pool ≡ pool_begun_by (due x.pool) x.pool → y.pool.plan ≡ after_choice x.pool.plan
 begun_plan x y e =
     let v : ProcessView = record { transfer = x.transfer; pool = x.pool; calls = x.seat.view.mind.view.calls } in
@@ -176,12 +187,14 @@ same_age : (d : Option Wish) (t : TransferView) → (transfer_begun d t).age ≡
 same_age None t = refl
 same_age (Some wish) t = refl
 
+-- a beginning leaves the age, which its announcement will raise
 pub begun_age : (x y : Process) → y.transfer ≡ transfer_begun (due x.pool) x.transfer → y.transfer.age ≡ x.transfer.age
 begun_age x y e = ap (λ (t : TransferView). t.age) e ∙ same_age (due x.pool) x.transfer
 
 same_quantum : (plan : Numbers) → (after_choice plan).quantum ≡ plan.quantum
 same_quantum plan = grind (arith, choice_sizes)
 
+-- and the plan's quantum
 pub begun_quantum : (sizes : Sizes) (x y : Process) → BetweenCalls sizes x → y.pool ≡ pool_begun_by (due x.pool) x.pool
     → y.pool.plan.quantum ≡ sizes.quantum
 begun_quantum sizes x y f is = ap (λ (p : Numbers). p.quantum) (begun_plan x y is) ∙ (same_quantum x.pool.plan ∙ plan_quantum sizes x f)
@@ -217,6 +230,7 @@ call_made sizes call k n entries before x y go h own is =
       moves = let a = s.moves in let b = h.moves in omega (arith, a, b);
     }
 
+-- after its own step a call stands between two calls again
 pub call_left : (sizes : Sizes) (call : Call) (n : ℕ) (x y : Process) → IsOwning sizes call n x → OwnMade call x y → BetweenCalls sizes y
 call_left sizes call n x y go own =
     let s = own.stepped in
@@ -237,11 +251,13 @@ entries_for by kind None = refl
 entries_for by kind (Some block) = refl
 
 got_entries : (by : ℕ) (block : Option ℕ) (x : Process) → x.transfer.number ≡ by → block ≡ next_block x.pool
-    → entries_of (happened (allocate_kind (next_block x.pool)) (allocate_answer x.transfer.number (next_block x.pool))) ≡ entry_for by block ∷ []
+    → entries_of (happened (allocate_kind (next_block x.pool)) (allocate_answer x.transfer.number
+    (next_block x.pool))) ≡ entry_for by block ∷ []
 got_entries by block x e is =
     entries_for x.transfer.number (allocate_kind (next_block x.pool)) (next_block x.pool)
     ∙ (ap (λ k. entry_for k (next_block x.pool) ∷ []) e ∙ ap (λ b. entry_for by b ∷ []) (sym is))
 
+-- the own step of an allocate or a search enters the block that it got, or that there was none
 pub allocate_entries : (call : Call) (by word : ℕ) (block : Option ℕ) (x : Process) → is_getting (Some call) ≡ true
     → x.transfer.number ≡ by → block ≡ next_block x.pool → own_entries call word x ≡ entry_for by block ∷ []
 allocate_entries Allocate by word block x gets e is = got_entries by block x e is
@@ -250,6 +266,7 @@ allocate_entries (Free freed) by word block x gets e is = absurd (false≢true g
 allocate_entries (Read read index) by word block x gets e is = absurd (false≢true gets)
 allocate_entries (Write written index value) by word block x gets e is = absurd (false≢true gets)
 
+-- the own step of a free enters its block
 pub free_entries : (by word block : ℕ) (x : Process) → x.transfer.number ≡ by
     → own_entries (Free block) word x ≡ Back by block ∷ []
 free_entries by word block x e = ap (λ k. Back k block ∷ []) e

@@ -35,6 +35,7 @@ one_less : (gots backs mine gots' backs' mine' : ℕ) → gots ≡ backs + mine 
     → mine ≡ mine' + 1
 one_less gots backs mine gots' backs' mine' a b c d = omega arith
 
+-- after a free its pass holds one block fewer
 pub holds_one_less : (sizes : Sizes) (x y : Process) (by block : ℕ) → BetweenCalls sizes x → BetweenCalls sizes y
     → entries_in y.seat.view.mind ≡ entries_in x.seat.view.mind ++ Back by block ∷ []
     → length (held_in x.seat.view.mind) ≡ length (held_in y.seat.view.mind) + 1

@@ -74,13 +74,15 @@ getting_can sizes pool (Free block) e can = absurd (false≢true e)
 getting_can sizes pool (Read block index) e can = absurd (false≢true e)
 getting_can sizes pool (Write block index value) e can = absurd (false≢true e)
 
-getting_acts : (pool : PoolView) (call : Call) → is_getting (Some call) ≡ true → own_action_for pool (Some call) ≡ allocate_action (next_block pool)
+getting_acts : (pool : PoolView) (call : Call) → is_getting (Some call) ≡ true
+    → own_action_for pool (Some call) ≡ allocate_action (next_block pool)
 getting_acts pool Allocate e = refl
 getting_acts pool Search e = refl
 getting_acts pool (Free block) e = absurd (false≢true e)
 getting_acts pool (Read block index) e = absurd (false≢true e)
 getting_acts pool (Write block index value) e = absurd (false≢true e)
 
+-- what the own step of an allocate or a search leaves of the private pool
 pub getting_leaves : (word : ℕ) (pool : PoolView) (call : Call) → is_getting (Some call) ≡ true
     → pool_own_met word pool (Some call) ≡ allocated word pool (source_of pool.plan)
 getting_leaves word pool Allocate e = refl
@@ -97,20 +99,24 @@ getting_follows word pool (Free block) e can = absurd (false≢true e)
 getting_follows word pool (Read block index) e can = absurd (false≢true e)
 getting_follows word pool (Write block index value) e can = absurd (false≢true e)
 
+-- at its own step the block can be taken from where the plan says
 pub can_take : (sizes : Sizes) (call : Call) (n : ℕ) (x : Process) (plan : Numbers) (from : Source) → is_getting (Some call) ≡ true
     → IsOwning sizes call n x → from ≡ source_of x.pool.plan → CanAllocate sizes (record x.pool { plan = plan }) from
 can_take sizes call n x plan from gets go e =
     can_take_with sizes x.pool plan from
     (subst (CanAllocate sizes x.pool) (sym e) (getting_can sizes x.pool call gets (can_own sizes call n x go)))
 
+-- the action of the own step is that for the block that is to be had
 pub gets_by : (sizes : Sizes) (call : Call) (n : ℕ) (x : Process) (v : SeatView) (from : Source) (block : Option ℕ)
-    → is_getting (Some call) ≡ true → IsOwning sizes call n x → x.seat.view ≡ v → from ≡ source_of x.pool.plan → block ≡ block_from x.pool from
+    → is_getting (Some call) ≡ true → IsOwning sizes call n x → x.seat.view ≡ v → from ≡ source_of x.pool.plan
+    → block ≡ block_from x.pool from
     → allocate_action block ≡ next_action sizes (turning (InCall call) v.mind.view)
 gets_by sizes call n x v from block gets go seat e is =
     ap allocate_action (is ∙ ap (block_from x.pool) e)
     ∙ (sym (getting_acts x.pool call gets)
     ∙ (ap (next_action sizes) (sym go.view) ∙ ap (λ (z : SeatView). next_action sizes (turning (InCall call) z.mind.view)) seat))
 
+-- the word that the own step meets can be followed where it is the next of the current list
 pub follows_by : (sizes : Sizes) (call : Call) (n : ℕ) (x : Process) (y : SeatView) (from : Source) (word : ℕ)
     → is_getting (Some call) ≡ true → IsOwning sizes call n x → from ≡ source_of x.pool.plan → Stepped (InCall call) x.seat.view word y
     → CanFollow word from
@@ -146,6 +152,7 @@ none_by pool false false e f = (
   (λ none. next_is pool false false e f),
 )
 
+-- there is no block exactly where the plan has none
 pub gives_none : (pool : PoolView) (got : Option ℕ) → got ≡ next_block pool → (got ≡ None) ↔ HasNoBlock pool.plan
 gives_none pool got is =
     let none = none_by pool (nat_lt 0 pool.plan.current) (nat_lt 0 pool.plan.spares) refl refl in
@@ -155,6 +162,7 @@ can_put_with : (pool : PoolView) (plan : Numbers) (to : Target) → CanFree pool
 can_put_with pool plan target.Current can = can
 can_put_with pool plan target.Fresh can = can
 
+-- at the own step of a free the block can be put where the plan says
 pub can_put : (sizes : Sizes) (n block : ℕ) (x : Process) (plan : Numbers) (to : Target) → IsOwning sizes (Free block) n x
     → to ≡ target_of x.pool.plan → CanFree (record x.pool { plan = plan }) to
 can_put sizes n block x plan to go e =

@@ -47,9 +47,11 @@ moving_at most n lt = grind (arith, nat_tests)
 own_at : (n : ℕ) → stage_after n n ≡ Own
 own_at n = grind (arith, nat_tests)
 
+-- no steps leave the pool as it was
 pub none_counted : (pool : PoolView) → counted 0 pool ≡ pool
 none_counted pool = ap (λ (plan : Numbers). record pool { plan = plan }) (no_steps pool.plan)
 
+-- a call begins at a step of the transfer, where one is pending
 pub begins_moving : (sizes : Sizes) (call : Call) (x : Process) → x.pool.plan.pending ≢ Idle
     → CanGo sizes call (beginning call x) x.seat.view → IsMoving sizes call 0 x
 begins_moving sizes call x busy go =
@@ -60,6 +62,7 @@ begins_moving sizes call x busy go =
     ∙ ap (λ z. record { transfer = x.transfer; pool = z; calls = calling Moving call 0 }) (sym (none_counted x.pool)) in
     subst (λ w. CanGo sizes call w x.seat.view) same go
 
+-- and else at its own step
 pub begins_owning : (sizes : Sizes) (call : Call) (x : Process) → x.pool.plan.pending ≡ Idle
     → CanGo sizes call (beginning call x) x.seat.view → IsOwning sizes call 0 x
 begins_owning sizes call x idle go =
@@ -67,12 +70,14 @@ begins_owning sizes call x idle go =
     subst (λ w. CanGo sizes call w x.seat.view)
     (ap (λ z. record { transfer = x.transfer; pool = x.pool; calls = calling z call 0 }) stage) go
 
+-- before the quantum is spent a running call is at a step of the transfer
 pub runs_moving : (sizes : Sizes) (most n : ℕ) (call : Call) (x : Process) → n < most → IsRunning sizes most call n x
     → IsMoving sizes call n x
 runs_moving sizes most n call x lt go =
     subst (λ w. CanGo sizes call w x.seat.view)
     (ap (λ z. record { transfer = x.transfer; pool = counted n x.pool; calls = calling z call n }) (moving_at most n lt)) go
 
+-- a call at a step of the transfer is a running one
 pub moving_runs : (sizes : Sizes) (most n : ℕ) (call : Call) (x : Process) → n < most → IsMoving sizes call n x
     → IsRunning sizes most call n x
 moving_runs sizes most n call x lt go =
@@ -120,7 +125,8 @@ goes_on sizes call u w word v x go s none is inside =
     }
 
 -- a transfer is at rest after its last step alone
-pub rests_after : (sizes : Sizes) (t : TransferView) (word : ℕ) (s : NextStep) → s ≢ Rest → is_rest (met_at sizes t word s).next ≡ is_reply s
+pub rests_after : (sizes : Sizes) (t : TransferView) (word : ℕ) (s : NextStep) → s ≢ Rest
+    → is_rest (met_at sizes t word s).next ≡ is_reply s
 rests_after sizes t word Rest busy = absurd (busy refl)
 rests_after sizes t word Announce busy = refl
 rests_after sizes t word (Try second step) busy = moving_not_rest _ (step_stays sizes t word (Try second step) refl).moving
@@ -134,6 +140,7 @@ rests_after sizes t word LoadReply busy = refl
 abbrev pub stage_moved : Bool → ℕ → ℕ → CallStage
 stage_moved ended most n = if ended || (n == most) then Own else Moving
 
+-- the view after one more step of a call's transfer, which ended it or not
 abbrev pub view_moved : ℕ → Call → ℕ → Bool → TransferView → PoolView → ProcessView
 view_moved most call n ended t pool = record { transfer = t; pool = pool; calls = calling (stage_moved ended most n) call n }
 
@@ -164,6 +171,7 @@ in_call_moved : (t : Bool) → is_at_step (if t then Own else Moving) ≡ true
 in_call_moved true = refl
 in_call_moved false = refl
 
+-- a step that doesn't end the transfer leaves the call running, with one step more
 pub moves_on : (sizes : Sizes) (most : ℕ) (call : Call) (n : ℕ) (x y : Process) (ended : Bool) → is_paced (Some call) ≡ true
     → most ≡ sizes.quantum → ended ≡ false → IsMoving sizes call n x → MovedOne sizes call n x ended y
     → IsRunning sizes most call (n + 1) y
@@ -173,6 +181,7 @@ moves_on sizes most call n x y ended paced same e go moved =
     (goes_on sizes call (moving call n x) (running sizes.quantum call (n + 1) y) m.word x.seat.view y.seat.view go m.stepped refl
     (moved_view sizes call n x y false paced go m) (in_call_moved (n + 1 == sizes.quantum)))
 
+-- the step that ends the transfer leads to the own step
 pub moves_end : (sizes : Sizes) (call : Call) (n : ℕ) (x y : Process) (ended : Bool) → is_paced (Some call) ≡ true → ended ≡ true
     → IsMoving sizes call n x → MovedOne sizes call n x ended y → IsOwning sizes call (n + 1) y
 moves_end sizes call n x y ended paced e go moved =
@@ -185,6 +194,7 @@ pub nothing_moved : (v : SeatView) → MovedOn v 0 v
 nothing_moved v =
     record { stays = refl; number = refl; seen = refl; known = refl; entries = refl; moves = omega arith }
 
+-- one more step that enters nothing is one more move
 pub moved_more : (sizes : Sizes) (call : Call) (u : ProcessView) (n : ℕ) (before v x : SeatView) (word : ℕ) → CanGo sizes call u v
     → Stepped (InCall call) v word x → entries_of (next_answer u word) ≡ [] → ((known : List KnownWord) → words_known_after u known ≡ known)
     → MovedOn before n v → MovedOn before (n + 1) x
@@ -217,6 +227,7 @@ aged_at sizes most t word (Try second step) e busy h =
 aged_at sizes most t word LoadFinalState e busy h = record { within = h.within; announced = λ is. absurd (grind arith) }
 aged_at sizes most t word LoadReply e busy h = record { within = h.within; announced = λ is. absurd (grind arith) }
 
+-- a step of a transfer leaves the age within the bound that it had
 pub aged_more : (sizes : Sizes) (call : Call) (n most : ℕ) (x y : Process) (ended : Bool) → IsMoving sizes call n x
     → MovedOne sizes call n x ended y → AgesWithin most x.transfer → AgesWithin most y.transfer
 aged_more sizes call n most x y ended go m h =
@@ -227,6 +238,7 @@ aged_more sizes call n most x y ended go m h =
 pub plan_stays : (n : ℕ) (ended : Bool) (first old new : Numbers) → ended ≡ false → old ≡ first → PlanStepped ended n old new → new ≡ first
 plan_stays n ended first old new e is stepped = subst (λ z. PlanStepped z n old new) e stepped ∙ is
 
+-- the plan of a transfer whose last step was made within the quantum
 pub plan_ends : (most n : ℕ) (ended : Bool) (first old new : Numbers) → ended ≡ true → first.pending ≢ Idle → 1 ≤ n → n ≤ most → old ≡ first
     → PlanStepped ended n old new → PlanRuns most first n new
 plan_ends most n ended first old new e busy some few is stepped =
@@ -234,10 +246,12 @@ plan_ends most n ended first old new e busy some few is stepped =
     subst (PlanRuns most first n) (sym (becomes_so ∙ ap (λ z. after_end found (after_steps n z)) is))
     (ends n found (not_idle_busy first.pending busy) some few)
 
+-- the plan of a transfer that took the whole quantum
 pub plan_goes_on : (most : ℕ) (first old new : Numbers) → first.pending ≢ Idle → old ≡ first → new ≡ after_steps most old
     → PlanRuns most first most new
 plan_goes_on most first old new busy is counted =
     subst (PlanRuns most first most) (sym (counted ∙ ap (after_steps most) is)) (runs_on (not_idle_busy first.pending busy))
 
+-- the plan where nothing is pending
 pub plan_rests : (most : ℕ) (plan : Numbers) → plan.pending ≡ Idle → PlanRuns most plan 0 plan
 plan_rests most plan idle = rests (ap is_idle idle)

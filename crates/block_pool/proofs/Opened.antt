@@ -1,5 +1,6 @@
 -- Passes are made of seats at the opening.
-use Rattle.std.proofs.Common.{◌≡◌, ℕ, ◌+◌, ◌<◌, List, [], ◌∷◌, ◌++◌, length, Some, refl, sym, ap, ◌∙◌, subst, inl, inr, arith, length-append}
+use Rattle.std.proofs.Common.{◌≡◌, ℕ, ◌+◌, ◌<◌, List, [], ◌∷◌, ◌++◌, length, Some, refl, sym, ap, ◌∙◌, subst, inl, inr, arith}
+use Rattle.std.proofs.Common.{length-append}
 use Rattle.std.specs.Prelude.{slice_get}
 use Rattle.std.proofs.lemmas.Bool.{cases_lt}
 use Rattle.atomic_table.specs.Seated.{TableId}
@@ -29,6 +30,7 @@ pub next_is_low : (table : TableId) (sizes : Sizes) (rest more : List (Seated Se
     (number : ℕ) → PassesMade table sizes rest passes → rest ≡ seat ∷ more → number ≡ length passes → number < sizes.processes
 next_is_low table sizes rest more seat passes number made e is = omega (arith, made.many, ap length e)
 
+-- the seat that comes next at an opening is that of the next process, as it opens
 pub next_is_opening : (table : TableId) (sizes : Sizes) (rest more : List (Seated SeatView)) (seat : Seated SeatView) (passes : List Passed)
     (shape : Sizes) (number : ℕ) → PassesMade table sizes rest passes → rest ≡ seat ∷ more → number ≡ length passes → shape ≡ sizes
     → IsOpeningSeat shape seat.table number seat
@@ -40,7 +42,8 @@ next_is_opening table sizes rest more seat passes shape number made e is same =
 
 -- the next one is made
 pub one_made : (table : TableId) (sizes : Sizes) (rest more : List (Seated SeatView)) (seat : Seated SeatView) (passes : List Passed)
-    (pass : Passed) (shape : Sizes) (number : ℕ) → PassesMade table sizes rest passes → rest ≡ seat ∷ more → number ≡ length passes → shape ≡ sizes
+    (pass : Passed) (shape : Sizes) (number : ℕ) → PassesMade table sizes rest passes → rest ≡ seat ∷ more → number ≡ length passes
+    → shape ≡ sizes
     → pass ≡ opened_pass seat.table shape number
     → PassesMade table sizes more (passes ++ pass ∷ [])
 one_made table sizes rest more seat passes pass shape number made e next same is_opened =

@@ -1,5 +1,6 @@
 -- Passes in the order of their processes are all passes.
-use Rattle.std.proofs.Common.{◌≡◌, ◌≢◌, ◌⊎◌, ⊎_elim, ℕ, zero, suc, ◌+◌, ◌<◌, ◌≤◌, ◌==◌, List, [], ◌∷◌, length, set, get_or, Some, refl, sym, ap, ◌∙◌, inl, inr, arith}
+use Rattle.std.proofs.Common.{◌≡◌, ◌≢◌, ◌⊎◌, ⊎_elim, ℕ, zero, suc, ◌+◌, ◌<◌, ◌≤◌, ◌==◌, List, [], ◌∷◌, length, set, get_or, Some, refl}
+use Rattle.std.proofs.Common.{sym, ap, ◌∙◌, inl, inr, arith}
 use Rattle.std.specs.Prelude.{if◌then◌else◌, slice_get, slice_index_or, count_by}
 use Rattle.std.specs.List.{All}
 use Rattle.std.proofs.Math.ListN.{length-set}
@@ -53,6 +54,7 @@ one_from next n (pass ∷ passes) each from within =
           omega (arith, number_counted n pass passes, counts_not pass.number n other, more)
     ]
 
+-- passes in the order of their processes are all passes, each once
 pub ordered_are_all : OrderedAreAll
 ordered_are_all pool passes ordered = record {
   many = ordered.many;
@@ -60,6 +62,7 @@ ordered_are_all pool passes ordered = record {
   once = λ n low. one_from 0 n passes (λ k pass at. omega (arith, (ordered.each k pass at).1)) (omega arith) (omega (arith, ordered.many));
 }
 
+-- the passes that an opening gives are in order
 pub opened_are_in_order : OpenedAreInOrder
 opened_are_in_order pool passes opened = record {
   many = opened.many;
@@ -81,6 +84,7 @@ item_of_set (x ∷ xs) (suc n) zero new item at = inr at
 item_of_set (x ∷ xs) (suc n) (suc k) new item at =
     ⊎_elim (λ (is : (k ≡ n) × (new ≡ item)). inl (ap suc is.0, is.1)) (λ there. inr there) (item_of_set xs n k new item at)
 
+-- a call of one of them leaves them so
 pub calls_keep_order : CallsKeepOrder
 calls_keep_order pool passes n old new ordered at same =
     let was = ordered.each n old at in

@@ -90,9 +90,11 @@ allocated_so sizes entries before after x y got a f g called none is = record {
   dry = ((λ e. none.0 (is.0 e)), (λ e. is.1 (none.1 e)));
 }
 
+-- a block was got exactly where it isn't none
 pub got_is_some : (block : ℕ) → (answer.Got block ≡ answer.Dry) ↔ (Some block ≡ None)
 got_is_some block = ((λ e. absurd (grind arith)), (λ e. absurd (grind arith)))
 
+-- the answer is Dry exactly where no block was got
 pub dry_is_none : (got : Option ℕ) → got ≡ None → (answer.Dry ≡ answer.Dry) ↔ (got ≡ None)
 dry_is_none got e = ((λ _. e), (λ _. refl))
 
@@ -131,11 +133,13 @@ word_called sizes call before after x y known f called knows =
     (ap (λ (p : PoolView). p.plan) (called.between.pool ∙ (called.pool ∙ sym f.pool)))
     (ap (λ (t : TransferView). t.age) (called.between.transfer ∙ (called.transfer ∙ sym f.transfer))) (omega (arith, moves))
 
+-- a read changes nothing of its pass but for one move
 pub read_so : (sizes : Sizes) (block index before after : ℕ) (x y : Process) → BetweenCalls sizes x
     → WordCalled sizes (Read block index) before after x y → pass_of y.seat ≡ record (pass_of x.seat) { moves = x.seat.view.mind.moves + 1 }
 read_so sizes block index before after x y f called =
     word_called sizes (Read block index) before after x y x.seat.view.mind.known f called refl
 
+-- a write makes one move, and its pass knows the word
 pub write_so : (sizes : Sizes) (block index value before after : ℕ) (x y : Process) → BetweenCalls sizes x
     → WordCalled sizes (Write block index value) before after x y → pass_of y.seat ≡ record (pass_of x.seat) {
       moves = x.seat.view.mind.moves + 1;

@@ -19,7 +19,8 @@ use Rattle.history_invariant.proofs.Shared.{Shared, grips_of, legal_shared}
 use Rattle.transfer_schedule.specs.Numbers.{withheld}
 use Rattle.block_pool.specs.Passing.{Passed}
 use Rattle.block_pool.specs.Closing.{Settlement}
-use Rattle.block_pool.specs.Promises.{HasBlock, HeldOnce, AnsweredRight, FewUnheld, RefusalsHadCause, EnoughIsEnough, CountedAreShort, PassesWithholdFew}
+use Rattle.block_pool.specs.Promises.{HasBlock, HeldOnce, AnsweredRight, FewUnheld, RefusalsHadCause, EnoughIsEnough, CountedAreShort}
+use Rattle.block_pool.specs.Promises.{PassesWithholdFew}
 
 -- at every place the held blocks are shared out
 shared_at : (settled : Settlement) → IsLegal (limits_of settled.sizes) settled.history → (place : ℕ)
@@ -67,6 +68,7 @@ one_holder settled place block i j s first second =
       ))
     ]
 
+-- in a settled pool no block is held by two
 pub held_once : (settled : Settlement) → IsLegal (limits_of settled.sizes) settled.history → HeldOnce settled
 held_once settled legal = record {
   of_pool = λ place block there. (shared_at settled legal place).grips.below block there;
@@ -83,6 +85,7 @@ may_at : (settled : Settlement) (x : ℕ) (made : Entry) → IsLegal (limits_of 
     → slice_get settled.history x ≡ Some made → MayFollow (limits_of settled.sizes) (take x settled.history) made
 may_at settled x made legal at = rw at at (legal.follows x)
 
+-- its calls are answered as a free set answers
 pub answered_right : (settled : Settlement) → IsLegal (limits_of settled.sizes) settled.history → AnsweredRight settled
 answered_right settled legal = record {
   got = λ x by block at. (may_at settled x (Got by block) legal at).2;
@@ -105,6 +108,7 @@ few_at settled x place before few =
 net_held : (gots backs mine least : ℕ) → least ≤ gots - backs → gots ≡ backs + mine → least ≤ mine
 net_held gots backs mine least net balance = omega arith
 
+-- each refusal has its moment
 pub refusals_had_cause : (settled : Settlement) → IsLegal (limits_of settled.sizes) settled.history → RefusalsHadCause settled
 refusals_had_cause settled legal x by at =
     let limits = limits_of settled.sizes in
@@ -121,11 +125,13 @@ refusals_had_cause settled legal x by at =
       many = net_held _ _ _ (2 * settled.sizes.length) net ((shared_at settled legal x).balance by may.0);
     }
 
+-- with enough unheld blocks at every moment none is refused
 pub enough_is_enough : (settled : Settlement) → IsLegal (limits_of settled.sizes) settled.history → EnoughIsEnough settled
 enough_is_enough settled legal more x by at =
     let cause = refusals_had_cause settled legal x by at in
     more cause.place (omega (arith, cause.before, slice_get_within settled.history x (Dry by) at)) cause.few
 
+-- counted calls are short
 pub counted_are_short : CountedAreShort
 counted_are_short quantum before after old new counted = record {
   some = omega (arith, counted.steps);
@@ -142,9 +148,11 @@ five_each : (processes batch count all : ℕ) → count ≡ processes → all �
 five_each processes batch count all same few =
     omega (arith, few, ap (λ (n : ℕ). n * (5 * batch)) same, five_regrouped processes batch)
 
+-- the passes of a pool withhold few blocks together
 pub passes_withhold_few : PassesWithholdFew
 passes_withhold_few pool passes all well =
-    let each = λ (k : ℕ) (d : Passed) (within : k < length passes). subst (λ (s : Sizes). withheld (slice_index_or passes k d).plan ≤ 5 * s.length)
+    let each = λ (k : ℕ) (d : Passed) (within : k < length passes).
+    subst (λ (s : Sizes). withheld (slice_index_or passes k d).plan ≤ 5 * s.length)
     (all.each k d within).sizes (well k d within).withholds in
     five_each pool.sizes.processes pool.sizes.length (length passes) _ all.many
     (sum_by-le (λ (pass : Passed). withheld pass.plan) (5 * pool.sizes.length) passes each)

@@ -99,7 +99,8 @@ pub starts_seeking : (sizes : Sizes) (x : Process) → BetweenCalls sizes x → 
 starts_seeking sizes x f young busy =
     let v = x.seat.view.mind.view in
     let parts : TransferView → PoolView → ProcessView = λ t p. record { transfer = t; pool = p; calls = (seeking false x).calls } in
-    let go = subst (λ t. CanGo sizes Search (search_begun_by t v) x.seat.view) (not_idle_busy x.pool.plan.pending busy) (starts sizes x f young) in
+    let go = subst (λ t. CanGo sizes Search (search_begun_by t v) x.seat.view) (not_idle_busy x.pool.plan.pending busy)
+    (starts sizes x f young) in
     subst (λ w. CanGo sizes Search w x.seat.view)
     (ap (λ (t : TransferView). parts t v.pool) f.transfer ∙ ap (λ (p : PoolView). parts x.transfer p) f.pool) go
 
@@ -109,11 +110,13 @@ chosen_begins sizes x c =
     let begins : CanBegin x.seat.view.mind.view = seat_can_begin x.seat.view c.go.can.among c.go.can.of_process in
     subst CanBeginDue c.pool (record { heads = begins.heads; fits = begins.fits })
 
+-- a search that has begun what is due can make its next step
 pub chosen_starts : (sizes : Sizes) (x y : Process) → CanChoose sizes x → y.seat ≡ x.seat
     → y.transfer ≡ transfer_begun (due x.pool) x.transfer → y.pool ≡ pool_begun_by (due x.pool) x.pool
     → CanGo sizes Search (beginning Search y) y.seat.view
 chosen_starts sizes x y c seat transfer pool = starts_there sizes Search x y c.transfer c.pool seat transfer pool c.go
 
+-- it stands at a step of the transfer, where that is pending
 pub begins_seeking : (sizes : Sizes) (x : Process) → x.pool.plan.pending ≢ Idle → CanGo sizes Search (beginning Search x) x.seat.view
     → IsSeeking sizes true x
 begins_seeking sizes x busy go =
@@ -131,12 +134,14 @@ pub pool_last : (next : NextStep) (word : ℕ) (old : PoolView) (ended : Bool) (
 pool_last next word old ended new e moved =
     let m = subst (λ b. PoolMoved next 0 word old b new) e moved in m.pool ∙ ap (λ p. pool_met_at word p next) (none_counted old)
 
+-- the running pool after a step that doesn't end the transfer is the machine's
 pub pool_counts : (next : NextStep) (word : ℕ) (old : PoolView) (ended : Bool) (new : PoolView) (plan : Numbers) → ended ≡ false
     → PoolMoved next 0 word old ended new → plan ≡ after_steps 1 new.plan → record new { plan = plan } ≡ pool_met_at word old next
 pool_counts next word old ended new plan e moved counted_one =
     let m = subst (λ b. PoolMoved next 0 word old b new) e moved in
     ap (λ (z : Numbers). record new { plan = z }) counted_one ∙ (m.pool ∙ ap (λ p. pool_met_at word p next) (none_counted old))
 
+-- such a step leaves the pool fit to count steps
 pub pool_stays : (next : NextStep) (word : ℕ) (old : PoolView) (ended : Bool) (new : PoolView) → ended ≡ false
     → PoolMoved next 0 word old ended new → CanCount old → CanCount new
 pool_stays next word old ended new e moved can =
@@ -166,6 +171,7 @@ sought_view sizes chosen x y ended go m =
     ∙ (ap (λ z. seeking_at (stage_by chosen ended) chosen z pool) (sym m.transfer)
     ∙ ap (seeking_at (stage_by chosen ended) chosen y.transfer) (sym m.pool))
 
+-- after it the search is at a step of the same transfer
 pub seeks_on : (sizes : Sizes) (chosen : Bool) (x y : Process) (ended : Bool) → ended ≡ false → IsSeeking sizes chosen x
     → SoughtOne sizes x ended y → IsSeeking sizes chosen y
 seeks_on sizes chosen x y ended e go m =
@@ -178,7 +184,8 @@ at_choice : (sizes : Sizes) (x y : Process) (word : ℕ) → IsSeeking sizes fal
     → next_met sizes (seeking false x) word ≡ seeking_at Choosing false y.transfer y.pool → CanChoose sizes y
 at_choice sizes x y word go s is =
     let v = y.seat.view.mind.view in
-    let view : v ≡ seeking_at Choosing false y.transfer y.pool = becomes sizes Search (seeking false x) x.seat.view y.seat.view word go s ∙ is in
+    let view : v ≡ seeking_at Choosing false y.transfer y.pool = becomes sizes Search (seeking false x) x.seat.view y.seat.view word go s
+    ∙ is in
     let stage : v.calls.stage ≡ Choosing = ap (λ (z : ProcessView). z.calls.stage) view in
     let may : may_go sizes true Search v ≡ true = ap (λ k. is_at_step k || may_start_at k sizes true Search v) stage in
     record {
@@ -191,6 +198,7 @@ at_choice sizes x y word go s is =
       };
     }
 
+-- after the last one it is at its choice, or at its own step where it had chosen
 pub seek_ends : (sizes : Sizes) (chosen : Bool) (x y : Process) (ended : Bool) → ended ≡ true → IsSeeking sizes chosen x
     → SoughtOne sizes x ended y → HasRun sizes chosen y
 seek_ends sizes true x y ended e go m =
@@ -207,6 +215,7 @@ pub sought_more : (sizes : Sizes) (chosen : Bool) (n : ℕ) (before : SeatView) 
 sought_more sizes chosen n before x y ended go m =
     moved_more sizes Search (seeking chosen x) n before x.seat.view y.seat.view m.word go m.stepped refl (λ _. refl)
 
+-- a step of a search leaves the age within the bound that it had
 pub sought_aged : (sizes : Sizes) (chosen : Bool) (most : ℕ) (x y : Process) (ended : Bool) → IsSeeking sizes chosen x
     → SoughtOne sizes x ended y → AgesWithin most x.transfer → AgesWithin most y.transfer
 sought_aged sizes chosen most x y ended go m h =
@@ -242,7 +251,8 @@ ends_by_reply reply.Nothing pool = record { found = false; is = refl }
 ends_by_reply (reply.Took head) pool = record { found = true; is = refl }
 ends_by_reply reply.Gave pool = record { found = true; is = refl }
 
-plan_ends : (word : ℕ) (pool : PoolView) (s : NextStep) → is_reply s ≡ true → EndsBy (after_steps 1 pool.plan) (pool_met_at word pool s).plan
+plan_ends : (word : ℕ) (pool : PoolView) (s : NextStep) → is_reply s ≡ true
+    → EndsBy (after_steps 1 pool.plan) (pool_met_at word pool s).plan
 plan_ends word pool Rest e = absurd (false≢true e)
 plan_ends word pool Announce e = absurd (false≢true e)
 plan_ends word pool (Try second step) e = absurd (false≢true e)
@@ -252,6 +262,7 @@ plan_ends word pool LoadReply e = ends_by_reply (reply_of (value_of word)) (reco
 one_step_more : (n : ℕ) (plan : Numbers) → after_steps 1 (after_steps n plan) ≡ after_steps (n + 1) plan
 one_step_more n plan = let same : plan.done + n + 1 ≡ plan.done + (n + 1) = omega arith in ap (λ k. record plan { done = k }) same
 
+-- the plan counts one more step
 pub plan_on : (sizes : Sizes) (chosen : Bool) (n : ℕ) (first : Numbers) (x y : Process) (ended : Bool) → ended ≡ false
     → IsSeeking sizes chosen x → SoughtOne sizes x ended y → x.pool.plan ≡ after_steps n first → y.pool.plan ≡ after_steps (n + 1) first
 plan_on sizes chosen n first x y ended e go m is =
@@ -259,6 +270,7 @@ plan_on sizes chosen n first x y ended e go m is =
     ∙ (plan_goes m.word x.pool x.transfer.next (can_seek sizes chosen x go).go.busy (sym m.last ∙ e)
     ∙ (ap (after_steps 1) is ∙ one_step_more n first))
 
+-- the plan of a transfer that ended after so many steps
 pub plan_run : (sizes : Sizes) (chosen : Bool) (n : ℕ) (first : Numbers) (x y : Process) (ended : Bool) → ended ≡ true
     → IsSeeking sizes chosen x → SoughtOne sizes x ended y → x.pool.plan ≡ after_steps n first
     → PlanEnds first (n + 1) y.pool.plan
@@ -277,10 +289,12 @@ pub few_steps : (plan : Numbers) (n : ℕ) (ran : Numbers) → PlanEnds plan n r
 few_steps plan n ran (rests idle) = omega arith
 few_steps plan n ran (ends k found busy some within) = omega (arith, within)
 
+-- an ended transfer leaves the plan's bound
 pub same_bound : (plan : Numbers) (n : ℕ) (ran : Numbers) → PlanEnds plan n ran → ran.bound ≡ plan.bound
 same_bound plan n ran (rests idle) = refl
 same_bound plan n ran (ends k found busy some within) = (let (l, b, q) = end_sizes (after_steps k plan) found in b)
 
+-- so does a choice
 pub chosen_bound : (plan : Numbers) → (after_choice plan).bound ≡ plan.bound
 chosen_bound plan = (let (l, b, q) = choice_sizes plan in b)
 
@@ -327,19 +341,21 @@ ledger_there sizes words views history i w due here way =
 pub met_was_announced : (sizes : Sizes) (x : Process) → IsSeeking sizes false x → x.transfer.next ≢ Announce
 met_was_announced sizes x go =
     let d = due_there sizes (InCall Search) x.seat.view go.can in
-    let known = ledger_there x.seat.view.sizes go.can.among.words d.views d.history d.process (seeking false x) d.due (d.here ∙ go.view) refl in
+    let known = ledger_there x.seat.view.sizes go.can.among.words d.views d.history d.process (seeking false x) d.due
+    (d.here ∙ go.view) refl in
     (known.calls.choice refl).announced
 
 -- so its age stays in that transfer
 pub met_ages : (sizes : Sizes) (x : Process) → IsSeeking sizes false x → AgesWithin x.transfer.age x.transfer
 met_ages sizes x go = record { within = omega arith; announced = λ is. absurd (met_was_announced sizes x go is) }
 
+-- a begun transfer raises the age by one at most
 pub begun_ages : (t : TransferView) → AgesWithin (t.age + 1) t
 begun_ages t = record { within = omega arith; announced = λ _. omega arith }
 
 -- a search that finds no block had few unheld blocks after its process's last entry
-module _ (sizes : Sizes) (x : Process) (y : SeatView) (word : ℕ) (go : IsOwning sizes Search 0 x) (s : Stepped (InCall Search) x.seat.view word y)
-    (none : next_block x.pool ≡ None) where
+module _ (sizes : Sizes) (x : Process) (y : SeatView) (word : ℕ) (go : IsOwning sizes Search 0 x)
+    (s : Stepped (InCall Search) x.seat.view word y) (none : next_block x.pool ≡ None) where
   refused_number : x.transfer.number ≡ number_of x.seat.view.mind
   refused_number = sym (ap (λ (w : ProcessView). w.transfer.number) go.view) ∙ s.owner
 
@@ -374,6 +390,7 @@ module _ (sizes : Sizes) (x : Process) (y : SeatView) (word : ℕ) (go : IsOwnin
       search_had_few (limits_of v.sizes) (transfer_bound v.sizes) v.sizes.quantum m.held.history n known.ledger
       (shape_fits v.sizes due_now.table.shape) known.fits phase nothing
 
+-- a search that got nothing has its moment within its own call
 pub was_refused_now : (sizes : Sizes) (n : ℕ) (old : Seated SeatView) (x : Process) (new : Seated SeatView) (word : ℕ)
     → MovedOn old.view n x.seat.view → IsOwning sizes Search 0 x → Stepped (InCall Search) x.seat.view word new.view
     → next_block x.pool ≡ None → WasRefusedNow (pass_of old) (pass_of new)
@@ -411,6 +428,7 @@ searched_so sizes made before after x y got a f g called none is = record {
   dry = ((λ e. none.0 (is.0 e)), (λ e. is.1 (none.1 e)));
 }
 
+-- nothing is pending after a search
 pub search_rests : (sizes : Sizes) (made : Entry) (before after : ℕ) (x y : Process) → BetweenCalls sizes y
     → SearchCalled sizes made before after x y → (pass_of y.seat).plan.pending ≡ Idle
 search_rests sizes made before after x y g called =

@@ -49,6 +49,7 @@ pub seat_at : (sizes : Sizes) (x : Process) (f : BetweenCalls sizes x)
     → IsSeat x.seat.view.sizes f.among.words f.among.held.minds f.among.held.history f.among.views x.seat.view
 seat_at sizes x f = seat_of f.among.words f.among.views f.among.number x.seat.view f.among.held f.among.seated f.of_process
 
+-- a pass between two calls stands well
 pub stands : (sizes : Sizes) (x : Process) → BetweenCalls sizes x → StandsWell (pass_of x.seat)
 stands sizes x f =
     let v = x.seat.view in

@@ -1,5 +1,6 @@
 -- What a test knows of a pass that allocates again and again.
-use Rattle.std.proofs.Common.{◌≡◌, ℕ, ◌+◌, ◌*◌, ◌<◌, ◌≤◌, List, Option, refl, sym, ap, ◌∙◌, subst, inl, inr, arith, length, set, get_or, Some}
+use Rattle.std.proofs.Common.{◌≡◌, ℕ, ◌+◌, ◌*◌, ◌<◌, ◌≤◌, List, Option, refl, sym, ap, ◌∙◌, subst, inl, inr, arith, length, set, get_or}
+use Rattle.std.proofs.Common.{Some}
 use Rattle.std.specs.Prelude.{Contains, IfSome}
 use Rattle.std.proofs.lemmas.Option.{slice_get-get_or}
 use Rattle.std.proofs.lemmas.Bool.{cases_eq}
@@ -21,6 +22,7 @@ pub record HasCalled (pool : Pooled) (before now : Passed) (calls started steps 
   pub quantum : now.sizes.quantum ≤ 16
   pub ticks : steps ≤ started + 17 * calls
 
+-- before the first call none was made
 pub none_called : (pool : Pooled) (pass : Passed) (started : ℕ) → IsOf pool pass → pass.sizes.quantum ≤ 16
     → HasCalled pool pass pass 0 started started
 none_called pool pass started is_of quantum = record {
@@ -30,11 +32,17 @@ none_called pool pass started is_of quantum = record {
   ticks = omega arith;
 }
 
-pub one_called : (pool : Pooled) (before now after : Passed) (calls started steps ticked : ℕ) → HasCalled pool before now calls started steps
+-- one more call of at most 17 steps
+pub one_called : (pool : Pooled) (before now after : Passed) (calls started steps ticked : ℕ)
+    → HasCalled pool before now calls started steps
     → SamePass now after → ticked ≤ steps + 17
     → HasCalled pool before after (calls + 1) started ticked
 one_called pool before now after calls started steps ticked called same ticks = record {
-  same = record { table = same.table ∙ called.same.table; sizes = same.sizes ∙ called.same.sizes; number = same.number ∙ called.same.number };
+  same = record {
+    table = same.table ∙ called.same.table;
+    sizes = same.sizes ∙ called.same.sizes;
+    number = same.number ∙ called.same.number;
+  };
   is_of = record { table = same.table ∙ called.is_of.table; sizes = same.sizes ∙ called.is_of.sizes };
   quantum = let q = ap (λ (s : Sizes). s.quantum) same.sizes in let old = called.quantum in omega arith;
   ticks = omega (arith, called.ticks);

@@ -1,5 +1,6 @@
 -- what closing a pool asks of its passes, and what it leaves
-use Rattle.std.specs.Prelude.{◌≡◌, ℕ, zero, suc, ◌<◌, ◌==◌, if◌then◌else◌, Some, List, [], ◌∷◌, ◌++◌, length, take, slice_get, slice_set, count_by}
+use Rattle.std.specs.Prelude.{◌≡◌, ℕ, zero, suc, ◌<◌, ◌==◌, if◌then◌else◌, Some, List, [], ◌∷◌, ◌++◌, length, take, slice_get, slice_set}
+use Rattle.std.specs.Prelude.{count_by}
 use Rattle.std.specs.List.{All}
 use Rattle.word_layout.specs.Sizes.{Sizes, limits_of}
 use Rattle.pool_model.specs.declared.entry.Entry.{Entry}
@@ -22,6 +23,7 @@ pub record AreInOrder (pool : Pooled) (passes : List Passed) : Type 0 where
   pub many : length passes ≡ pool.sizes.processes
   pub each : (n : ℕ) (pass : Passed) → slice_get passes n ≡ Some pass → IsOf pool pass × (pass.number ≡ n)
 
+-- passes in the order of their processes are all passes of the pool, each once
 abbrev pub OrderedAreAll : Type 0
 OrderedAreAll = (pool : Pooled) (passes : List Passed) → AreInOrder pool passes → AreAllPasses pool passes
 
@@ -29,6 +31,7 @@ OrderedAreAll = (pool : Pooled) (passes : List Passed) → AreInOrder pool passe
 abbrev pub OpenedAreInOrder : Type 0
 OpenedAreInOrder = (pool : Pooled) (passes : List Passed) → AreOpenedPasses pool passes → AreInOrder pool passes
 
+-- a call with one of them keeps them in order
 abbrev pub CallsKeepOrder : Type 0
 CallsKeepOrder = (pool : Pooled) (passes : List Passed) (n : ℕ) (old new : Passed) → AreInOrder pool passes → slice_get passes n ≡ Some old
     → SamePass old new → AreInOrder pool (slice_set passes n new)

@@ -14,9 +14,11 @@ pub record Told : Type 0 where
   pub own : List Entry
   pub moves : ℕ
 
+-- what a mind tells
 abbrev pub told_by_mind : Mind → Told
 told_by_mind mind = record { number = number_of mind; seen = mind.seen; own = entries_in mind; moves = mind.moves }
 
+-- what a pass tells
 abbrev pub told_by_pass : Passed → Told
 told_by_pass pass = record { number = pass.number; seen = pass.seen; own = pass.own; moves = pass.moves }
 

@@ -42,6 +42,7 @@ pub record WasRefused (settled : Settlement) (x by : ℕ) : Type 0 where
   pub few : FewUnheld settled place
   pub many : 2 * settled.sizes.length ≤ length (grip (own (take x settled.history) by))
 
+-- each refusal in a settled history has its cause
 abbrev pub RefusalsHadCause : Settlement → Type 0
 RefusalsHadCause settled = (x by : ℕ) → slice_get settled.history x ≡ Some (Dry by) → WasRefused settled x by
 
@@ -58,8 +59,10 @@ pub record IsShort (quantum before after : ℕ) (old new : Passed) : Type 0 wher
   pub nine : quantum ≡ 8 → after ≤ before + 9
   pub alike : after + old.moves ≡ before + new.moves
 
+-- each call that is counted so is short
 abbrev pub CountedAreShort : Type 0
-CountedAreShort = (quantum before after : ℕ) (old new : Passed) → Counted quantum before after old new → IsShort quantum before after old new
+CountedAreShort = (quantum before after : ℕ) (old new : Passed) → Counted quantum before after old new
+    → IsShort quantum before after old new
 
 -- the blocks that the passes of a pool withhold together, in their private pools and in transit, are at most 5pl, wherever each stands
 abbrev pub PassesWithholdFew : Type 0

@@ -37,6 +37,7 @@ moving call n process =
 abbrev pub stage_after : ℕ → ℕ → CallStage
 stage_after most n = if n == most then Own else Moving
 
+-- in a call that has made so many steps of the transfer, of so many at most
 abbrev pub running : ℕ → Call → ℕ → Process → ProcessView
 running most call n process =
     record { transfer = process.transfer; pool = counted n process.pool; calls = calling (stage_after most n) call n }
@@ -63,6 +64,7 @@ abbrev pub transfer_begun : Option Wish → TransferView → TransferView
 transfer_begun None t = t
 transfer_begun (Some wish) t = begun wish t
 
+-- the private pool with the transfer begun, if there is one
 abbrev pub pool_begun_by : Option Wish → PoolView → PoolView
 pool_begun_by None pool = pool
 pool_begun_by (Some wish) pool = pool_begun wish pool

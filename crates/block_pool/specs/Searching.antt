@@ -62,6 +62,7 @@ seeking chosen process = record {
   calls = record { stage = Moving; call = Some Search; steps = 0; chosen = chosen; way = Calls };
 }
 
+-- a search is at a step of a transfer: of its own where it has chosen
 abbrev pub IsSeeking : Sizes → Bool → Process → Type 0
 IsSeeking sizes chosen process = CanGo sizes Search (seeking chosen process) process.seat.view
 

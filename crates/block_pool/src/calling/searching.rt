@@ -133,7 +133,8 @@ impl Process {
         requires room { steps.old + 2 * transfer_bound shape.now + 1 < 2 ^ 64 }
         requires young { self.old.transfer.age < most_age shape.now }
         ensures seat { SameSeat self.old.seat self.new.seat }
-        ensures called { (called : SearchCalled shape.now (entry_for (number_of self.old.seat.view.mind) result) steps.old steps.new self.old self.new)
+        ensures called { (called : SearchCalled shape.now
+            (entry_for (number_of self.old.seat.view.mind) result) steps.old steps.new self.old self.new)
             × ((result ≡ None) ↔ HasNoBlock called.ran) }
         ensures now { result ≡ None → WasRefusedNow (pass_of self.old.seat) (pass_of self.new.seat) }
         ensures between { BetweenCalls shape.now self.new }

@@ -15,10 +15,16 @@ take_head-requires-clause-act g c =
 
 pub returns-clause-made : goal.returns-clause-made
 returns-clause-made g c =
-    let pool : c.take_head.new.pool ≡ allocated c.act-word.result c.args.self.now.pool (source_of c.args.self.now.pool.plan) = search rules in
+    let pool : c.take_head.new.pool ≡ allocated c.act-word.result c.args.self.now.pool (source_of c.args.self.now.pool.plan) =
+    search rules in
     let block : c.first_block-block.result ≡ next_block c.args.self.now.pool = grind (arith, common_steps) in
     record {
-      made = record { word = c.act-word.result; stepped = c.act-word.ensures.step; transfer = search rules; pool = pool ∙ sym (getting_leaves _ c.args.self.now.pool _ c.requires.getting) };
+      made = record {
+        word = c.act-word.result;
+        stepped = c.act-word.ensures.step;
+        transfer = search rules;
+        pool = pool ∙ sym (getting_leaves _ c.args.self.now.pool _ c.requires.getting);
+      };
       block = block;
       plan = grind (arith, common_steps);
       none = gives_none c.args.self.now.pool _ block;

@@ -9,4 +9,5 @@ returns-then-eq-clause-plan g c = nothing_runs _ (search rules)
 pub returns-clause-age : goal.returns-clause-age
 returns-clause-age g c =
     let busy : c.args.self.now.pool.plan.pending ≢ Idle = search rules in
-    c.run_to_end.ensures.age _ (met_ages _ c.args.self.now (starts_seeking _ c.args.self.now c.requires.ready.between c.requires.young busy))
+    c.run_to_end.ensures.age _ (met_ages _ c.args.self.now
+    (starts_seeking _ c.args.self.now c.requires.ready.between c.requires.young busy))

@@ -64,7 +64,8 @@ is_closed_spec 𝓤 𝓛 𝓜 𝓡 wired =
     sets ! (of_opd ! (load ! (through ! refl (fld ! refl (stop !))) (look_in ! 2 (sub ! 0 refl (whole !))))) refl (tt, tt) $
     sets ! (bin ! (get ! refl) (lit ! tt) (tests_null (block_ptr b' o') t)) refl (tt, tt) $
     -- [what is kept; the handle; its cell; the open borrow, in three entries]
-    rewrite ! 0 (λ (p : Ptr). ‵ (boxed d.alloc p x)) (sym is) refl $ rewrite ! 0 (λ (m : Option Passed). ‵ (kept d.alloc d.at m)) (sym some) refl $
+    rewrite ! 0 (λ (p : Ptr). ‵ (boxed d.alloc p x)) (sym is) refl $
+    rewrite ! 0 (λ (m : Option Passed). ‵ (kept d.alloc d.at m)) (sym some) refl $
     rewrite ! 2 (λ (p : Ptr). Cell p h) (sym is) refl $
     pass_in ! d.alloc d.at d.member h $ move ! (1 ∷ []) $ closes ! tt Pass d (both (ptr_val d.at) h ∷ []) b o $
     returns ! (look_at ! 0 refl) $ free_all ! refl $ move ! (3 ∷ []) $
