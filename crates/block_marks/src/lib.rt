@@ -4,5 +4,7 @@
 #![tactic(auto)]
 
 mod marks;
+#[cfg(test)]
+mod tests;
 
 pub use marks::Marks;

@@ -126,10 +126,10 @@ fn a_refused_opening_leaves_nothing(rt: HostRuntime) -> Result<(), Fail> {
     let Ok(shape) = Shape::new(2, 4, 0) else {
         panic!(rt; "2 processes and 4 batches are refused");
     };
-    // `checks/openings` lets each allocation of the first opening fail in turn.
-    let opened = Pool::open(rt.alloc(), &shape).is_ok();
+    // `checks/openings` lets each allocation of the two openings fail in turn, and counts what is left on the heap.
+    let _ = Pool::open(rt.alloc(), &shape);
     let (pool, passes) = Pool::open(rt.alloc(), &shape)?;
     let settled = pool.finish(passes);
-    assert_eq!(rt; (opened, settled.processes(), settled.held()), (true, 2, 0));
+    assert_eq!(rt; (settled.processes(), settled.held()), (2, 0));
     Ok(())
 }

@@ -6,6 +6,8 @@
 
 mod member;
 mod opening;
+#[cfg(test)]
+mod tests;
 
 pub use member::{Freeing, Getting, Member, WordFault};
 pub use opening::{OpenFault, open};
