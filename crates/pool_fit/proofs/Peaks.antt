@@ -1,18 +1,13 @@
 -- What steps hold at most where no slot is refused.
-use Rattle.std.proofs.Common.{◌≡◌, ℕ, ◌+◌, zero, suc, false, not, List, [], ◌∷◌, length, take, replicate, refl, sym, ap, arith}
+use Rattle.std.proofs.Common.{◌≡◌, ℕ, ◌+◌, false, not, List, [], ◌∷◌, length, take, replicate, refl, sym, ap, arith}
 use Rattle.std.specs.List.{AllByRecursion}
 use Rattle.mtrace_reader.specs.declared.steps.Step.{Step}
 use Rattle.mtrace_reader.specs.declared.steps.Step.TheVariants.{Place, Leave}
 use Rattle.trace_player.proofs.Lists.{count_by_same, map_range_same}
-use Rattle.trace_player.specs.Tally.{empties, fills, greatest, holding, is_place, is_refused, peak_of}
+use Rattle.trace_player.proofs.Unrefused.{none_refused}
+use Rattle.trace_player.specs.Tally.{empties, fills, greatest, holding, is_place, peak_of}
 use Rattle.pool_fit.specs.Peaks.{is_leave}
 use Rattle.pool_fit.specs.Tides.{most_there, there}
-
--- refusals that are all false refuse no slot
-none_refused : (n slot : ℕ) → is_refused (replicate n false) slot ≡ false
-none_refused zero slot = refl
-none_refused (suc n) zero = refl
-none_refused (suc n) (suc slot) = none_refused n slot
 
 -- where no slot is refused, each Place fills one
 all_fill : (news : ℕ) (steps : List Step) → AllByRecursion (λ step. is_place step ≡ fills (replicate news false) step) steps

@@ -2,7 +2,7 @@
 ghost use Rattle.pool_fit.specs.Laws.{LeastPoolsRefuseNothing};
 
 /// A pool of a table, or one with more batches of the same length, refuses nothing, whatever its processes do: in all legal histories
-/// in which each process holds at most as many blocks as its script does where nothing is refused.
+/// in which the entries of each process are the calls for its trace's script.
 pub fn least_pools_refuse_nothing()
     ensures { LeastPoolsRefuseNothing }
 {}

@@ -13,3 +13,4 @@ pub mod Determined
 pub mod Whole
 pub mod Turns
 pub mod Reporting
+pub mod Unrefused
