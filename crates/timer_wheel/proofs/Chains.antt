@@ -1,5 +1,5 @@
 -- Chains of places: how one is cut and joined, and what another link makes of it.
-use Rattle.std.proofs.Common.{◌≡◌, ◌≢◌, ℕ, ◌+◌, ◌-◌, ◌<◌, ◌≤◌, ◌==◌, zero, suc}
+use Rattle.std.proofs.Common.{◌≡◌, ◌≢◌, ℕ, ◌+◌, ◌-◌, ◌<◌, ◌==◌}
 use Rattle.std.proofs.Common.{Bool, true, false, cond, Option, None, Some, List, [], ◌∷◌, ◌++◌}
 use Rattle.std.proofs.Common.{length, get_or, set, refl, sym, ap, subst, ◌∙◌, arith, ◌⊎◌, inl, inr}
 use Rattle.std.proofs.lemmas.Bool.{cases_lt, cases_eq}
@@ -11,7 +11,7 @@ use Rattle.timer_wheel.specs.declared.record.TimerRecord.{TimerRecord}
 use Rattle.timer_wheel.specs.declared.changes.Placed.{Placed}
 use Rattle.timer_wheel.specs.Places.{Places, Leads, Stands, first_led, last_link, object_at, record_of, relinked, with_next}
 use Rattle.timer_wheel.specs.Tables.{Each, AreDistinct}
-use Rattle.timer_wheel.proofs.Lists.{each_weaker, each_both, distinct_left}
+use Rattle.timer_wheel.proofs.Lists.{each_both}
 
 -- it stands at its place, whatever its link
 abbrev pub IsStanding : Places → Placed → Type 0

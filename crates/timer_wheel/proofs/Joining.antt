@@ -1,6 +1,6 @@
 -- A timer is put at a free place and at the end of its list: the places are a table with it.
-use Rattle.std.proofs.Common.{◌≡◌, ◌≢◌, ℕ, ◌+◌, ◌%◌, ◌<◌, ◌≤◌, ◌==◌, Bool, true, false, Option, None, Some, List, [], ◌∷◌, ◌++◌}
-use Rattle.std.proofs.Common.{length, get_or, set, filter, refl, sym, ap, subst, ◌∙◌, arith, ◌⊎◌, inl, inr, append-nil, length-append}
+use Rattle.std.proofs.Common.{◌≡◌, ◌≢◌, ℕ, ◌+◌, ◌<◌, ◌≤◌, ◌==◌, true, false, None, Some, List, [], ◌∷◌, ◌++◌}
+use Rattle.std.proofs.Common.{length, get_or, set, refl, sym, ap, subst, ◌∙◌, arith, ◌⊎◌, inl, inr, append-nil, length-append}
 use Rattle.std.specs.Prelude.{slice_index}
 use Rattle.std.proofs.lemmas.Bool.{cases_eq}
 use Rattle.std.proofs.lemmas.Bool.Decides.{nat_tests}
@@ -11,14 +11,16 @@ use Rattle.object_store.specs.Objects.{ObjectView}
 use Rattle.timer_wheel.specs.declared.record.TimerRecord.{TimerRecord}
 use Rattle.timer_wheel.specs.declared.changes.Placed.{Placed}
 use Rattle.timer_wheel.specs.declared.chain.Chain.{Chain}
+use Rattle.timer_wheel.specs.Backs.{LeadBack, AreBacks, backed}
 use Rattle.timer_wheel.specs.Places.{Places, Leads, Stands, IsChain, AreApart, ends_at, ends_joined, first_led, in_list, last_link, list_of}
 use Rattle.timer_wheel.specs.Places.{object_at, record_of, relinked}
 use Rattle.timer_wheel.specs.Serving.{IsFar}
-use Rattle.timer_wheel.specs.Tables.{Each, AreBelow, AreDistinct, AreFree, HasPlace, IsTable}
+use Rattle.timer_wheel.specs.Tables.{Each, AreBelow, AreFree, HasPlace, IsTable}
 use Rattle.timer_wheel.proofs.Lists.{each_weaker, each_both, each_passes, filter_first, filter_next, distinct_filter, distinct_push}
 use Rattle.timer_wheel.proofs.Chains.{IsStanding, within, leads_join, each_leads, leads_kept}
 use Rattle.timer_wheel.proofs.Chains.{other_due, placed_apart, last_of, last_append, led_on}
 use Rattle.timer_wheel.proofs.Chains.{relinked_other, relinked_length}
+use Rattle.timer_wheel.proofs.Backs.{back_kept, behind, behind_last, back_join, backed_at, backed_length}
 use Rattle.timer_wheel.proofs.Removing.{in_its_list, other_lists, was_linked, empty_linked}
 
 has_place_left : (a b : List Placed) (place : ℕ) → HasPlace a place → HasPlace (a ++ b) place
@@ -284,3 +286,39 @@ module _ (places : Places) (free : List ℕ) (lists : List Chain) (running : Lis
     | inl here ↦ λ same. ne (sym same ∙ sym here.1)
     | inr had ↦ λ same. far place had.1.0 had.1.1.0 (had.1.1.1 ∙ same)
   ]
+
+  -- the timer leads back to the one before it in its list, and the others as before
+  back_in : (backs : List ℕ) → AreBacks backs (length places) (length lists) running → (j : ℕ) → j < length lists
+      → LeadBack (set backs t.place last) 0 (in_list (length lists) j (running ++ t ∷ []))
+  back_in backs were j small =
+      let us = in_list (length lists) j running in
+      let its : IsChain places (ends_at lists j) us = table.chains j _ small in
+      let kept : LeadBack (set backs t.place last) 0 us =
+      back_kept backs 0 t.place last us
+      (each_weaker (IsStanding places) (λ s. s.place ≢ t.place) not_there us (each_leads places us (ends_at lists j).first 0 its.leads))
+      (were.each j small) in
+      elim (cases_eq j k) [
+        | inl e ↦
+            let joined_is : in_list (length lists) j (running ++ t ∷ []) ≡ us ++ t ∷ [] =
+            ap (λ (i : ℕ). in_list (length lists) i (running ++ t ∷ [])) e ∙ its_list
+            ∙ ap (λ (i : ℕ). in_list (length lists) i running ++ t ∷ []) (sym e) in
+            let last_is : last ≡ behind 0 us =
+            chain.last ∙ ap (λ (i : ℕ). last_link (in_list (length lists) i running)) (sym e) ∙ sym (behind_last us) in
+            subst (λ (l : List Placed). LeadBack (set backs t.place last) 0 l) (sym joined_is)
+            (back_join (set backs t.place last) 0 us (t ∷ []) kept
+            (get_or-set_same backs t.place last 0 (subst (λ (m : ℕ). t.place < m) (sym were.all) place_low) ∙ last_is, tt))
+        | inr ne ↦ subst (λ (l : List Placed). LeadBack (set backs t.place last) 0 l) (sym (other_list j ne)) kept
+      ]
+
+  -- so they are the links back with the timer
+  pub backs_started : (backs : List ℕ) → AreBacks backs (length places) (length lists) running
+      → AreBacks (backed (t.place + 1) last backs) (length joined) (length joined_lists) (running ++ t ∷ [])
+  backs_started backs were =
+      let at : backed (t.place + 1) last backs ≡ set backs t.place last = backed_at t.place (t.place + 1) last backs refl in
+      let same_lists : length joined_lists ≡ length lists = length-set lists k (ends_joined (t.place + 1) (ends_at lists k)) in
+      record {
+        all = backed_length (t.place + 1) last backs ∙ were.all ∙ sym joined_length;
+        each = λ j small. subst (λ (b : List ℕ). LeadBack b 0 (in_list (length joined_lists) j (running ++ t ∷ []))) (sym at)
+            (subst (λ (m : ℕ). LeadBack (set backs t.place last) 0 (in_list m j (running ++ t ∷ []))) (sym same_lists)
+            (back_in backs were j (subst (λ (m : ℕ). j < m) same_lists small)));
+      }

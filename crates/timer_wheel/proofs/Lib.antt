@@ -1,5 +1,6 @@
 pub mod Lists
 pub mod Chains
+pub mod Backs
 pub mod Removing
 pub mod Joining
 pub mod Serving
@@ -10,5 +11,6 @@ pub mod Viewing
 pub mod Removes
 pub mod Wheels
 pub mod Finding
+pub mod Hinting
 pub mod Turning
 pub mod Stops

@@ -1,6 +1,6 @@
 -- A removal: a timer is cut out of its list, and its object taken out of its place.
-use Rattle.std.proofs.Common.{◌≡◌, ◌≢◌, ℕ, ◌+◌, ◌-◌, ◌<◌, ◌≤◌, ◌==◌, None, Some}
-use Rattle.std.proofs.Common.{Option, List, [], ◌∷◌, ◌++◌, filter, length, set, get_or, refl, sym}
+use Rattle.std.proofs.Common.{◌≡◌, ℕ, ◌+◌, ◌-◌, ◌<◌, ◌≤◌, ◌==◌, None, Some}
+use Rattle.std.proofs.Common.{Option, List, ◌∷◌, ◌++◌, filter, length, set, sym}
 use Rattle.std.proofs.Common.{ap, subst, ◌∙◌, arith}
 use Rattle.block_pool.specs.Calls.{SamePass}
 use Rattle.block_pool.specs.Passing.{Passed}
@@ -10,14 +10,16 @@ use Rattle.timer_wheel.specs.declared.record.TimerRecord.{TimerRecord}
 use Rattle.timer_wheel.specs.declared.changes.Placed.{Placed}
 use Rattle.timer_wheel.specs.declared.chain.Chain.{Chain}
 use Rattle.timer_wheel.specs.declared.chain.Spot.{Spot}
-use Rattle.timer_wheel.specs.Places.{Places, AreApart, IsChain, Leads, Stands, ends_at, ends_cut, in_list, last_link, list_of, object_at}
+use Rattle.timer_wheel.specs.Backs.{AreBacks, backed}
+use Rattle.timer_wheel.specs.Places.{Places, AreApart, IsChain, Leads, Stands, ends_at, ends_cut, in_list, list_of, object_at}
 use Rattle.timer_wheel.specs.Places.{record_of, relinked}
-use Rattle.timer_wheel.specs.Serving.{AreHeld, Serves}
+use Rattle.timer_wheel.specs.Serving.{Serves}
 use Rattle.timer_wheel.specs.Spots.{GoesOn, IsSpot}
-use Rattle.timer_wheel.specs.Tables.{Each, IsTable}
+use Rattle.timer_wheel.specs.Tables.{IsTable}
 use Rattle.timer_wheel.proofs.Lists.{each_right, keep, some_before}
 use Rattle.timer_wheel.proofs.Chains.{IsStanding, each_leads, relinked_length, same_record, within}
-use Rattle.timer_wheel.proofs.Removing.{before_low, cut_stands, its_list, removed, rest_leads, was_linked}
+use Rattle.timer_wheel.proofs.Removing.{backs_removed, before_low, cut_stands, its_list, next_low, removed}
+use Rattle.timer_wheel.proofs.Removing.{rest_leads, was_linked}
 use Rattle.timer_wheel.proofs.Serving.{serves_both, serves_emptied, serves_most}
 
 -- another link leaves each object its own block
@@ -49,6 +51,11 @@ module _ (places : Places) (free : List ℕ) (lists : List Chain) (running : Lis
   -- the link before leads to a place, if to anything
   pub cut_low : spot.before ≤ length places
   cut_low = before_low places free lists running count (count - 1) table spot.list spot.before next is.front is.t is.rest is.is.list
+      is.is.chain is.is.before is.is.stands one
+
+  -- so does the link behind
+  pub cut_next : next ≤ length places
+  cut_next = next_low places free lists running count (count - 1) table spot.list spot.before next is.front is.t is.rest is.is.list
       is.is.chain is.is.before is.is.stands one
 
   -- the timer stands at its place still when it is cut out
@@ -92,6 +99,19 @@ module _ (places : Places) (free : List ℕ) (lists : List Chain) (running : Lis
         (set lists spot.list (ends_cut spot.before next (ends_at lists spot.list))) (filter (keep is.t.number) running) n) (sym count_is)
         (removed places free lists running count (count - 1) table spot.list spot.before next is.front is.t is.rest is.is.list
         is.is.chain is.is.before is.is.stands one)))))
+
+    -- they have links back without it
+    pub removed_backs : (backs backs' : List ℕ) → AreBacks backs (length places) (length lists) running
+        → backs' ≡ backed next spot.before backs → AreBacks backs' (length places') (length lists') running'
+    removed_backs backs backs' were linked =
+        let here = backs_removed places free lists running count (count - 1) table spot.list spot.before next is.front is.t is.rest
+        is.is.list is.is.chain is.is.before is.is.stands one backs were in
+        subst (λ (b : List ℕ). AreBacks b (length places') (length lists') running') (sym linked)
+        (subst (λ (p : Places). AreBacks (backed next spot.before backs) (length p) (length lists') running') (sym at_place)
+        (subst (λ (l : List Chain). AreBacks (backed next spot.before backs) (length (set cut_places is.t.place None)) (length l) running')
+        (sym lists_is)
+        (subst (λ (r : List Placed). AreBacks (backed next spot.before backs) (length (set cut_places is.t.place None))
+        (length (set lists spot.list (ends_cut spot.before next (ends_at lists spot.list)))) r) (sym kept_is) here)))
 
     -- whatever timers of its list stand around it, the walk goes on behind it
     pub removed_on : GoesOn spot places' (length lists) running running'

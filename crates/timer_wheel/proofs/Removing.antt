@@ -1,21 +1,24 @@
 -- A timer is taken out of its list and its place: the rest stays a table.
-use Rattle.std.proofs.Common.{◌≡◌, ◌≢◌, ℕ, ◌+◌, ◌-◌, ◌%◌, ◌<◌, ◌≤◌, ◌==◌, Bool, true, false, Option, None, Some, List, [], ◌∷◌, ◌++◌}
+use Rattle.std.proofs.Common.{◌≡◌, ◌≢◌, ℕ, ◌+◌, ◌%◌, ◌<◌, ◌≤◌, ◌==◌, Bool, true, Option, None, Some, List, [], ◌∷◌, ◌++◌}
 use Rattle.std.proofs.Common.{length, get_or, set, cond, filter, refl, sym, ap, subst, ◌∙◌, arith, ◌⊎◌, inl, inr, append-nil}
 use Rattle.std.specs.Prelude.{slice_index}
 use Rattle.std.proofs.lemmas.Bool.{cases_lt, cases_eq}
 use Rattle.std.proofs.lemmas.Bool.Decides.{nat_tests}
-use Rattle.std.proofs.lemmas.List.{get_or-set_same, get_or-set_other, get_or_past, get_or_default, length-set}
+use Rattle.std.proofs.lemmas.List.{get_or-set_same, get_or-set_other, get_or_past, length-set}
 use Rattle.std.proofs.lemmas.Option.{none-some, same_Some}
 use Rattle.object_store.specs.Objects.{ObjectView}
 use Rattle.timer_wheel.specs.declared.record.TimerRecord.{TimerRecord}
 use Rattle.timer_wheel.specs.declared.changes.Placed.{Placed}
 use Rattle.timer_wheel.specs.declared.chain.Chain.{Chain}
-use Rattle.timer_wheel.specs.Places.{Places, Leads, Stands, IsChain, AreApart, ends_at, ends_cut, first_led, in_list, last_link, list_of}
+use Rattle.timer_wheel.specs.Backs.{LeadBack, AreBacks, backed}
+use Rattle.timer_wheel.specs.Places.{Places, Leads, Stands, IsChain, ends_at, ends_cut, first_led, in_list, last_link, list_of}
 use Rattle.timer_wheel.specs.Places.{object_at, record_of, relinked, with_next}
 use Rattle.timer_wheel.specs.Tables.{Each, AreDistinct, AreFree, HasPlace, IsTable}
 use Rattle.timer_wheel.proofs.Lists.{each_left, each_right, each_weaker, each_both, each_filter, each_passes, filter_swap, filter_split}
-use Rattle.timer_wheel.proofs.Lists.{distinct_filter, distinct_left, distinct_across, distinct_before, distinct_behind, keep, kept_others}
+use Rattle.timer_wheel.proofs.Lists.{distinct_filter, distinct_left, distinct_right, distinct_across, distinct_before, distinct_behind}
+use Rattle.timer_wheel.proofs.Lists.{keep, kept_others}
 use Rattle.timer_wheel.proofs.Lists.{without_one, each_other, one_fewer, other_passes, same_fails}
+use Rattle.timer_wheel.proofs.Backs.{back_kept, behind, behind_last, back_split, back_join, back_first, backed_at, backed_length}
 use Rattle.timer_wheel.proofs.Chains.{IsStanding, leads_split, leads_join, each_leads}
 use Rattle.timer_wheel.proofs.Chains.{leads_kept, within, same_record, other_number, other_due}
 use Rattle.timer_wheel.proofs.Chains.{ArePlacedApart, placed_apart, last_of, last_append}
@@ -374,4 +377,78 @@ module _ (places : Places) (free : List ℕ) (lists : List Chain) (running : Lis
             omega (arith, all, fewer, one, table.many);
         few = subst (λ (m : ℕ). left ≤ m) (sym emptied_length) (omega (arith, one, table.few));
         frees = are_free;
+      }
+
+  -- the link on leads to a place, if to anything
+  pub next_low : next ≤ length places
+  next_low = low_in rest rest_leads
+    where
+      low_in : (back : List Placed) → Leads emptied next back 0 → next ≤ length places
+      low_in [] l = omega (arith, l)
+      low_in (r ∷ rs) l = omega (arith, l.0, within emptied r.place _ l.1.1.0.at, emptied_length)
+
+  -- those of its list lead back without it
+  its_backs : (backs : List ℕ) → AreBacks backs (length places) (length lists) running → (back : List Placed) → rest ≡ back
+      → Leads emptied next back 0 → LeadBack (backed next before backs) 0 (front ++ back)
+  its_backs backs were back is leads = by back is leads
+    where
+      split : LeadBack backs 0 front × LeadBack backs (behind 0 front) (t ∷ rest)
+      split = back_split backs 0 front (t ∷ rest) (subst (LeadBack backs 0) chain (were.each k low))
+
+      by : (back : List Placed) → rest ≡ back → Leads emptied next back 0 → LeadBack (backed next before backs) 0 (front ++ back)
+      by [] is leads =
+          subst (λ (b : List ℕ). LeadBack b 0 (front ++ [])) (sym (ap (λ (m : ℕ). backed m before backs) leads))
+          (subst (LeadBack backs 0) (sym (append-nil front)) split.0)
+      by (r ∷ rs) is leads =
+          let behind_it = (each_right (IsStanding places) front (t ∷ rest) standing).1 in
+          let stand : Each (IsStanding places) (r ∷ rs) = subst (Each (IsStanding places)) is behind_it in
+          let front_apart : Each (λ s. s.place ≢ r.place) front =
+          each_both (IsStanding places) (λ u. Each (λ s. s.number ≢ u.number) (t ∷ rest)) (λ s. s.place ≢ r.place)
+          (λ s at each. other_number places s r at stand.0
+          (λ same. (subst (Each (λ v. v.number ≢ s.number)) is each.1).0 (sym same)))
+          front (each_left (IsStanding places) front (t ∷ rest) standing) (distinct_across front (t ∷ rest) distinct) in
+          let apart : ArePlacedApart (r ∷ rs) =
+          placed_apart places (r ∷ rs) (subst AreDistinct is (distinct_right front (t ∷ rest) distinct).1) stand in
+          subst (λ (b : List ℕ). LeadBack b 0 (front ++ r ∷ rs)) (sym (backed_at r.place next before backs leads.0))
+          (back_join (set backs r.place before) 0 front (r ∷ rs) (back_kept backs 0 r.place before front front_apart split.0)
+          (subst (λ (b : ℕ). LeadBack (set backs r.place before) b (r ∷ rs)) (led ∙ sym (behind_last front))
+          (back_first backs (t.place + 1) before r rs
+          (subst (λ (m : ℕ). r.place < m) (sym were.all) (within places r.place _ stand.0.1.at)) apart.0
+          (subst (LeadBack backs (t.place + 1)) is split.1.1))))
+
+  -- those of another one as before
+  other_backs : (backs : List ℕ) → AreBacks backs (length places) (length lists) running → (j : ℕ) → j < length lists → j ≢ k
+      → (back : List Placed) → rest ≡ back → Leads emptied next back 0
+      → LeadBack (backed next before backs) 0 (in_list (length lists) j running)
+  other_backs backs were j small ne [] is leads =
+      subst (λ (b : List ℕ). LeadBack b 0 (in_list (length lists) j running)) (sym (ap (λ (m : ℕ). backed m before backs) leads))
+      (were.each j small)
+  other_backs backs were j small ne (r ∷ rs) is leads =
+      let us = in_list (length lists) j running in
+      let its : IsChain places (ends_at lists j) us = table.chains j _ small in
+      let stand : Each (IsStanding places) (r ∷ rs) =
+      subst (Each (IsStanding places)) is (each_right (IsStanding places) front (t ∷ rest) standing).1 in
+      let of_list : Each (λ s. list_of (length lists) s ≡ k) (r ∷ rs) =
+      subst (Each (λ s. list_of (length lists) s ≡ k)) is (each_right (λ s. list_of (length lists) s ≡ k) front (t ∷ rest) listed).1 in
+      subst (λ (b : List ℕ). LeadBack b 0 us) (sym (backed_at r.place next before backs leads.0))
+      (back_kept backs 0 r.place before us
+      (each_both (IsStanding places) (λ s. list_of (length lists) s ≡ j) (λ s. s.place ≢ r.place)
+      (λ s at of_its. other_due places s r at stand.0 (other_lists (length lists) j k s r of_its of_list.0 ne))
+      us (each_leads places us (ends_at lists j).first 0 its.leads) (listed_in j))
+      (were.each j small))
+
+  -- so they are the links back without the timer
+  pub backs_removed : (backs : List ℕ) → AreBacks backs (length places) (length lists) running
+      → AreBacks (backed next before backs) (length emptied) (length cut_lists) kept
+  backs_removed backs were =
+      let same_lists : length cut_lists ≡ length lists = length-set lists k (ends_cut before next (ends_at lists k)) in
+      record {
+        all = backed_length next before backs ∙ were.all ∙ sym emptied_length;
+        each = λ j small. subst (λ (m : ℕ). LeadBack (backed next before backs) 0 (in_list m j kept)) (sym same_lists)
+            (elim (cases_eq j k) [
+              | inl e ↦ subst (LeadBack (backed next before backs) 0)
+                  (sym (ap (λ (i : ℕ). in_list (length lists) i kept) e ∙ its_list)) (its_backs backs were rest refl rest_leads)
+              | inr ne ↦ subst (LeadBack (backed next before backs) 0) (sym (other_list j ne))
+                  (other_backs backs were j (subst (λ (m : ℕ). j < m) same_lists small) ne rest refl rest_leads)
+            ]);
       }

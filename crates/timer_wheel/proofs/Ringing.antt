@@ -1,18 +1,18 @@
 -- A walk along the list of a moment, which takes out the timers that are due.
-use Rattle.std.proofs.Common.{◌≡◌, ◌≢◌, ℕ, suc, ◌+◌, ◌-◌, ◌*◌, ◌%◌, ◌<◌, ◌≤◌, ◌==◌}
+use Rattle.std.proofs.Common.{◌≡◌, ◌≢◌, ℕ, suc, ◌+◌, ◌-◌, ◌%◌, ◌<◌, ◌≤◌, ◌==◌}
 use Rattle.std.proofs.Common.{◌⊎◌, inl, inr, Bool, true, false, not, cond, List, [], ◌∷◌, ◌++◌}
 use Rattle.std.proofs.Common.{length, filter, map, get_or, set, drop, drop-cons, refl}
-use Rattle.std.proofs.Common.{sym, ap, subst, ◌∙◌, arith, length-append, append_assoc, append-nil}
+use Rattle.std.proofs.Common.{sym, ap, subst, ◌∙◌, arith, length-append, append_assoc}
 use Rattle.std.proofs.lemmas.Bool.{false≢true}
 use Rattle.std.proofs.lemmas.Bool.Decides.{nat_tests}
 use Rattle.std.proofs.lemmas.List.{length-map}
 use Rattle.std.proofs.lemmas.List.Sums.{length-filter, count_by-le-length}
 use Rattle.timer_wheel.specs.declared.record.TimerRecord.{TimerRecord}
 use Rattle.timer_wheel.specs.declared.changes.Placed.{Placed}
-use Rattle.timer_wheel.specs.Places.{Places, Leads, in_list, last_link, list_of, record_of}
+use Rattle.timer_wheel.specs.Places.{Places, Leads, in_list, last_link, list_of}
 use Rattle.timer_wheel.specs.Ringing.{due_at, not_due_at, rung_at}
 use Rattle.timer_wheel.specs.Tables.{Each, AreDistinct}
-use Rattle.timer_wheel.proofs.Lists.{each_weaker, each_both, each_filter, each_passes, filter_first, filter_next, filter_none, filter_swap}
+use Rattle.timer_wheel.proofs.Lists.{each_both, each_filter, each_passes, filter_first, filter_next, filter_swap}
 use Rattle.timer_wheel.proofs.Lists.{filter_split, distinct_filter, distinct_behind, each_other, keep, kept_others, same_fails}
 use Rattle.timer_wheel.proofs.Walking.{WalksTo, Meets, walk_goes}
 

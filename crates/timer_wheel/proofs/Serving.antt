@@ -1,21 +1,21 @@
 -- What the parts of a call do to the pass, one after the other.
-use Rattle.std.proofs.Common.{◌≡◌, ◌≢◌, ℕ, ◌+◌, ◌-◌, ◌<◌, ◌≤◌, Option, None, Some, List, []}
-use Rattle.std.proofs.Common.{◌∷◌, ◌++◌, length, get_or, set, take, drop, refl, sym, ap, subst, ◌∙◌}
+use Rattle.std.proofs.Common.{◌≡◌, ◌≢◌, ℕ, ◌+◌, ◌-◌, ◌<◌, ◌≤◌, None, Some, List}
+use Rattle.std.proofs.Common.{◌∷◌, ◌++◌, length, set, take, drop, refl, sym, ap, subst, ◌∙◌}
 use Rattle.std.proofs.Common.{arith, inl, inr}
 use Rattle.std.specs.Prelude.{Contains}
 use Rattle.std.proofs.lemmas.Bool.{cases_eq}
 use Rattle.std.proofs.lemmas.List.{get_or-set_same, get_or-set_other, take-append-le, take_all}
 use Rattle.std.proofs.lemmas.Option.{none-some, same_Some}
-use Rattle.pool_table.specs.Minds.{KnownWord, known_in}
+use Rattle.pool_table.specs.Minds.{KnownWord}
 use Rattle.block_pool.specs.Calls.{SamePass}
-use Rattle.block_pool.specs.Passing.{Passed, HasAge, IsOf, Pooled}
+use Rattle.block_pool.specs.Passing.{Passed, IsOf, Pooled}
 use Rattle.object_store.specs.Calls.{CountedWithin, KeepsOthers}
 use Rattle.object_store.specs.Objects.{HoldsWords, ObjectView}
 use Rattle.timer_wheel.specs.declared.record.TimerRecord.{TimerRecord}
 use Rattle.timer_wheel.specs.Places.{Places, AreApart, object_at, relinked, with_next}
 use Rattle.timer_wheel.specs.Serving.{AreHeld, IsFar, LeavesFar, Serves}
 use Rattle.timer_wheel.specs.Views.{words_of}
-use Rattle.timer_wheel.proofs.Chains.{relinked_other, relinked_at, relinked_some, within}
+use Rattle.timer_wheel.proofs.Chains.{relinked_other, relinked_at, within}
 use Rattle.timer_wheel.proofs.Removing.{was_linked}
 
 -- ---- one part after the other

@@ -1,9 +1,9 @@
 -- A start: a new object at a free place, and its timer at the end of its list.
-use Rattle.std.proofs.Common.{◌≡◌, ◌≢◌, ℕ, ◌+◌, ◌%◌, ◌<◌, ◌≤◌, None, Some, Option, List}
-use Rattle.std.proofs.Common.{[], ◌∷◌, ◌++◌, length, set, get_or, refl, sym, ap, subst, ◌∙◌, arith}
+use Rattle.std.proofs.Common.{◌≡◌, ◌≢◌, ℕ, ◌+◌, ◌%◌, ◌<◌, ◌≤◌, Some, List}
+use Rattle.std.proofs.Common.{[], ◌∷◌, ◌++◌, length, set, get_or, sym, ap, subst, ◌∙◌, arith}
 use Rattle.std.specs.Prelude.{slice_index, Contains}
 use Rattle.std.proofs.lemmas.Nat.{mod_below}
-use Rattle.std.proofs.lemmas.List.{get_or_default}
+use Rattle.std.proofs.lemmas.List.{get_or_default, length-set}
 use Rattle.pool_model.specs.declared.entry.Entry.TheVariants as entry
 use Rattle.block_pool.specs.Calls.{Entered, SamePass}
 use Rattle.block_pool.specs.Passing.{Passed}
@@ -13,11 +13,12 @@ use Rattle.object_store.specs.Putting.{IsStored}
 use Rattle.timer_wheel.specs.declared.record.TimerRecord.{TimerRecord}
 use Rattle.timer_wheel.specs.declared.changes.Placed.{Placed}
 use Rattle.timer_wheel.specs.declared.chain.Chain.{Chain}
+use Rattle.timer_wheel.specs.Backs.{AreBacks, backed}
 use Rattle.timer_wheel.specs.Places.{Places, AreApart, ends_at, ends_joined, list_of, object_at, record_of, relinked}
 use Rattle.timer_wheel.specs.Serving.{AreHeld, IsFar, Serves}
 use Rattle.timer_wheel.specs.Tables.{AreBelow, IsTable}
 use Rattle.timer_wheel.specs.Views.{words_of}
-use Rattle.timer_wheel.proofs.Joining.{apart_filled, last_low, started, joined_length}
+use Rattle.timer_wheel.proofs.Joining.{apart_filled, backs_started, last_low, started, joined_length}
 use Rattle.timer_wheel.proofs.Serving.{counted_most, serves_filled, serves_both, serves_most}
 
 -- a block that the pass didn't hold is none of the places'
@@ -103,6 +104,28 @@ module _ (places : Places) (free : List ℕ) (lists : List Chain) (running : Lis
         (set places place (Some object))) free
         (set lists (timer.due % length lists) (ends_joined (place + 1) (ends_at lists (timer.due % length lists)))) (running ++ t ∷ []) n)
         (sym count_is) (started places free lists running count table t object is more at fresh below low)))))
+
+    -- they have links back with it
+    pub put_backs : (backs backs' : List ℕ) → AreBacks backs (length places) (length lists) running
+        → backs' ≡ backed (place + 1) (ends_at lists list).last backs → AreBacks backs' (length places') (length lists') running'
+    put_backs backs backs' were linked =
+        let here = backs_started places free lists running count table t object is more at fresh below low backs were in
+        let is_now : backs' ≡ backed (place + 1) (ends_at lists (timer.due % length lists)).last backs
+        = linked ∙ ap (λ (l : ℕ). backed (place + 1) (ends_at lists l).last backs) list_is in
+        let many : length lists' ≡ length lists =
+        ap length lists_is ∙ length-set lists list (ends_joined (place + 1) (ends_at lists list)) in
+        let same : length (set lists (timer.due % length lists) (ends_joined (place + 1) (ends_at lists (timer.due % length lists))))
+        ≡ length lists =
+        length-set lists (timer.due % length lists) (ends_joined (place + 1) (ends_at lists (timer.due % length lists))) in
+        subst (λ (b : List ℕ). AreBacks b (length places') (length lists') running') (sym is_now)
+        (subst (λ (p : Places). AreBacks (backed (place + 1) (ends_at lists (timer.due % length lists)).last backs) (length p)
+        (length lists') running') (sym joined_is)
+        (subst (λ (r : List Placed). AreBacks (backed (place + 1) (ends_at lists (timer.due % length lists)).last backs)
+        (length (relinked (ends_at lists (timer.due % length lists)).last (place + 1) (set places place (Some object))))
+        (length lists') r) (sym running_is)
+        (subst (λ (m : ℕ). AreBacks (backed (place + 1) (ends_at lists (timer.due % length lists)).last backs)
+        (length (relinked (ends_at lists (timer.due % length lists)).last (place + 1) (set places place (Some object))))
+        m (running ++ t ∷ [])) (same ∙ sym many) here)))
 
 -- the put and the link behind it
 pub serves_start : (quantum s u v count count' : ℕ) (P Q R : Places) (a b c : Passed) → Serves (quantum + 5) 1 s u P Q count (count + 1) a b

@@ -1,7 +1,5 @@
 -- A stop: a search, and a removal behind it.
-use Rattle.std.proofs.Common.{◌≡◌, ℕ, ◌+◌, ◌*◌, ◌≤◌, List, sym, ap, subst, ◌∙◌, arith}
-use Rattle.std.specs.Prelude.{Contains}
-use Rattle.pool_table.specs.Minds.{known_in}
+use Rattle.std.proofs.Common.{◌≡◌, ℕ, ◌+◌, ◌*◌, ◌≤◌, subst, arith}
 use Rattle.block_pool.specs.Passing.{Passed}
 use Rattle.object_store.specs.Calls.{CountedWithin}
 use Rattle.timer_wheel.specs.Places.{Places}

@@ -1,5 +1,5 @@
 -- A walk along a list, in search of a number.
-use Rattle.std.proofs.Common.{◌≡◌, ◌≢◌, ℕ, ◌+◌, ◌-◌, ◌*◌, ◌<◌, ◌≤◌, Option, None}
+use Rattle.std.proofs.Common.{◌≡◌, ◌≢◌, ℕ, ◌+◌, ◌-◌, ◌*◌, ◌<◌, ◌≤◌, None}
 use Rattle.std.proofs.Common.{Some, List, [], ◌∷◌, ◌++◌, option_map, length, refl, sym, ap, subst}
 use Rattle.std.proofs.Common.{◌∙◌, arith, length-append, append_assoc, append-nil}
 use Rattle.std.proofs.lemmas.Option.{none-some, same_Some}
@@ -10,10 +10,8 @@ use Rattle.timer_wheel.specs.declared.record.TimerRecord.{TimerRecord}
 use Rattle.timer_wheel.specs.declared.changes.Placed.{Placed}
 use Rattle.timer_wheel.specs.declared.chain.Chain.{Chain}
 use Rattle.timer_wheel.specs.declared.chain.Spot.{Spot}
-use Rattle.timer_wheel.specs.Places.{Places, IsChain, Leads, Stands, in_list, last_link, object_at, record_of, value_at}
-use Rattle.timer_wheel.specs.Serving.{steps_of}
+use Rattle.timer_wheel.specs.Places.{Places, IsChain, Leads, Stands, in_list, last_link, record_of, value_at}
 use Rattle.timer_wheel.specs.Spots.{HaveNot, IsSpot}
-use Rattle.timer_wheel.specs.Tables.{Each}
 use Rattle.timer_wheel.proofs.Lists.{each_append}
 use Rattle.timer_wheel.proofs.Chains.{last_append}
 

@@ -1,6 +1,6 @@
 -- What a wheel keeps, after each of its calls.
 use Rattle.std.proofs.Common.{◌≡◌, ◌≢◌, ℕ, ◌+◌, ◌<◌, ◌≤◌, ◌==◌, Bool, true, false}
-use Rattle.std.proofs.Common.{not, cond, Option, None, Some, List, [], ◌∷◌, ◌++◌, length}
+use Rattle.std.proofs.Common.{not, cond, None, Some, List, [], ◌∷◌, ◌++◌, length}
 use Rattle.std.proofs.Common.{filter, map, option_map, refl, sym, ap, subst, ◌∙◌, arith}
 use Rattle.std.specs.List.{find}
 use Rattle.std.proofs.lemmas.Bool.{false≢true}
@@ -13,11 +13,12 @@ use Rattle.timer_wheel.specs.declared.changes.Change.TheVariants.{Began, Ended}
 use Rattle.timer_wheel.specs.declared.chain.Chain.{Chain}
 use Rattle.timer_wheel.specs.declared.chain.Spot.{Spot}
 use Rattle.timer_wheel.specs.declared.record.TimerRecord.{TimerRecord}
+use Rattle.timer_wheel.specs.Backs.{AreBacks}
 use Rattle.timer_wheel.specs.Places.{Places, list_of, running_after, running_of, timer_of}
 use Rattle.timer_wheel.specs.Ringing.{due_at, not_due_at, rung_at}
 use Rattle.timer_wheel.specs.Spots.{HaveNot, IsSpot}
 use Rattle.timer_wheel.specs.Timers.{Timer, has_number, is_due}
-use Rattle.timer_wheel.specs.Tables.{AreBelow, AreDistinct, Each, IsSmall, IsTable, IsWheel}
+use Rattle.timer_wheel.specs.Tables.{AreBelow, AreDistinct, IsSmall, IsTable, IsWheel}
 use Rattle.timer_wheel.proofs.Lists.{each_append, each_right, each_weaker, filter_split, keep, kept_others, some_before}
 
 -- one timer more began to run
@@ -31,12 +32,14 @@ small_stays P Q lists later room many small =
     record { room = omega (arith, room, small.room); few = omega (arith, many, small.few) }
 
 -- what a wheel keeps with one timer more
-pub wheel_started : (P Q : Places) (free free' : List ℕ) (lists lists' : List Chain) (old new : List Change) (count count' started : ℕ)
-    (t : Placed) → IsWheel P free lists (running_of old) count started → IsTable Q free' lists' (running_of new) count'
+pub wheel_started : (P Q : Places) (free free' : List ℕ) (lists lists' : List Chain) (backs backs' : List ℕ) (old new : List Change)
+    (count count' started : ℕ) (t : Placed) → IsWheel P free lists backs (running_of old) count started
+    → IsTable Q free' lists' (running_of new) count' → AreBacks backs' (length Q) (length lists') (running_of new)
     → length Q ≡ length P → length lists' ≡ length lists → new ≡ old ++ Began t ∷ [] → t.number ≡ started
-    → IsWheel Q free' lists' (running_of new) count' (started + 1)
-wheel_started P Q free free' lists lists' old new count count' started t wheel table room many began number = record {
+    → IsWheel Q free' lists' backs' (running_of new) count' (started + 1)
+wheel_started P Q free free' lists lists' backs backs' old new count count' started t wheel table back room many began number = record {
   table = table;
+  back = back;
   small = small_stays P Q lists lists' room many wheel.small;
   below = subst (AreBelow (started + 1)) (sym (running_began old new t began))
       (each_append (λ u. u.number < started + 1) (running_of old) (t ∷ [])
@@ -147,12 +150,13 @@ spot_found places lists number running spot distinct is e =
     ∙ there ∙ ap Some payload_is
 
 -- what a wheel keeps where timers only end
-pub wheel_ended : (P Q : Places) (free free' : List ℕ) (lists lists' : List Chain) (was running : List Placed) (count count' started : ℕ)
-    → IsWheel P free lists was count started → IsTable Q free' lists' running count'
+pub wheel_ended : (P Q : Places) (free free' : List ℕ) (lists lists' : List Chain) (backs backs' : List ℕ) (was running : List Placed)
+    (count count' started : ℕ) → IsWheel P free lists backs was count started → IsTable Q free' lists' running count'
+    → AreBacks backs' (length Q) (length lists') running
     → length Q ≡ length P → length lists' ≡ length lists → AreBelow started running
-    → IsWheel Q free' lists' running count' started
-wheel_ended P Q free free' lists lists' was running count count' started wheel table room many below =
-    record { table = table; small = small_stays P Q lists lists' room many wheel.small; below = below }
+    → IsWheel Q free' lists' backs' running count' started
+wheel_ended P Q free free' lists lists' backs backs' was running count count' started wheel table back room many below =
+    record { table = table; back = back; small = small_stays P Q lists lists' room many wheel.small; below = below }
 
 -- as many run as are counted
 pub runs_all : (P : Places) (free : List ℕ) (lists : List Chain) (running : List Placed) (count : ℕ) → IsTable P free lists running count

@@ -3,6 +3,7 @@ pub mod Timers
 pub mod Views
 pub mod Starting
 pub mod Places
+pub mod Backs
 pub mod Tables
 pub mod Serving
 pub mod Spots

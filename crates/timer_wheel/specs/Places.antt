@@ -1,5 +1,5 @@
 -- The places of a wheel, its timers at them, and the lists in which these stand.
-use Rattle.std.specs.Prelude.{◌≡◌, ◌≢◌, ℕ, ◌+◌, ◌-◌, ◌%◌, ◌==◌, if◌then◌else◌, Bool, Option, None, Some, List, [], ◌∷◌}
+use Rattle.std.specs.Prelude.{◌≡◌, ℕ, ◌+◌, ◌-◌, ◌%◌, ◌==◌, if◌then◌else◌, Option, None, Some, List, [], ◌∷◌}
 use Rattle.std.specs.Prelude.{◌++◌, filter, fold, not, option_map, slice_index_or, slice_set}
 use Rattle.object_store.specs.Objects.{ObjectView}
 use Rattle.timer_wheel.specs.declared.record.TimerRecord.{TimerRecord}

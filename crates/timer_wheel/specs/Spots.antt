@@ -1,5 +1,5 @@
 -- Where a timer is found, and what its removal leaves.
-use Rattle.std.specs.Prelude.{◌≡◌, ◌≢◌, ℕ, ◌+◌, ◌<◌, Option, None, Some, List, [], ◌∷◌, ◌++◌}
+use Rattle.std.specs.Prelude.{◌≡◌, ◌≢◌, ℕ, ◌<◌, Option, None, Some, List, [], ◌∷◌, ◌++◌}
 use Rattle.timer_wheel.specs.declared.record.TimerRecord.{TimerRecord}
 use Rattle.timer_wheel.specs.declared.changes.Placed.{Placed}
 use Rattle.timer_wheel.specs.declared.changes.Change.{Change}
@@ -30,6 +30,11 @@ pub record IsSpot (places : Places) (lists : ℕ) (running : List Placed) (spot 
 -- none of the timers has the number
 abbrev pub HaveNot : ℕ → List Placed → Type 0
 HaveNot number running = Each (λ t. t.number ≢ number) running
+
+-- the record, if there is one, has the number
+abbrev pub HasNumber : ℕ → Option TimerRecord → Type 0
+HasNumber number None = ⊥
+HasNumber number (Some timer) = timer.number ≡ number
 
 -- the spot of the timer with this number in a list, and none where no timer of the list has it
 abbrev pub FoundIn : ℕ → Places → ℕ → ℕ → List Placed → Option Spot → Type 0

@@ -4,6 +4,7 @@ use Rattle.object_store.specs.Objects.{ObjectView}
 use Rattle.timer_wheel.specs.declared.record.TimerRecord.{TimerRecord}
 use Rattle.timer_wheel.specs.declared.changes.Placed.{Placed}
 use Rattle.timer_wheel.specs.declared.chain.Chain.{Chain}
+use Rattle.timer_wheel.specs.Backs.{AreBacks}
 use Rattle.timer_wheel.specs.Places.{Places, IsChain, AreApart, in_list, object_at}
 
 -- a fact of each of some timers
@@ -48,8 +49,10 @@ pub record IsSmall (places : Places) (lists : List Chain) : Type 0 where
 abbrev pub AreBelow : ℕ → List Placed → Type 0
 AreBelow started running = Each (λ t. t.number < started) running
 
--- what a wheel keeps: a table of its timers, whose numbers are below the next one, within its limits
-pub record IsWheel (places : Places) (free : List ℕ) (lists : List Chain) (running : List Placed) (count started : ℕ) : Type 0 where
+-- what a wheel keeps: a table of its timers, with links back, whose numbers are below the next one, within its limits
+pub record IsWheel (places : Places) (free : List ℕ) (lists : List Chain) (backs : List ℕ) (running : List Placed)
+    (count started : ℕ) : Type 0 where
   pub table : IsTable places free lists running count
+  pub back : AreBacks backs (length places) (length lists) running
   pub small : IsSmall places lists
   pub below : AreBelow started running

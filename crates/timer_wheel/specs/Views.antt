@@ -23,10 +23,11 @@ HoldsAll objects pass = All (λ object. HoldsWords 4 (words_of object.value) obj
 abbrev pub IsElse : List (ObjectView TimerRecord) → ℕ → Type 0
 IsElse objects block = All (λ object. object.block ≢ block) objects
 
--- every other block that the pass held it still holds, and knows its words as before
-pub record KeepsElse (objects : List (ObjectView TimerRecord)) (old new : Passed) : Type 0 where
-  pub held : (other : ℕ) → IsElse objects other → Contains old.held other → Contains new.held other
-  pub known : (other : ℕ) → IsElse objects other → Contains old.held other
+-- every other block that the pass held it still holds, with its known words as before, and it is none of the later objects' either
+pub record KeepsElse (before after : List (ObjectView TimerRecord)) (old new : Passed) : Type 0 where
+  pub apart : (other : ℕ) → IsElse before other → Contains old.held other → IsElse after other
+  pub held : (other : ℕ) → IsElse before other → Contains old.held other → Contains new.held other
+  pub known : (other : ℕ) → IsElse before other → Contains old.held other
       → (index : ℕ) → known_in new.known other index ≡ known_in old.known other index
 
 -- the pass holds as many blocks more or fewer as timers run more or fewer

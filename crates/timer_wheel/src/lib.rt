@@ -10,6 +10,8 @@ mod key;
 mod record;
 mod steps;
 mod table;
+#[cfg(test)]
+mod tests;
 mod wheel;
 
 pub use key::{Key, Started};

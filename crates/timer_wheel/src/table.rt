@@ -1,15 +1,16 @@
 // The timers of a wheel at their places, and the lists in which they stand.
-ghost use Rattle.std.specs.Prelude.{◌≡◌, ◌≢◌, ◌↔◌, ◌+◌, ◌*◌, ◌%◌, ◌≤◌, ◌<◌, ◌^◌, ◌++◌, ◌∷◌, ℕ, None, IfOk, IfSome, [], length};
+ghost use Rattle.std.specs.Prelude.{◌≡◌, ◌↔◌, ◌+◌, ◌*◌, ◌%◌, ◌≤◌, ◌<◌, ◌^◌, ◌++◌, ◌∷◌, ℕ, None, IfOk, IfSome, IsSome, [], length};
 ghost use Rattle.std.specs.Prelude.{filter, replicate, slice_index, slice_set};
 ghost use Rattle.word_layout.specs.Packing.{most_age};
 ghost use Rattle.block_pool.specs.Passing.{HasAge, IsOf};
 ghost use Rattle.object_store.specs.Calls.{CountedWithin};
 ghost use Rattle.timer_wheel.specs.declared.key.Started.TheVariants as started;
 ghost use Rattle.timer_wheel.specs.declared.changes.Change.TheVariants.{Ended};
-ghost use Rattle.timer_wheel.specs.Places.{AreApart, ends_at, ends_cut, ends_joined, in_list, relinked, running_of};
+ghost use Rattle.timer_wheel.specs.Backs.{AreBacks, backed};
+ghost use Rattle.timer_wheel.specs.Places.{AreApart, ends_at, ends_cut, ends_joined, in_list, relinked, running_of, value_at};
 ghost use Rattle.timer_wheel.specs.Ringing.{HandedOut, not_due_at, rung_at};
 ghost use Rattle.timer_wheel.specs.Serving.{AreHeld, Serves};
-ghost use Rattle.timer_wheel.specs.Spots.{BeganSo, FoundAmong, FoundIn, GoesOn, HaveNot, IsSpot};
+ghost use Rattle.timer_wheel.specs.Spots.{BeganSo, FoundAmong, FoundIn, GoesOn, HasNumber, IsSpot};
 ghost use Rattle.timer_wheel.specs.Starting.{PutSo};
 ghost use Rattle.timer_wheel.specs.Tables.{AreBelow, IsSmall, IsTable};
 
@@ -34,6 +35,8 @@ pub(crate) struct Table {
     pub(crate) running: usize,
     /// In list k stand the timers whose due leaves k when it is divided by the number of lists, in the order of starts.
     pub(crate) lists: Vec<Chain>,
+    /// The link from the timer at each place to the one before it in its list.
+    pub(crate) backs: Vec<u64>,
     pub(crate) changes: Changes,
 }
 
@@ -44,6 +47,7 @@ impl Table {
         ensures table { IfOk result (λ table. IsTable table.places.items table.free.items table.lists.items [] table.running) }
         ensures places { IfOk result (λ table. table.places.items ≡ replicate room None) }
         ensures lists { IfOk result (λ table. length table.lists.items ≡ lists) }
+        ensures backs { IfOk result (λ table. AreBacks table.backs.items room lists []) }
         ensures changes { IfOk result (λ table. table.changes ≡ []) }
     {
         Ok(Table {
@@ -51,6 +55,7 @@ impl Table {
             free: all_places(alloc, room)?,
             running: 0,
             lists: empty_lists(alloc, lists)?,
+            backs: no_backs(alloc, room as usize)?,
             changes: Changes::new(),
         })
     }
@@ -76,12 +81,16 @@ impl Table {
         requires held { AreHeld self.old.places.items pass.old }
         requires table { IsTable self.old.places.items self.old.free.items self.old.lists.items
             (running_of self.old.changes) self.old.running }
+        requires backs { AreBacks self.old.backs.items (length self.old.places.items) (length self.old.lists.items)
+            (running_of self.old.changes) }
         requires small { IsSmall self.old.places.items self.old.lists.items }
         requires below { AreBelow timer.number (running_of self.old.changes) }
         requires last { timer.next ≡ 0 }
         requires room { steps.old + pass.old.sizes.quantum + 13 < 2 ^ 64 }
         ensures table { IsTable self.new.places.items self.new.free.items self.new.lists.items
             (running_of self.new.changes) self.new.running }
+        ensures backs { AreBacks self.new.backs.items (length self.new.places.items) (length self.new.lists.items)
+            (running_of self.new.changes) }
         ensures room { length self.new.places.items ≡ length self.old.places.items }
         ensures lists { length self.new.lists.items ≡ length self.old.lists.items }
         ensures crowded { (result ≡ started.Crowded) ↔ (self.old.running ≡ length self.old.places.items) }
@@ -129,17 +138,20 @@ impl Table {
         requires apart { AreApart self.old.places.items }
         requires list { list < length self.old.lists.items }
         requires last { (ends_at self.old.lists.items list).last ≤ length self.old.places.items }
+        requires link { link ≤ length self.old.backs.items }
         requires room { steps.old + 8 < 2 ^ 64 }
         ensures places { self.new.places.items ≡ relinked (ends_at self.old.lists.items list).last link self.old.places.items }
         ensures lists { self.new.lists.items ≡ slice_set self.old.lists.items list
             (ends_joined link (ends_at self.old.lists.items list)) }
-        ensures others { self.new ≡ record self.old { places = self.new.places; lists = self.new.lists } }
+        ensures backs { self.new.backs.items ≡ backed link (ends_at self.old.lists.items list).last self.old.backs.items }
+        ensures others { self.new ≡ record self.old { places = self.new.places; lists = self.new.lists; backs = self.new.backs } }
         ensures pass { pass.new ≡ record pass.old { moves = pass.new.moves; known = pass.new.known } }
         ensures serves { (running : ℕ) → Serves 8 0 steps.old steps.new self.old.places.items self.new.places.items
             running running pass.old pass.new }
     {
         let Chain { first, last } = self.lists[list];
         relink(store, pass, self.places.as_mut_slice(), last, link, steps);
+        lead_back(self.backs.as_mut_slice(), link, last);
         self.lists[list] = Chain {
             first: if last == 0 { link } else { first },
             last: link,
@@ -161,16 +173,19 @@ impl Table {
         requires apart { AreApart self.old.places.items }
         requires list { list < length self.old.lists.items }
         requires before { before ≤ length self.old.places.items }
+        requires next { next ≤ length self.old.backs.items }
         requires room { steps.old + 8 < 2 ^ 64 }
         ensures places { self.new.places.items ≡ relinked before next self.old.places.items }
         ensures lists { self.new.lists.items ≡ slice_set self.old.lists.items list
             (ends_cut before next (ends_at self.old.lists.items list)) }
-        ensures others { self.new ≡ record self.old { places = self.new.places; lists = self.new.lists } }
+        ensures backs { self.new.backs.items ≡ backed next before self.old.backs.items }
+        ensures others { self.new ≡ record self.old { places = self.new.places; lists = self.new.lists; backs = self.new.backs } }
         ensures pass { pass.new ≡ record pass.old { moves = pass.new.moves; known = pass.new.known } }
         ensures serves { (running : ℕ) → Serves 8 0 steps.old steps.new self.old.places.items self.new.places.items
             running running pass.old pass.new }
     {
         relink(store, pass, self.places.as_mut_slice(), before, next, steps);
+        lead_back(self.backs.as_mut_slice(), next, before);
         let Chain { first, last } = self.lists[list];
         self.lists[list] = Chain {
             first: if before == 0 { next } else { first },
@@ -218,41 +233,40 @@ impl Table {
         None
     }
 
-    /// The list of the timer at a key's place, if that one has the key's number. At most four steps.
+    /// The spot of the timer at a key's place, if that one has the key's number. At most four steps: the link back tells the
+    /// timer before it.
     fn hint<L: Ledger>(
         &self,
         store: &Store<'_, TimerRecord>,
         pass: &mut Pass,
         key: Key,
         steps: &mut Steps<L>,
-    ) -> Option<usize>
+    ) -> Option<Spot>
         requires pass { IsOf store.now pass.old }
         requires held { AreHeld self.now.places.items pass.old }
         requires table { IsTable self.now.places.items self.now.free.items self.now.lists.items
             (running_of self.now.changes) self.now.running }
+        requires backs { AreBacks self.now.backs.items (length self.now.places.items) (length self.now.lists.items)
+            (running_of self.now.changes) }
         requires room { steps.old + 4 < 2 ^ 64 }
-        ensures list { IfSome result (λ list. list < length self.now.lists.items) }
-        ensures there { IfSome result (λ list. ¬ HaveNot key.number
-            (in_list (length self.now.lists.items) list (running_of self.now.changes))) }
+        ensures there { HasNumber key.number (value_at self.now.places.items key.place) ↔ IsSome result }
+        ensures spot { IfSome result (λ spot. IsSpot self.now.places.items (length self.now.lists.items)
+            (running_of self.now.changes) spot) }
+        ensures number { IfSome result (λ spot. spot.timer.number ≡ key.number) }
         ensures pass { pass.new ≡ record pass.old { moves = pass.new.moves } }
         ensures steps { CountedWithin 0 4 steps.old steps.new pass.old pass.new }
     {
-        match read(
-            store,
-            pass,
-            self.places.as_slice(),
-            key.place as usize,
-            steps,
-        ) {
-            None => None,
-            Some(timer) => {
-                if timer.number == key.number {
-                    Some(self.list_of(timer.due))
-                } else {
-                    None
-                }
-            }
+        let place = key.place as usize;
+        let timer = read(store, pass, self.places.as_slice(), place, steps)?;
+        if timer.number != key.number {
+            return None;
         }
+        Some(Spot {
+            list: self.list_of(timer.due),
+            before: self.backs[place],
+            place,
+            timer,
+        })
     }
 
     /// Finds the running timer with a number, in whatever list. At most four steps for each running timer.
@@ -281,8 +295,8 @@ impl Table {
         None
     }
 
-    /// Finds the running timer with a key: in the list of the timer at the key's place where that one has its number, and
-    /// else in all lists. At most four steps for each running timer, and four.
+    /// Finds the running timer with a key: at the key's place where that one has its number, in four steps and without a
+    /// walk, and else in all lists, in at most four steps for each running timer, and four.
     pub(crate) fn find<L: Ledger>(
         &self,
         store: &Store<'_, TimerRecord>,
@@ -294,14 +308,18 @@ impl Table {
         requires held { AreHeld self.now.places.items pass.old }
         requires table { IsTable self.now.places.items self.now.free.items self.now.lists.items
             (running_of self.now.changes) self.now.running }
+        requires backs { AreBacks self.now.backs.items (length self.now.places.items) (length self.now.lists.items)
+            (running_of self.now.changes) }
         requires room { steps.old + 4 * self.now.running + 4 < 2 ^ 64 }
         ensures found { FoundAmong key.number self.now.places.items (length self.now.lists.items)
             (running_of self.now.changes) result }
         ensures pass { pass.new ≡ record pass.old { moves = pass.new.moves } }
         ensures steps { CountedWithin 0 (4 * self.now.running + 4) steps.old steps.new pass.old pass.new }
+        ensures at_once { HasNumber key.number (value_at self.now.places.items key.place)
+            → CountedWithin 0 4 steps.old steps.new pass.old pass.new }
     {
         match self.hint(store, pass, key, steps) {
-            Some(list) => self.find_in(store, pass, list, key.number, steps),
+            Some(spot) => Some(spot),
             None => self.find_among(store, pass, key.number, steps),
         }
     }
@@ -319,11 +337,15 @@ impl Table {
         requires held { AreHeld self.old.places.items pass.old }
         requires table { IsTable self.old.places.items self.old.free.items self.old.lists.items
             (running_of self.old.changes) self.old.running }
+        requires backs { AreBacks self.old.backs.items (length self.old.places.items) (length self.old.lists.items)
+            (running_of self.old.changes) }
         requires small { IsSmall self.old.places.items self.old.lists.items }
         requires spot { IsSpot self.old.places.items (length self.old.lists.items) (running_of self.old.changes) spot }
         requires room { steps.old + pass.old.sizes.quantum + 13 < 2 ^ 64 }
         ensures table { IsTable self.new.places.items self.new.free.items self.new.lists.items
             (running_of self.new.changes) self.new.running }
+        ensures backs { AreBacks self.new.backs.items (length self.new.places.items) (length self.new.lists.items)
+            (running_of self.new.changes) }
         ensures room { length self.new.places.items ≡ length self.old.places.items }
         ensures lists { length self.new.lists.items ≡ length self.old.lists.items }
         ensures fewer { self.new.running + 1 ≡ self.old.running }
@@ -363,11 +385,15 @@ impl Table {
         requires held { AreHeld self.old.places.items pass.old }
         requires table { IsTable self.old.places.items self.old.free.items self.old.lists.items
             (running_of self.old.changes) self.old.running }
+        requires backs { AreBacks self.old.backs.items (length self.old.places.items) (length self.old.lists.items)
+            (running_of self.old.changes) }
         requires small { IsSmall self.old.places.items self.old.lists.items }
         requires out { self.old.running ≤ length out.old }
         requires room { steps.old + self.old.running * (pass.old.sizes.quantum + 17) < 2 ^ 64 }
         ensures table { IsTable self.new.places.items self.new.free.items self.new.lists.items
             (running_of self.new.changes) self.new.running }
+        ensures backs { AreBacks self.new.backs.items (length self.new.places.items) (length self.new.lists.items)
+            (running_of self.new.changes) }
         ensures room { length self.new.places.items ≡ length self.old.places.items }
         ensures lists { length self.new.lists.items ≡ length self.old.lists.items }
         ensures left { running_of self.new.changes ≡ filter (not_due_at moment) (running_of self.old.changes) }
@@ -436,4 +462,25 @@ fn empty_lists(alloc: Global, lists: u32) -> Result<Vec<Chain>, NoMemory>
         made.push(Chain { first: 0, last: 0 })?;
     }
     Ok(made)
+}
+
+/// So many places, at which no timer has one before it.
+fn no_backs(alloc: Global, room: usize) -> Result<Vec<u64>, NoMemory>
+    ensures { IfOk result (λ backs. length backs.items ≡ room) }
+{
+    let mut backs = Vec::with_capacity(alloc, room)?;
+    for _place in 0..room {
+        backs.push(0)?;
+    }
+    Ok(backs)
+}
+
+/// The timer to which a link leads has another one before it now. 0 leads to none.
+fn lead_back(backs: &mut [u64], link: u64, before: u64)
+    requires link { link ≤ length backs.old }
+    ensures { backs.new ≡ backed link before backs.old }
+{
+    if link != 0 {
+        backs[(link - 1) as usize] = before;
+    }
 }

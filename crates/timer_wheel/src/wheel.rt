@@ -51,7 +51,7 @@ impl Model for Wheel {
     } };
 
     ghost invariant = { λ wheel. IsWheel wheel.table.places.items wheel.table.free.items wheel.table.lists.items
-        (running_of wheel.table.changes) wheel.table.running wheel.started };
+        wheel.table.backs.items (running_of wheel.table.changes) wheel.table.running wheel.started };
 }
 
 impl Wheel {
@@ -113,7 +113,7 @@ impl Wheel {
         ensures pass { SamePass pass.old pass.new }
         ensures holds { HoldsAll self.new.objects pass.new }
         ensures blocks { HoldsAsMany self.old.timers self.new.timers pass.old pass.new }
-        ensures others { KeepsElse self.old.objects pass.old pass.new }
+        ensures others { KeepsElse self.old.objects self.new.objects pass.old pass.new }
         ensures steps { CountedWithin 0 (pass.old.sizes.quantum + 13) steps.old steps.new pass.old pass.new }
         ensures age { pass.new.age ≤ pass.old.age + 1 }
     {
@@ -150,10 +150,11 @@ impl Wheel {
         ensures payload { result ≡ payload_of key.number self.old.timers }
         ensures timers { self.new.timers ≡ without key.number self.old.timers }
         ensures nothing { result ≡ None → self.new ≡ self.old }
+        ensures no_call { result ≡ None → pass.new ≡ record pass.old { moves = pass.new.moves } }
         ensures pass { SamePass pass.old pass.new }
         ensures holds { HoldsAll self.new.objects pass.new }
         ensures blocks { HoldsAsMany self.old.timers self.new.timers pass.old pass.new }
-        ensures others { KeepsElse self.old.objects pass.old pass.new }
+        ensures others { KeepsElse self.old.objects self.new.objects pass.old pass.new }
         ensures steps { CountedWithin 0 (8 * length self.old.timers.running + pass.old.sizes.quantum + 13)
             steps.old steps.new pass.old pass.new }
         ensures age { pass.new.age ≤ pass.old.age + 1 }
@@ -188,7 +189,7 @@ impl Wheel {
         ensures pass { SamePass pass.old pass.new }
         ensures holds { HoldsAll self.new.objects pass.new }
         ensures blocks { HoldsAsMany self.old.timers self.new.timers pass.old pass.new }
-        ensures others { KeepsElse self.old.objects pass.old pass.new }
+        ensures others { KeepsElse self.old.objects self.new.objects pass.old pass.new }
         ensures steps { CountedWithin 0 (length self.old.timers.running * (pass.old.sizes.quantum + 17))
             steps.old steps.new pass.old pass.new }
         ensures age { pass.new.age ≤ pass.old.age + length self.old.timers.running }

@@ -1,5 +1,5 @@
-use Rattle.std.proofs.Common.{◌≡◌, ◌-◌, Some, sym, subst, arith}
-use Rattle.timer_wheel.specs.Places.{Places, object_at}
+use Rattle.std.proofs.Common.{◌-◌, sym, subst, arith}
+use Rattle.timer_wheel.specs.Places.{Places}
 use Rattle.timer_wheel.specs.Serving.{Serves}
 use Rattle.timer_wheel.proofs.Chains.{found_at, relinked_again}
 use Rattle.timer_wheel.proofs.Serving.{holds_moved, serves_rewritten}

@@ -1,4 +1,4 @@
-use Rattle.std.proofs.Common.{◌≢◌, length, ap, sym, subst, ◌∙◌, arith}
+use Rattle.std.proofs.Common.{◌≢◌, length, subst, arith}
 use Rattle.timer_wheel.specs.Places.{running_of}
 use Rattle.timer_wheel.specs.Spots.{FoundIn}
 use Rattle.timer_wheel.proofs.Finding.{all_begins, all_counted, all_most, all_on, all_room, each_by_lists, moved_again}

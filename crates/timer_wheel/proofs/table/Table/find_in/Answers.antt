@@ -1,8 +1,8 @@
-use Rattle.std.proofs.Common.{◌≡◌, ◌+◌, ◌-◌, Some, None, length, ap, sym, subst, ◌∙◌, refl}
+use Rattle.std.proofs.Common.{◌≡◌, ◌-◌, Some, None, length, ap, sym, subst, ◌∙◌, refl}
 use Rattle.timer_wheel.specs.Places.{Places, IsChain, in_list, running_of, value_at}
 use Rattle.timer_wheel.specs.Serving.{AreHeld}
 use Rattle.timer_wheel.proofs.Serving.{are_held_moved}
-use Rattle.timer_wheel.proofs.Walking.{meets_some, seeks_begins, seeks_ended, seeks_found, seeks_low, seeks_on, seeks_read}
+use Rattle.timer_wheel.proofs.Walking.{meets_some, seeks_begins, seeks_ended, seeks_found, seeks_on, seeks_read}
 use Rattle.timer_wheel.proofs.table.Table.find_in.Goals as goal
 
 pub walk-init : goal.walk-init

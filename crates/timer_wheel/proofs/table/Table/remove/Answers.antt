@@ -1,12 +1,13 @@
 use Rattle.std.proofs.Common.{◌≡◌, ℕ, ◌+◌, ◌-◌, ◌<◌, ◌++◌, [], ◌∷◌, None, length, set, refl, ap, sym, subst, ◌∙◌, arith}
 use Rattle.std.proofs.lemmas.List.Sums.{fold_push}
-use Rattle.timer_wheel.specs.Places.{Places, AreApart, relinked, running_after, running_of, object_at}
+use Rattle.timer_wheel.specs.Places.{Places, AreApart, running_after, running_of, object_at}
 use Rattle.object_store.specs.Calls.{CountedWithin}
 use Rattle.timer_wheel.specs.declared.changes.Change.{Change}
 use Rattle.timer_wheel.specs.declared.changes.Change.TheVariants.{Ended}
 use Rattle.timer_wheel.proofs.Chains.{found_at}
 use Rattle.timer_wheel.proofs.Serving.{serves_so}
-use Rattle.timer_wheel.proofs.Removes.{apart_relinked, cut_low, cut_place_low, one, removed_on, removed_table, serves_remove, stood}
+use Rattle.timer_wheel.proofs.Removes.{apart_relinked, cut_low, cut_next, cut_place_low, one, removed_backs, removed_on}
+use Rattle.timer_wheel.proofs.Removes.{removed_table, serves_remove, stood}
 use Rattle.timer_wheel.proofs.table.Table.remove.Goals as goal
 use Rattle.timer_wheel.proofs.table.Table.remove.Goals.{in-Some, in_default}
 
@@ -15,6 +16,13 @@ cut-requires-clause-before g c =
     let was = c.args.self.now in
     cut_low was.places.items was.free.items was.lists.items (running_of was.changes) was.running c.requires.table c.args.spot
     c.requires.spot
+
+pub cut-requires-clause-next : goal.cut-requires-clause-next
+cut-requires-clause-next g c =
+    let was = c.args.self.now in
+    let low = cut_next was.places.items was.free.items was.lists.items (running_of was.changes) was.running c.requires.table c.args.spot
+    c.requires.spot in
+    omega (arith, low, c.requires.backs.all)
 
 pub take-requires-in-Some-clause-object : goal.take-requires-in-Some-clause-object
 take-requires-in-Some-clause-object g c =
@@ -45,6 +53,22 @@ returns-clause-table g c =
     (ap (λ s. set s.free.items (s.running - 1) place) others) c.cut.ensures.lists
     (ap running_of (c.note.ensures ∙ ap (λ s. s.changes ++ ended ∷ []) others) ∙ fold_push running_after [] was.changes ended)
     (ap (λ s. s.running - 1) others)
+
+pub returns-clause-backs : goal.returns-clause-backs
+returns-clause-backs g c =
+    let was = c.args.self.now in
+    let place = c.args.spot.place in
+    let others = c.cut.ensures.others in
+    let ended : Change = Ended c.args.spot.timer.number in
+    removed_backs was.places.items was.free.items was.lists.items (running_of was.changes) was.running c.requires.table c.args.spot
+    c.requires.spot (set c.cut.new.self.places.items place c.take.new.self) (set c.cut.new.self.free.items (c.cut.new.self.running - 1)
+    place)
+    c.cut.new.self.lists.items (running_of c.note.new.self) (c.cut.new.self.running - 1)
+    (ap (set c.cut.new.self.places.items place) c.take.ensures.after ∙ ap (λ (p : Places). set p place None) c.cut.ensures.places)
+    (ap (λ s. set s.free.items (s.running - 1) place) others) c.cut.ensures.lists
+    (ap running_of (c.note.ensures ∙ ap (λ s. s.changes ++ ended ∷ []) others) ∙ fold_push running_after [] was.changes ended)
+    (ap (λ s. s.running - 1) others)
+    was.backs.items _ c.requires.backs c.cut.ensures.backs
 
 pub returns-clause-goes_on : goal.returns-clause-goes_on
 returns-clause-goes_on g c =

@@ -1,13 +1,13 @@
-use Rattle.std.proofs.Common.{◌≡◌, ◌+◌, ◌<◌, ◌++◌, [], ◌∷◌, Some, None, length, map, refl, sym, ap, subst, ◌∙◌, arith}
+use Rattle.std.proofs.Common.{◌≡◌, ◌<◌, ◌++◌, [], ◌∷◌, Some, None, length, map, sym, ap, subst, ◌∙◌, arith}
 use Rattle.timer_wheel.specs.Places.{objects_in, running_of, timer_of}
 use Rattle.timer_wheel.specs.declared.changes.Change.TheVariants.{Ended}
 use Rattle.timer_wheel.specs.Tables.{AreBelow}
-use Rattle.timer_wheel.specs.Timers.{Timers, payload_of, without}
+use Rattle.timer_wheel.specs.Timers.{payload_of, without}
 use Rattle.timer_wheel.specs.Views.{WheelView, HoldsAll, KeepsElse}
 use Rattle.timer_wheel.proofs.Lists.{each_filter, keep}
 use Rattle.timer_wheel.proofs.Serving.{are_held_moved}
 use Rattle.timer_wheel.proofs.Stops.{far_after, stop_counted}
-use Rattle.timer_wheel.proofs.Viewing.{held_of_holds, holds_of_held, keeps_of_far}
+use Rattle.timer_wheel.proofs.Viewing.{held_of_holds, holds_of_held, keeps_moved, keeps_of_far}
 use Rattle.timer_wheel.proofs.Wheels.{none_ended, none_found, running_ended, runs_all, spot_found, spot_some, timers_ended, wheel_ended}
 use Rattle.timer_wheel.proofs.wheel.Wheel.stop.Goals as goal
 
@@ -26,8 +26,10 @@ pub invariant_of-self : goal.invariant_of-self
 invariant_of-self g c =
     let was = c.self.inside.table in
     let now = c.remove.new.self in
-    wheel_ended was.places.items now.places.items was.free.items now.free.items was.lists.items now.lists.items (running_of was.changes)
-    (running_of now.changes) was.running now.running c.self.inside.started c.self.invariant c.remove.ensures.table c.remove.ensures.room
+    wheel_ended was.places.items now.places.items was.free.items now.free.items was.lists.items now.lists.items was.backs.items
+    now.backs.items (running_of was.changes)
+    (running_of now.changes) was.running now.running c.self.inside.started c.self.invariant
+    c.remove.ensures.table c.remove.ensures.backs c.remove.ensures.room
     c.remove.ensures.lists
     (subst (AreBelow c.self.inside.started)
     (sym (running_ended was.changes now.changes c.in-Some.spot.timer.number c.remove.ensures.ended))
@@ -58,6 +60,10 @@ returns-in-None-clause-holds g c =
     (are_held_moved places _ c.args.pass.now c.find.new.pass c.find.ensures.pass
     (held_of_holds places c.args.pass.now
     (subst (λ (w : WheelView). HoldsAll w.objects c.args.pass.now) (sym c.self.view_is) c.requires.holds))))
+
+pub returns-in-None-clause-others : goal.returns-in-None-clause-others
+returns-in-None-clause-others g c =
+    keeps_moved c.args.self.now.objects _ c.args.pass.now c.find.new.pass c.find.ensures.pass
 
 pub returns-in-Some-clause-payload : goal.returns-in-Some-clause-payload
 returns-in-Some-clause-payload g c =
@@ -97,7 +103,8 @@ returns-in-Some-clause-holds g c = holds_of_held c.remove.new.self.places.items 
 pub returns-in-Some-clause-others : goal.returns-in-Some-clause-others
 returns-in-Some-clause-others g c =
     let was = c.self.inside.table.places.items in
-    subst (λ (w : WheelView). KeepsElse w.objects c.args.pass.now c.remove.new.pass) c.self.view_is
+    subst (λ (w : WheelView). KeepsElse w.objects (objects_in c.remove.new.self.places.items) c.args.pass.now
+    c.remove.new.pass) c.self.view_is
     (keeps_of_far was c.remove.new.self.places.items c.args.pass.now c.remove.new.pass
     (far_after was c.remove.new.self.places.items _ c.args.pass.now c.find.new.pass c.remove.new.pass c.find.ensures.pass
     c.remove.ensures.serves.far))

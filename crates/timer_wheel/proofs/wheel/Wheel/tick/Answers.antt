@@ -1,5 +1,5 @@
-use Rattle.std.proofs.Common.{◌≡◌, ◌+◌, ◌<◌, length, map, refl, sym, ap, subst, ◌∙◌, arith}
-use Rattle.timer_wheel.specs.Places.{running_of, timer_of}
+use Rattle.std.proofs.Common.{◌≡◌, ◌+◌, ◌<◌, length, map, sym, ap, subst, ◌∙◌}
+use Rattle.timer_wheel.specs.Places.{objects_in, running_of, timer_of}
 use Rattle.timer_wheel.specs.Ringing.{HandedOut, not_due_at}
 use Rattle.timer_wheel.specs.Tables.{AreBelow}
 use Rattle.timer_wheel.specs.Timers.{rung, ticked}
@@ -18,8 +18,10 @@ pub invariant_of-self : goal.invariant_of-self
 invariant_of-self g c =
     let was = c.self.inside.table in
     let now = c.ring.new.self in
-    wheel_ended was.places.items now.places.items was.free.items now.free.items was.lists.items now.lists.items (running_of was.changes)
-    (running_of now.changes) was.running now.running c.self.inside.started c.self.invariant c.ring.ensures.table c.ring.ensures.room
+    wheel_ended was.places.items now.places.items was.free.items now.free.items was.lists.items now.lists.items was.backs.items
+    now.backs.items (running_of was.changes)
+    (running_of now.changes) was.running now.running c.self.inside.started c.self.invariant
+    c.ring.ensures.table c.ring.ensures.backs c.ring.ensures.room
     c.ring.ensures.lists
     (subst (AreBelow c.self.inside.started) (sym c.ring.ensures.left)
     (each_filter (λ t. t.number < c.self.inside.started) (not_due_at (c.self.inside.moment + 1)) (running_of was.changes)
@@ -60,6 +62,7 @@ returns-clause-holds g c = holds_of_held c.ring.new.self.places.items c.ring.new
 
 pub returns-clause-others : goal.returns-clause-others
 returns-clause-others g c =
-    subst (λ (w : WheelView). KeepsElse w.objects c.args.pass.now c.ring.new.pass) c.self.view_is
+    subst (λ (w : WheelView). KeepsElse w.objects (objects_in c.ring.new.self.places.items) c.args.pass.now
+    c.ring.new.pass) c.self.view_is
     (keeps_of_far c.self.inside.table.places.items c.ring.new.self.places.items c.args.pass.now c.ring.new.pass
     c.ring.ensures.serves.far)
