@@ -1,0 +1,5 @@
+pub mod Ages
+pub mod Makings
+pub mod Readings
+pub mod Replays
+pub mod Texts
