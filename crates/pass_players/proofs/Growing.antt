@@ -1,5 +1,5 @@
 -- What a pass has after one call more.
-use Rattle.std.proofs.Common.{◌≡◌, ℕ, ◌-◌, ◌≤◌, ◌∙◌, List, [], ◌∷◌}
+use Rattle.std.proofs.Common.{◌≡◌, ◌≤◌, ◌∙◌, List, [], ◌∷◌}
 use Rattle.std.proofs.Common.{◌++◌, length, take, refl, sym, ap, arith, append_assoc, append-nil, length-append}
 use Rattle.std.proofs.Math.Seq.{take-length}
 use Rattle.std.proofs.lemmas.List.{take-append-le, take-take, length-take}
@@ -46,8 +46,3 @@ grows_more entries entry start old new grown call = record {
       begins_so start.seen old.seen new.seen more.past (entry ∷ []) grown.seen more.begins more.ends;
   age = omega (arith, length-append entries (entry ∷ []), grown.age, call.age);
 }
-
--- the pass's own list grew by as many entries as calls were made
-pub grown_by : {entries : List Entry} {start pass : Passed} {made : ℕ} → Grows entries start pass → made ≡ length entries
-    → length pass.own - length start.own ≡ made
-grown_by {entries} {start} grown count = omega (arith, count, ap length grown.own, length-append start.own entries)

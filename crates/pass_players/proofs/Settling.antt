@@ -1,19 +1,19 @@
 -- A pool that was opened, played over and closed.
-use Rattle.std.proofs.Common.{◌≡◌, ℕ, ◌<◌, zero, suc, List, [], ◌∷◌, length, refl, sym, ap, ◌∙◌, subst, arith, Some}
+use Rattle.std.proofs.Common.{◌≡◌, ℕ, ◌<◌, List, length, refl, sym, ap, ◌∙◌, subst, arith, Some}
 use Rattle.std.specs.Prelude.{slice_get}
 use Rattle.std.specs.List.{All}
 use Rattle.std.proofs.lemmas.Option.{get_or_from_slice_get, same_Some, slice_get_within}
-use Rattle.pool_model.specs.declared.entry.Entry.{Entry}
 use Rattle.pool_model.proofs.Places.{slice_get_as_long}
 use Rattle.pool_model.specs.Legal.{IsLegal}
 use Rattle.word_layout.specs.Sizes.{Sizes, limits_of}
-use Rattle.pool_io.specs.Gates.{ToldBefore}
 use Rattle.block_pool.specs.Passing.{Passed, Pooled}
 use Rattle.block_pool.specs.Opening.{AreOpenedPasses, opened_pass}
 use Rattle.block_pool.specs.Closing.{Settlement}
 use Rattle.pass_players.specs.Playing.{Course, MayPlay}
 use Rattle.pass_players.specs.Together.{MayPlayTogether}
-use Rattle.pass_players.specs.Settled.{FitsIn, IsPlayable, IsSettledBy, PlayedAll, PlayedIn, WasToldOfAll, course_in}
+use Rattle.pass_players.specs.Moments.{Moment}
+use Rattle.pass_players.specs.Settled.{FitsIn, IsPlayable, IsSettledBy, OthersUntold, PlayedAll, PlayedIn}
+use Rattle.pass_players.proofs.Items.{item_at}
 
 -- what holds of all items holds of the one at a place
 all_at : {X : Type 0} (P : X → Type 0) (xs : List X) (k : ℕ) (x : X) → All P xs → slice_get xs k ≡ Some x → P x
@@ -42,21 +42,21 @@ module _ {S : Type 0} (pool : Pooled) (passes : List Passed) (scripts : List S) 
     each = may_play suits most_calls (subst (λ (s : Sizes). All (IsPlayable suits most_calls s) scripts) (sym shape) playable);
   }
 
-  module _ {O : Type 0} (fits : Course → S → O → Type 0) (told : ℕ → ℕ → Type 0) (outcomes : List O) (settled : Settlement)
-      (sizes : Sizes) (shape : pool.sizes ≡ sizes) (each : length scripts ≡ sizes.processes)
-      (played : PlayedAll fits told pool passes scripts outcomes settled) where
+  module _ {O : Type 0} (fits : Course → S → O → Type 0) (told_before told_now : List (List Moment)) (outcomes : List O)
+      (settled : Settlement) (sizes : Sizes) (shape : pool.sizes ≡ sizes) (each : length scripts ≡ length passes)
+      (played : PlayedAll fits told_before told_now pool passes scripts outcomes settled) where
     as_many : length scripts ≡ pool.sizes.processes
-    as_many = each ∙ ap (λ (s : Sizes). s.processes) (sym shape)
+    as_many = each ∙ opened.many
 
     -- what a process played, whose pass had entered nothing before
     played_at : (k : ℕ) (script : S) (outcome : O) → slice_get scripts k ≡ Some script → slice_get outcomes k ≡ Some outcome
-        → PlayedIn fits told settled k (opened_pass pool.table pool.sizes k) script outcome
+        → PlayedIn fits told_before told_now settled k (opened_pass pool.table pool.sizes k) script outcome
     played_at k script outcome at outcome_at =
         let low : k < pool.sizes.processes = omega (arith, slice_get_within scripts k script at, as_many) in
         played.each k (opened_pass pool.table pool.sizes k) script outcome (opened.each k low) at outcome_at
 
     -- the pool was closed with a history of these scripts
-    pub settles : IsSettledBy fits sizes scripts outcomes settled
+    pub settles : IsSettledBy fits told_before told_now sizes scripts outcomes settled
     settles = record {
       shape = played.shape ∙ shape;
       legal = subst (λ (s : Sizes). IsLegal (limits_of s) settled.history) shape played.legal;
@@ -64,33 +64,22 @@ module _ {S : Type 0} (pool : Pooled) (passes : List Passed) (scripts : List S) 
       each = λ k script outcome at outcome_at.
           let its = played_at k script outcome at outcome_at in
           record {
+            calls = its.calls;
+            its_own = its.its_own;
             moves = its.moves;
-            made = its.its_moves;
-            fitted = subst (λ (calls : List Entry). fits (course_in settled k calls 0 its.moves) script outcome) (sym its.its_own)
-                its.fitted;
+            its_moves = its.its_moves;
+            fitted = its.fitted;
+            told = its.told;
           };
+      untold = subst (λ (s : Sizes). OthersUntold s.processes told_before told_now) shape played.untold;
     }
 
-    -- and the gate was told of each call in it
-    pub told_of_all : WasToldOfAll told sizes.processes settled.history
-    told_of_all k low =
-        let within : k < pool.sizes.processes = omega (arith, low, ap (λ (s : Sizes). s.processes) shape) in
-        let script = slice_get_as_long scripts passes k _ (opened.many ∙ sym as_many) (opened.each k within) in
-        let outcome = slice_get_as_long outcomes scripts k script.0 (sym played.one_each) script.1 in
-        let its = played_at k script.0 outcome.0 script.1 outcome.1 in
-        subst (λ (calls : List Entry). ToldBefore told k (length calls)) (sym its.its_own) its.told_all
-
--- a list has something at each of its places
-item_at : {A : Type 0} (xs : List A) (k : ℕ) → k < length xs → (x : A) × (slice_get xs k ≡ Some x)
-item_at [] k within = absurd (omega arith)
-item_at (x ∷ xs) zero within = (x, refl)
-item_at (x ∷ xs) (suc k) within = item_at xs k (omega arith)
-
 -- what each process of a settled pool played
-pub part_of : {S O : Type 0} (fits : Course → S → O → Type 0) (sizes : Sizes) (scripts : List S) (outcomes : List O) (settled : Settlement)
-    → length scripts ≡ sizes.processes → IsSettledBy fits sizes scripts outcomes settled → (k : ℕ) → k < sizes.processes
-    → (script : S) × (outcome : O) × FitsIn fits settled k script outcome
-part_of fits sizes scripts outcomes settled each all k low =
+pub part_of : {S O : Type 0} (fits : Course → S → O → Type 0) (told_before told_now : List (List Moment)) (sizes : Sizes)
+    (scripts : List S) (outcomes : List O) (settled : Settlement) → length scripts ≡ sizes.processes
+    → IsSettledBy fits told_before told_now sizes scripts outcomes settled → (k : ℕ) → k < sizes.processes
+    → (script : S) × (outcome : O) × FitsIn fits told_before told_now settled k script outcome
+part_of fits told_before told_now sizes scripts outcomes settled each all k low =
     let script = item_at scripts k (omega (arith, each)) in
     let outcome = slice_get_as_long outcomes scripts k script.0 (sym all.one_each) script.1 in
     (script.0, outcome.0, all.each k script.0 outcome.0 script.1 outcome.1)

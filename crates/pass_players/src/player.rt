@@ -3,8 +3,8 @@ ghost use Rattle.std.specs.Prelude.{◌≡◌, ℕ, IfOk};
 ghost use Rattle.word_layout.specs.Sizes.{Sizes};
 ghost use Rattle.pass_players.specs.Playing.{Course, MayPlay, PlayedOnce};
 
+use crate::Gate;
 use block_pool::{Pass, Pool};
-use pool_io::Gate;
 use pool_model::NoMemory;
 use std::alloc::Global;
 
@@ -37,10 +37,10 @@ pub trait Player: Drop {
 
     /// Plays the script with a pass of the pool. The gate is told of each call of the pool that gets or frees a block, before it.
     /// It takes no memory and waits for nobody.
-    fn play<G: Gate>(&mut self, pool: &Pool, pass: &mut Pass, script: &Self::Script, gate: &G)
+    fn play<G: Gate>(&mut self, pool: &Pool, pass: &mut Pass, script: &Self::Script, gate: &mut G)
         requires may { MayPlay suits most_calls pool.now pass.old script.now }
         requires ready { is_ready script.now self.old }
-        ensures { PlayedOnce fits (G.told gate.now) script.now pass.old pass.new (outcome self.new) };
+        ensures { PlayedOnce fits (G.told gate.old) (G.told gate.new) script.now pass.old pass.new (outcome self.new) };
 
     /// What it leaves. Takes no memory.
     fn into_outcome(self) -> Self::Outcome

@@ -1,7 +1,8 @@
 -- Why a run ends as it does.
 use Rattle.std.proofs.Common.{◌≡◌, ℕ, ◌+◌, ◌-◌, ◌^◌, ◌<◌, ◌≤◌, ◌⊎◌, min, suc, List, [], ◌∷◌, length, refl, sym, ap, ◌∙◌, subst, inl, inr}
-use Rattle.std.proofs.Common.{arith, Some, None}
-use Rattle.std.specs.Prelude.{Bool, Option, Result, Ok, Err, IfOk, IfErr, OnErr, fold, slice_get}
+use Rattle.std.proofs.Common.{arith, map, Some, None}
+use Rattle.std.specs.declared.alloc.Global.{Global}
+use Rattle.std.specs.Prelude.{Vec, Bool, Option, Result, Ok, Err, IfOk, IfErr, OnErr, fold, slice_get}
 use Rattle.std.proofs.lemmas.Bool.{cases_lt}
 use Rattle.std.proofs.lemmas.Option.{get_or_from_slice_get, slice_get_within}
 use Rattle.std.proofs.lemmas.List.FromFn.{get_or-map-range_with_len, length-map-range_with_len}
@@ -40,21 +41,24 @@ use Rattle.pool_runs.specs.Enough.{HasEnough}
 use Rattle.pool_runs.specs.Settled.{IsSettledBy}
 use Rattle.store_runs.specs.Enough as stores
 use Rattle.store_runs.specs.Enough.{answers_without_refusals}
-use Rattle.pool_cli.specs.declared.ending.Ending.{Ending}
-use Rattle.pool_cli.specs.declared.ending.Ending.TheVariants.{Done, Words, Shape, Read, Long, Line, Write, Memory}
+use Rattle.file_runs.specs.declared.ending.Ending.{Ending}
+use Rattle.file_runs.specs.declared.ending.Ending.TheVariants.{Done, Words, Shape, Read, Long, Line, Write, Memory}
 use Rattle.pool_cli.specs.Asked.{IsScriptFor, IsScriptOf, bad_line_of, batches_of, files_of, processes_of, quantum_of, words_of}
 use Rattle.pool_cli.specs.declared.ending.Worked.{Worked}
 use Rattle.pool_cli.specs.declared.scripts.Scripts.{Scripts}
 use Rattle.pool_cli.specs.declared.scripts.Scripts.TheVariants.{Traces, Stores}
-use Rattle.pool_cli.specs.Ending.{ending_after, ending_of, settled_of, status_of}
+use Rattle.file_runs.specs.Ending.{ending_after, status_of}
+use Rattle.file_runs.specs.Reading.{Hold, IsWithin, ReadsAll, StopsReading, StopsWith, ending_for, taken}
+use Rattle.pool_cli.specs.Ending.{ending_of, settled_of}
 use Rattle.pool_cli.specs.Causes.{AreScriptsFor, CauseOf, Ends, EndsAtFile, EndsAtShape, EndsPlayed, FilesAreFine, GivesText}
-use Rattle.pool_cli.specs.Causes.{Hold, IsAccepted, IsAmple, IsAmpleText, IsPlayable, IsPlayed, IsSure, IsUnhindered, IsWithin}
-use Rattle.pool_cli.specs.Causes.{Prints, PrintsReport, taken}
-use Rattle.pool_cli.specs.Outside.{Outside, TakesText, outside}
+use Rattle.pool_cli.specs.Causes.{IsAccepted, IsAmple, IsAmpleText, IsPlayable, IsPlayed, IsSure, IsUnhindered}
+use Rattle.pool_cli.specs.Causes.{Prints, PrintsReport}
+use Rattle.file_runs.specs.Outside.{Outside, TakesText, outside}
 use Rattle.pool_cli.specs.Playing.{AreScriptsOf, Fit, IsTextOf}
 use Rattle.pool_cli.specs.Printed.{AreRepliesOf, HasPrinted, IsReportOf}
+use Rattle.pass_players.specs.Moments.{Moment}
+use Rattle.pool_cli.specs.Gates.{Gates, gates_of}
 use Rattle.pool_cli.specs.Replies.{replies}
-use Rattle.pool_cli.specs.Scripts.{ReadsAll, StopsReading, StopsWith, ending_for}
 use Rattle.pool_cli.specs.Shapes.{IsShapeOf}
 use Rattle.pool_cli.proofs.StoreScripts.{one_store_script}
 
@@ -141,20 +145,17 @@ one_list_for command content ones others p q =
     one_list_by_place (IsScriptFor command content) (one_script_for command content) ones others (p.one_each ∙ sym q.one_each) p.each q.each
 
 -- all files were read and all scripts played
-played_all : (told : List ℕ → Option (List ℕ)) (command : Command) (sizes : Sizes) (scripts : List Script) (settled : Settlement)
-    (tallies : List Tally)
-    → HasScripts told command scripts → IsSettledBy sizes scripts tallies settled → IsPlayed told command sizes settled tallies
-played_all told command sizes scripts settled tallies has played = record {
+played_all : (told : List ℕ → Option (List ℕ)) (gates : Gates) (command : Command) (sizes : Sizes) (scripts : List Script)
+    (settled : Settlement) (tallies : List Tally)
+    → HasScripts told command scripts → IsSettledBy gates.before gates.now sizes scripts tallies settled
+    → IsPlayed told gates command sizes settled tallies
+played_all told gates command sizes scripts settled tallies has played = record {
   one_each = played.tallied.one_each ∙ has.one_each;
+  run = played.run;
   fine = has.fine;
-  played = λ content hold. record {
-    shape = played.shape;
-    legal = played.legal;
-    short = played.short;
-    each = λ j tally at.
-        let script = slice_get_as_long scripts tallies j tally played.tallied.one_each at in
-        (script.0, (has.are content hold).each j script.0 script.1, played.tallied.each j script.0 tally script.1 at);
-  };
+  played = λ content hold j tally at.
+      let script = slice_get_as_long scripts tallies j tally played.tallied.one_each at in
+      (script.0, (has.are content hold).each j script.0 script.1, played.tallied.each j script.0 tally script.1 at);
   unrefused = λ content hold others ample.
       let same : scripts ≡ others = one_list_for command content scripts others (has.are content hold) ample.are_scripts in
       played.unrefused (subst (HasEnough (limits_of sizes)) (sym same) ample.enough) ∙ ap tallies_without_refusals same;
@@ -195,33 +196,30 @@ made_scripts told drill scripts is =
         (omega (arith, low, length-map-range_with_len (drill_script drill.seed drill.calls) 0 drill.processes)) (omega arith)
 
 -- over a pool that is closed with this history, a command prints the report of its scripts of traces
-report_prints : (told : List ℕ → Option (List ℕ)) (command : Command) (sizes : Sizes) (scripts : List Script)
-    → HasScripts told command scripts → (settled : Settlement) (text : List ℕ) → IsReportOf sizes scripts settled text
-    → PrintsReport told command sizes settled text
-report_prints told command sizes scripts has settled text is = record {
+report_prints : (told : List ℕ → Option (List ℕ)) (gates : Gates) (command : Command) (sizes : Sizes) (scripts : List Script)
+    → HasScripts told command scripts → (settled : Settlement) (text : List ℕ) → IsReportOf gates sizes scripts settled text
+    → PrintsReport told gates command sizes settled text
+report_prints told gates command sizes scripts has settled text is = record {
   tallies = is.0;
-  played = played_all told command sizes scripts settled is.0 has is.1;
+  played = played_all told gates command sizes scripts settled is.0 has is.1;
   is = is.2;
 }
 
 -- and a store the replies to the scripts of its files
-store_prints : (told : List ℕ → Option (List ℕ)) (words : StoreWords) (sizes : Sizes) (scripts : List StoreScript)
+store_prints : (told : List ℕ → Option (List ℕ)) (gates : Gates) (words : StoreWords) (sizes : Sizes) (scripts : List StoreScript)
     → ReadsAll store.bad_line store.IsReading told words.files scripts → (settled : Settlement) (text : List ℕ)
-    → AreRepliesOf sizes scripts settled text → Prints told (Store words) sizes settled text
-store_prints told words sizes scripts reads settled text is = record {
+    → AreRepliesOf gates sizes scripts settled text → Prints told gates (Store words) sizes settled text
+store_prints told gates words sizes scripts reads settled text is = record {
   lists = is.0;
   answered = record {
-    one_each = is.1.one_each ∙ reads.1.one_each;
+    scripts = scripts;
+    one_each = reads.1.one_each;
+    run = is.1.played;
     fine = reads.1.fine;
-    answered = λ content hold. record {
-      shape = is.1.shape;
-      legal = is.1.legal;
-      each = λ j answers at.
-          let script = slice_get_as_long scripts is.0 j answers is.1.one_each at in
-          (script.0, reads.1.read content hold j script.0 script.1, is.1.each j script.0 answers script.1 at);
-    };
+    said = reads.1.read;
     unrefused = λ content hold others ample.
-        let same : scripts ≡ others = one_list_by_place (λ j. store.IsReading (content j)) (λ j. one_store_script (content j)) scripts others
+        let same : scripts ≡ others =
+        one_list_by_place (λ j. store.IsReading (content j)) (λ j. one_store_script (content j)) scripts others
         (reads.1.one_each ∙ sym ample.one_each) (reads.1.read content hold) ample.each in
         is.1.unrefused (subst (stores.HasEnough (limits_of sizes)) (sym same) ample.enough) ∙ ap answers_without_refusals same;
   };
@@ -229,17 +227,17 @@ store_prints told words sizes scripts reads settled text is = record {
 }
 
 -- each command prints what is printed of its scripts
-pub scripts_print : (told : List ℕ → Option (List ℕ)) (command : Command) (sizes : Sizes) (scripts : Scripts)
-    → AreScriptsOf told command scripts → (settled : Settlement) (text : List ℕ) → IsTextOf sizes scripts settled text
-    → Prints told command sizes settled text
-scripts_print told (Play play) sizes (Traces scripts) are =
-    report_prints told (Play play) sizes scripts.items (read_scripts told play scripts.items are)
-scripts_print told (Play play) sizes (Stores scripts) are = absurd are
-scripts_print told (Drill drill) sizes (Traces scripts) are =
-    report_prints told (Drill drill) sizes scripts.items (made_scripts told drill scripts.items are)
-scripts_print told (Drill drill) sizes (Stores scripts) are = absurd are
-scripts_print told (Store words) sizes (Traces scripts) are = absurd are
-scripts_print told (Store words) sizes (Stores scripts) are = store_prints told words sizes scripts.items are
+pub scripts_print : (told : List ℕ → Option (List ℕ)) (gates : Gates) (command : Command) (sizes : Sizes) (scripts : Scripts)
+    → AreScriptsOf told command scripts → (settled : Settlement) (text : List ℕ) → IsTextOf gates sizes scripts settled text
+    → Prints told gates command sizes settled text
+scripts_print told gates (Play play) sizes (Traces scripts) are =
+    report_prints told gates (Play play) sizes scripts.items (read_scripts told play scripts.items are)
+scripts_print told gates (Play play) sizes (Stores scripts) are = absurd are
+scripts_print told gates (Drill drill) sizes (Traces scripts) are =
+    report_prints told gates (Drill drill) sizes scripts.items (made_scripts told drill scripts.items are)
+scripts_print told gates (Drill drill) sizes (Stores scripts) are = absurd are
+scripts_print told gates (Store words) sizes (Traces scripts) are = absurd are
+scripts_print told gates (Store words) sizes (Stores scripts) are = store_prints told gates words sizes scripts.items are
 
 -- the scripts of a command fit the pool that it asks for
 pub scripts_fit : (told : List ℕ → Option (List ℕ)) (command : Command) (sizes : Sizes) (scripts : Scripts)
@@ -267,18 +265,26 @@ has_printed sink out out_now IsText worked settled text written is_closed ends i
   ends = ends;
 }
 
+-- where work that failed left the gates, they were told of nothing
+pub gates_stay : {G T E : Type 0} (told : G → List Moment) (old new : Vec G Global) (result : Result T E) → OnErr result (new ≡ old)
+    → OnErr result ((gates_of told old.items new.items).now ≡ (gates_of told old.items new.items).before)
+gates_stay told old new (Ok done) same = tt
+gates_stay {G} told old new (Err failed) same = ap (λ (gates : Vec G Global). map told gates.items) same
+
 -- a run that played, or for which memory was wanting before
 pub ends_worked : {F S K : Type 0} (of_files : files_trait.Ghosts F S) (files files_now : F) (of_sink : sink_trait.Ghosts K)
-    (out out_now : K) (meaning : Option Command) (command : Command) (sizes : Sizes) (IsText : Settlement → List ℕ → Type 0)
+    (out out_now : K) (gates : Gates) (meaning : Option Command) (command : Command) (sizes : Sizes) (IsText : Settlement → List ℕ → Type 0)
     (result : Result Worked Ending)
     → IsAccepted meaning command sizes → of_files.opens files_now ≡ of_files.opens files + length (files_of command)
-    → ((settled : Settlement) (text : List ℕ) → IsText settled text → Prints (of_files.told files) command sizes settled text)
+    → ((settled : Settlement) (text : List ℕ) → IsText settled text → Prints (of_files.told files) gates command sizes settled text)
     → IfOk result (HasPrinted of_sink out out_now IsText) → IfErr result (λ ending. ending ≡ Memory) → OnErr result (out_now ≡ out)
-    → CauseOf meaning (outside of_files files of_sink out) (outside of_files files_now of_sink out_now)
+    → OnErr result (gates.now ≡ gates.before)
+    → CauseOf meaning (outside of_files files of_sink out) (outside of_files files_now of_sink out_now) gates
     (settled_of result) (ending_of result)
-ends_worked of_files files files_now of_sink out out_now meaning command sizes IsText (Err ending) accepted opened prints ok early kept =
-    rw (early, kept) (refl, refl)
-ends_worked of_files files files_now of_sink out out_now meaning command sizes IsText (Ok worked) accepted opened prints ok early kept =
+ends_worked of_files files files_now of_sink out out_now gates meaning command sizes IsText (Err ending) accepted opened prints ok early
+    kept untold = rw (early, kept) (refl, refl, untold)
+ends_worked of_files files files_now of_sink out out_now gates meaning command sizes IsText (Ok worked) accepted opened prints ok early
+    kept untold =
     rw (ok.is_closed, ok.ends) (by_writing ok.written ok.writes)
   where
     before : Outside
@@ -287,7 +293,7 @@ ends_worked of_files files files_now of_sink out out_now meaning command sizes I
     after : Outside
     after = outside of_files files_now of_sink out_now
 
-    played : (IsWritten : List ℕ → Type 0) → IsWritten ok.text → EndsPlayed meaning before after (Some ok.settled) IsWritten
+    played : (IsWritten : List ℕ → Type 0) → IsWritten ok.text → EndsPlayed meaning before after gates (Some ok.settled) IsWritten
     played IsWritten is = record {
       settled = ok.settled;
       is_closed = refl;
@@ -298,7 +304,7 @@ ends_worked of_files files files_now of_sink out out_now meaning command sizes I
     }
 
     by_writing : (written : Result (Unit {0}) Failed) → Writes of_sink ok.text out out_now written
-        → CauseOf meaning before after (Some ok.settled) (ending_after written)
+        → CauseOf meaning before after gates (Some ok.settled) (ending_after written)
     by_writing (Ok done) writes = played (GrowsBy before.out after.out) writes.whole
     by_writing (Err failed) writes = (
       played (λ text. GrowsByPart before.out after.out text × ¬ TakesText before text)
@@ -308,25 +314,27 @@ ends_worked of_files files files_now of_sink out out_now meaning command sizes I
 
 -- the run ends at a file
 pub ends_at_file : {F S K : Type 0} (of_files : files_trait.Ghosts F S) (files files_now : F) (of_sink : sink_trait.Ghosts K) (out : K)
-    (meaning : Option Command) (command : Command) (sizes : Sizes) (ending : Ending)
+    (gates : Gates) (meaning : Option Command) (command : Command) (sizes : Sizes) (ending : Ending)
     → IsAccepted meaning command sizes → StopsReading of_files files files_now (bad_line_of command) (files_of command) ending
-    → CauseOf meaning (outside of_files files of_sink out) (outside of_files files_now of_sink out) None ending
-ends_at_file of_files files files_now of_sink out meaning command sizes ending accepted stopped =
-    subst (CauseOf meaning (outside of_files files of_sink out) (outside of_files files_now of_sink out) None) (sym stopped.is)
+    → gates.now ≡ gates.before
+    → CauseOf meaning (outside of_files files of_sink out) (outside of_files files_now of_sink out) gates None ending
+ends_at_file of_files files files_now of_sink out gates meaning command sizes ending accepted stopped untold =
+    subst (CauseOf meaning (outside of_files files of_sink out) (outside of_files files_now of_sink out) gates None) (sym stopped.is)
     (by_fault stopped.file stopped.fault stopped.opened stopped.stops)
   where
     by_fault : (file : ℕ) (fault : TextFault) → of_files.opens files_now ≡ of_files.opens files + file
         → StopsWith of_files files files_now (bad_line_of command) (files_of command) file fault
-        → CauseOf meaning (outside of_files files of_sink out) (outside of_files files_now of_sink out) None (ending_for file fault)
+        → CauseOf meaning (outside of_files files of_sink out) (outside of_files files_now of_sink out) gates None (ending_for file fault)
     by_fault file ReadFault opened stops = (
       (record { command = command; sizes = sizes; accepted = accepted; stops = stops.0; opened = opened; unwritten = refl }, stops.1),
       refl,
+      untold,
     )
     by_fault file TooLong opened stops =
-        (record { command = command; sizes = sizes; accepted = accepted; stops = stops; opened = opened; unwritten = refl }, refl)
+        (record { command = command; sizes = sizes; accepted = accepted; stops = stops; opened = opened; unwritten = refl }, refl, untold)
     by_fault file (BadLine line) opened stops =
-        (record { command = command; sizes = sizes; accepted = accepted; stops = stops; opened = opened; unwritten = refl }, refl)
-    by_fault file NoMemory opened stops = (refl, refl)
+        (record { command = command; sizes = sizes; accepted = accepted; stops = stops; opened = opened; unwritten = refl }, refl, untold)
+    by_fault file NoMemory opened stops = (refl, refl, untold)
 
 -- contents of all files are contents of the first of them
 hold_first : (told : List ℕ → Option (List ℕ)) (names : List (List ℕ)) (content : ℕ → List ℕ) (i n : ℕ) → i ≤ n
@@ -371,23 +379,24 @@ at_good_shape meaning told fault ends free =
     (rw (asked.processes, asked.batches, asked.words, asked.quantum) first.has)
 
 -- where all files are told and fine, a run ends well or for want of memory, or the outside failed it
-ends_well_unless : (meaning : Option Command) (before after : Outside) (closed : Option Settlement) (ending : Ending) (status : ℕ)
-    → status ≡ status_of ending → CauseOf meaning before after closed ending
-    → IsPlayable meaning before.told → ((file : ℕ) → CauseOf meaning before after closed (Read file) → ⊥)
-    → (CauseOf meaning before after closed Write → ⊥) → (status ≡ 0) ⊎ (status ≡ 8)
-ends_well_unless meaning before after closed Done status is cause free reads writes = inl is
-ends_well_unless meaning before after closed Words status is cause free reads writes =
+ends_well_unless : (meaning : Option Command) (before after : Outside) (gates : Gates) (closed : Option Settlement) (ending : Ending)
+    (status : ℕ)
+    → status ≡ status_of ending → CauseOf meaning before after gates closed ending
+    → IsPlayable meaning before.told → ((file : ℕ) → CauseOf meaning before after gates closed (Read file) → ⊥)
+    → (CauseOf meaning before after gates closed Write → ⊥) → (status ≡ 0) ⊎ (status ≡ 8)
+ends_well_unless meaning before after gates closed Done status is cause free reads writes = inl is
+ends_well_unless meaning before after gates closed Words status is cause free reads writes =
     absurd (let e : None ≡ Some free.command = sym cause.0.0 ∙ free.accepted.meant in cc)
-ends_well_unless meaning before after closed (Shape fault) status is cause free reads writes =
+ends_well_unless meaning before after gates closed (Shape fault) status is cause free reads writes =
     absurd (at_good_shape meaning before.told fault cause.0.0 free)
-ends_well_unless meaning before after closed (Read file) status is cause free reads writes = absurd (reads file cause)
-ends_well_unless meaning before after closed (Long file) status is cause free reads writes =
+ends_well_unless meaning before after gates closed (Read file) status is cause free reads writes = absurd (reads file cause)
+ends_well_unless meaning before after gates closed (Long file) status is cause free reads writes =
     let fine = at_told_file meaning before after file (λ _ others bytes. ¬ IsWithin others bytes) cause.0 free in absurd (fine.3 fine.4)
-ends_well_unless meaning before after closed (Line file line) status is cause free reads writes =
+ends_well_unless meaning before after gates closed (Line file line) status is cause free reads writes =
     let fine = at_told_file meaning before after file (λ bad others bytes. IsWithin others bytes × (bad bytes ≡ Some line)) cause.0 free in
     absurd (let e : None ≡ Some line = sym fine.5 ∙ fine.3.1 in cc)
-ends_well_unless meaning before after closed Write status is cause free reads writes = absurd (writes cause)
-ends_well_unless meaning before after closed Memory status is cause free reads writes = inr is
+ends_well_unless meaning before after gates closed Write status is cause free reads writes = absurd (writes cause)
+ends_well_unless meaning before after gates closed Memory status is cause free reads writes = inr is
 
 -- two shapes that a command asks for are the same
 same_sizes : (command : Command) (one other : Sizes) → IsShapeOf command one → IsShapeOf command other → one ≡ other
@@ -406,21 +415,21 @@ same_sizes command one other p q =
     each
 
 -- where there are enough blocks a command prints the text that follows from its scripts alone
-ample_prints : (told : List ℕ → Option (List ℕ)) (command : Command) (sizes : Sizes) (settled : Settlement) (text other : List ℕ)
-    (content : ℕ → List ℕ)
-    → Prints told command sizes settled text → Hold told (files_of command) content (length (files_of command))
+ample_prints : (told : List ℕ → Option (List ℕ)) (gates : Gates) (command : Command) (sizes : Sizes) (settled : Settlement)
+    (text other : List ℕ) (content : ℕ → List ℕ)
+    → Prints told gates command sizes settled text → Hold told (files_of command) content (length (files_of command))
     → IsAmpleText command sizes content other → text ≡ other
-ample_prints told (Play play) sizes settled text other content prints hold ample =
+ample_prints told gates (Play play) sizes settled text other content prints hold ample =
     prints.is ∙ ap report (prints.played.unrefused content hold ample.scripts ample.enough) ∙ sym ample.is
-ample_prints told (Drill drill) sizes settled text other content prints hold ample =
+ample_prints told gates (Drill drill) sizes settled text other content prints hold ample =
     prints.is ∙ ap report (prints.played.unrefused content hold ample.scripts ample.enough) ∙ sym ample.is
-ample_prints told (Store words) sizes settled text other content prints hold ample =
+ample_prints told gates (Store words) sizes settled text other content prints hold ample =
     prints.is ∙ ap replies (prints.answered.unrefused content hold ample.scripts ample.enough) ∙ sym ample.is
 
 -- and so does a run
-ample_text : (meaning : Option Command) (told : List ℕ → Option (List ℕ)) (settled : Settlement) (text other : List ℕ)
-    → GivesText meaning told settled text → IsAmple meaning told other → text ≡ other
-ample_text meaning told settled text other gives ample =
+ample_text : (meaning : Option Command) (told : List ℕ → Option (List ℕ)) (gates : Gates) (settled : Settlement) (text other : List ℕ)
+    → GivesText meaning told gates settled text → IsAmple meaning told other → text ≡ other
+ample_text meaning told gates settled text other gives ample =
     let same : ample.command ≡ gives.command = same_command meaning ample.command gives.command ample.accepted.meant gives.accepted.meant in
     let asked : IsShapeOf gives.command ample.sizes =
     subst (λ (command : Command). IsShapeOf command ample.sizes) same ample.accepted.asked in
@@ -428,41 +437,43 @@ ample_text meaning told settled text other gives ample =
     = subst (λ (command : Command). Hold told (files_of command) ample.content (length (files_of command))) same ample.hold in
     let follows : IsAmpleText gives.command ample.sizes ample.content other
     = subst (λ (command : Command). IsAmpleText command ample.sizes ample.content other) same ample.ample in
-    ample_prints told gives.command gives.sizes settled text other ample.content gives.prints hold
+    ample_prints told gates gives.command gives.sizes settled text other ample.content gives.prints hold
     (subst (λ (sizes : Sizes). IsAmpleText gives.command sizes ample.content other)
     (same_sizes gives.command ample.sizes gives.sizes asked gives.accepted.asked) follows)
 
 -- the text of a run that ended well
-text_when_done : (meaning : Option Command) (before after : Outside) (closed : Option Settlement) (ending : Ending) (status : ℕ)
-    → status ≡ status_of ending → CauseOf meaning before after closed ending
-    → status ≡ 0 → EndsPlayed meaning before after closed (GrowsBy before.out after.out)
-text_when_done meaning before after closed Done status is cause well = cause
-text_when_done meaning before after closed Words status is cause well = absurd (omega (arith, is, well))
-text_when_done meaning before after closed (Shape fault) status is cause well = absurd (omega (arith, is, well))
-text_when_done meaning before after closed (Read file) status is cause well = absurd (omega (arith, is, well))
-text_when_done meaning before after closed (Long file) status is cause well = absurd (omega (arith, is, well))
-text_when_done meaning before after closed (Line file line) status is cause well = absurd (omega (arith, is, well))
-text_when_done meaning before after closed Write status is cause well = absurd (omega (arith, is, well))
-text_when_done meaning before after closed Memory status is cause well = absurd (omega (arith, is, well))
+text_when_done : (meaning : Option Command) (before after : Outside) (gates : Gates) (closed : Option Settlement) (ending : Ending)
+    (status : ℕ)
+    → status ≡ status_of ending → CauseOf meaning before after gates closed ending
+    → status ≡ 0 → EndsPlayed meaning before after gates closed (GrowsBy before.out after.out)
+text_when_done meaning before after gates closed Done status is cause well = cause
+text_when_done meaning before after gates closed Words status is cause well = absurd (omega (arith, is, well))
+text_when_done meaning before after gates closed (Shape fault) status is cause well = absurd (omega (arith, is, well))
+text_when_done meaning before after gates closed (Read file) status is cause well = absurd (omega (arith, is, well))
+text_when_done meaning before after gates closed (Long file) status is cause well = absurd (omega (arith, is, well))
+text_when_done meaning before after gates closed (Line file line) status is cause well = absurd (omega (arith, is, well))
+text_when_done meaning before after gates closed Write status is cause well = absurd (omega (arith, is, well))
+text_when_done meaning before after gates closed Memory status is cause well = absurd (omega (arith, is, well))
 
-module _ (meaning : Option Command) (before after : Outside) (closed : Option Settlement) (Told : Ending → Type 0) (status : ℕ)
-    (ends : Ends meaning before after closed Told status) where
+module _ (meaning : Option Command) (before after : Outside) (gates : Gates) (closed : Option Settlement) (Told : Ending → Type 0)
+    (status : ℕ) (ends : Ends meaning before after gates closed Told status) where
   -- where nothing hinders a run, it ends well or for want of memory
   pub unhindered : IsUnhindered meaning before after → (status ≡ 0) ⊎ (status ≡ 8)
   unhindered free =
-      ends_well_unless meaning before after closed ends.ending status ends.answered ends.cause free.playable
+      ends_well_unless meaning before after gates closed ends.ending status ends.answered ends.cause free.playable
       (λ file read. free.read read.0.1) (λ write. free.written write.1)
 
   -- where nothing can hinder a run, it ends well or for want of memory
   pub sure : IsSure meaning before → (status ≡ 0) ⊎ (status ≡ 8)
   sure free =
-      ends_well_unless meaning before after closed ends.ending status ends.answered ends.cause free.playable
+      ends_well_unless meaning before after gates closed ends.ending status ends.answered ends.cause free.playable
       (λ file read. let at = at_told_file meaning before after file (λ _ _ _. ¬ before.reliable) read.0.0 free.playable in
       at.3 free.reliable)
-      (λ write. write.0.written.1 (free.roomy write.0.settled write.0.text write.0.gives))
+      (λ write. write.0.written.1 (free.roomy gates write.0.settled write.0.text write.0.gives))
 
   -- with enough blocks the text follows from the files alone
   pub enough : (text : List ℕ) → IsAmple meaning before.told text → status ≡ 0 → GrowsBy before.out after.out text
   enough text ample well =
-      let done = text_when_done meaning before after closed ends.ending status ends.answered ends.cause well in
-      subst (λ text. GrowsBy before.out after.out text) (ample_text meaning before.told done.settled done.text text done.gives ample) done.written
+      let done = text_when_done meaning before after gates closed ends.ending status ends.answered ends.cause well in
+      subst (λ text. GrowsBy before.out after.out text)
+      (ample_text meaning before.told gates done.settled done.text text done.gives ample) done.written

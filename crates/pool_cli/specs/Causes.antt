@@ -1,15 +1,17 @@
 -- When each ending of a run comes.
-use Rattle.std.specs.Prelude.{◌≡◌, ℕ, ◌+◌, ◌^◌, ◌<◌, ◌≤◌, zero, suc, Option, Some, None, Result, List, length, slice_get}
+use Rattle.std.specs.Prelude.{◌≡◌, ℕ, ◌+◌, ◌^◌, ◌<◌, ◌≤◌, Option, Some, None, Result, List, length, slice_get, codes}
 use Rattle.command_words.specs.declared.command.Command.{Command}
 use Rattle.command_words.specs.declared.command.Command.TheVariants.{Play, Drill, Store}
 use Rattle.word_layout.specs.declared.fault.ShapeFault.{ShapeFault}
 use Rattle.word_layout.specs.Sizes.{Sizes, limits_of}
 use Rattle.word_layout.specs.Faults.{IsFirstFault}
 use Rattle.pool_model.specs.History.{own}
-use Rattle.pool_model.specs.Legal.{IsLegal}
 use Rattle.block_pool.specs.Closing.{Settlement}
 use Rattle.pool_runs.specs.Enough.{HasEnough}
-use Rattle.pool_runs.specs.Settled.{TookFewSteps}
+use Rattle.pool_runs.specs.Settled.{IsClosedRun}
+use Rattle.pass_players.specs.Settled as players
+use Rattle.store_player.specs.Player.{IsServed}
+use Rattle.pool_cli.specs.Gates.{Gates}
 use Rattle.pool_io.specs.Counts.{HasRisen}
 use Rattle.pool_io.specs.Told.{GrowsBy, GrowsByPart}
 use Rattle.pool_io.specs.Writes.{Writes}
@@ -21,35 +23,18 @@ use Rattle.store_script.specs.declared.answered.Answered.{Answered}
 use Rattle.store_script.specs.Reading.{IsReading}
 use Rattle.store_runs.specs.Enough as stores
 use Rattle.store_runs.specs.Enough.{answers_without_refusals}
-use Rattle.store_runs.specs.Settled.{HasAnswers}
 use Rattle.trace_player.specs.declared.tally.Tally.{Tally}
 use Rattle.trace_player.specs.Fit.{IsTallied}
 use Rattle.trace_player.specs.Plain.{tallies_without_refusals}
 use Rattle.trace_player.specs.Report.{report}
-use Rattle.pool_cli.specs.declared.ending.Ending.{Ending}
-use Rattle.pool_cli.specs.declared.ending.Ending.TheVariants.{Done, Words, Shape, Read, Long, Line, Write, Memory}
+use Rattle.file_runs.specs.declared.ending.Ending.{Ending}
+use Rattle.file_runs.specs.declared.ending.Ending.TheVariants.{Done, Words, Shape, Read, Long, Line, Write, Memory}
 use Rattle.pool_cli.specs.Asked.{IsScriptFor, PlaysTraces, bad_line_of, batches_of, files_of, processes_of, quantum_of, words_of}
-use Rattle.pool_cli.specs.Ending.{line_of, status_of}
-use Rattle.pool_cli.specs.Outside.{HasOpened, IsUntouched, IsUnwritten, Outside, TakesText}
+use Rattle.file_runs.specs.Ending.{line_of, status_of}
+use Rattle.file_runs.specs.Reading.{AreFine, Hold, IsWithin, StopsAt}
+use Rattle.file_runs.specs.Outside.{HasOpened, IsUntouched, IsUnwritten, Outside, TakesText}
 use Rattle.pool_cli.specs.Replies.{replies}
 use Rattle.pool_cli.specs.Shapes.{IsShapeOf}
-
--- the first so many names are told to hold these contents
-abbrev pub Hold : (List ℕ → Option (List ℕ)) → List (List ℕ) → (ℕ → List ℕ) → ℕ → Type 0
-Hold told names content count = (j : ℕ) (name : List ℕ) → j < count → slice_get names j ≡ Some name → told name ≡ Some (content j)
-
--- how many bytes the first so many files have
-abbrev pub taken : (ℕ → List ℕ) → ℕ → ℕ
-taken content zero = 0
-taken content (suc count) = taken content count + length (content count)
-
--- the file may be read whole, after so many bytes of other files
-abbrev pub IsWithin : ℕ → List ℕ → Type 0
-IsWithin before bytes = (length bytes ≤ 2 ^ 24) × (before + length bytes ≤ 2 ^ 26)
-
--- the first so many files may be read whole and have no bad line, in a language by which bytes have this first bad line
-abbrev pub AreFine : (List ℕ → Option ℕ) → (ℕ → List ℕ) → ℕ → Type 0
-AreFine bad content count = (j : ℕ) → j < count → IsWithin (taken content j) (content j) × (bad (content j) ≡ None)
 
 -- all files that a command names are fine
 abbrev pub FilesAreFine : Command → (ℕ → List ℕ) → Type 0
@@ -66,14 +51,10 @@ pub record IsAccepted (meaning : Option Command) (command : Command) (sizes : Si
   pub meant : meaning ≡ Some command
   pub asked : IsShapeOf command sizes
 
--- the pool was closed with one legal history of a free set; each process made at most a quantum of steps and one in each of its calls;
--- and its entries fit its script, with refusals that they determine, and give its tally
-pub record IsHistoryOf (command : Command) (sizes : Sizes) (content : ℕ → List ℕ) (settled : Settlement) (tallies : List Tally) : Type 0 where
-  pub shape : settled.sizes ≡ sizes
-  pub legal : IsLegal (limits_of sizes) settled.history
-  pub short : TookFewSteps sizes.processes settled
-  pub each : (j : ℕ) (tally : Tally) → slice_get tallies j ≡ Some tally
-      → (script : Script) × IsScriptFor command content j script × IsTallied j script (own settled.history j) tally
+-- the entries of each process in the history fit its script, with refusals that they determine, and give its tally
+abbrev pub IsHistoryOf : Command → (ℕ → List ℕ) → Settlement → List Tally → Type 0
+IsHistoryOf command content settled tallies = (j : ℕ) (tally : Tally) → slice_get tallies j ≡ Some tally
+    → (script : Script) × IsScriptFor command content j script × IsTallied j script (own settled.history j) tally
 
 -- these are the scripts that the command plays, and the pool has more blocks than its processes may withhold and the scripts hold at
 -- most if nothing is refused
@@ -81,25 +62,18 @@ pub record HasEnoughBlocks (command : Command) (sizes : Sizes) (content : ℕ �
   pub are_scripts : AreScriptsFor command content scripts
   pub enough : HasEnough (limits_of sizes) scripts
 
--- all files were read and all scripts of traces played: the files are fine, the tallies are computed from the one history, and with enough
--- blocks from the scripts alone
-pub record IsPlayed (told : List ℕ → Option (List ℕ)) (command : Command) (sizes : Sizes) (settled : Settlement) (tallies : List Tally)
-    : Type 0 where
+-- all files were read and all scripts of traces played. The pool was closed with one legal history of a free set, of the shape that is
+-- asked for; each call made at most a quantum of steps and one, and its process told its gate of it before. Where the files' bytes are
+-- told: the files are fine, the tallies are computed from the one history, and with enough blocks from the scripts alone.
+pub record IsPlayed (told : List ℕ → Option (List ℕ)) (gates : Gates) (command : Command) (sizes : Sizes) (settled : Settlement)
+    (tallies : List Tally) : Type 0 where
   pub one_each : length tallies ≡ processes_of command
+  pub run : IsClosedRun gates.before gates.now sizes settled
   pub fine : (content : ℕ → List ℕ) → Hold told (files_of command) content (length (files_of command)) → FilesAreFine command content
   pub played : (content : ℕ → List ℕ) → Hold told (files_of command) content (length (files_of command))
-      → IsHistoryOf command sizes content settled tallies
+      → IsHistoryOf command content settled tallies
   pub unrefused : (content : ℕ → List ℕ) → Hold told (files_of command) content (length (files_of command))
       → (scripts : List Script) → HasEnoughBlocks command sizes content scripts → tallies ≡ tallies_without_refusals scripts
-
--- the pool was closed with one legal history of a free set, of the shape that is asked for; the entries of each process fit the script that
--- its file says, with refusals that they determine; the answers are those with these, and it made four steps at least for each of them for
--- which the words of a block were used
-pub record IsStoreHistoryOf (sizes : Sizes) (content : ℕ → List ℕ) (settled : Settlement) (lists : List (List Answered)) : Type 0 where
-  pub shape : settled.sizes ≡ sizes
-  pub legal : IsLegal (limits_of sizes) settled.history
-  pub each : (j : ℕ) (answers : List Answered) → slice_get lists j ≡ Some answers
-      → (script : StoreScript) × IsReading (content j) script × HasAnswers settled j script answers
 
 -- these are the scripts of a store's files, one for each process, and the pool has more blocks than its processes may withhold and than
 -- the keys that are present at most if no put is refused
@@ -108,45 +82,40 @@ pub record HasEnoughForStores (command : Command) (sizes : Sizes) (content : ℕ
   pub each : (j : ℕ) (script : StoreScript) → slice_get scripts j ≡ Some script → IsReading (content j) script
   pub enough : stores.HasEnough (limits_of sizes) scripts
 
--- all files were read and all store scripts played: the files are fine, and the answers are computed from the one history, and with enough
--- blocks from the scripts alone
-pub record IsAnsweredAll (told : List ℕ → Option (List ℕ)) (command : Command) (sizes : Sizes) (settled : Settlement)
+-- all files were read and all store scripts played. The pool was closed with one legal history of a free set, of the shape that is asked
+-- for; the entries of each process fit its script, with refusals that they determine, and the answers are those with these; each command
+-- took its steps, and its process told its gate of each call before. Where the files' bytes are told: the files are fine and say these
+-- scripts, and with enough blocks the answers follow from the scripts alone.
+pub record IsAnsweredAll (told : List ℕ → Option (List ℕ)) (gates : Gates) (command : Command) (sizes : Sizes) (settled : Settlement)
     (lists : List (List Answered)) : Type 0 where
-  pub one_each : length lists ≡ processes_of command
+  pub scripts : List StoreScript
+  pub one_each : length scripts ≡ processes_of command
+  pub run : players.IsSettledBy IsServed gates.before gates.now sizes scripts lists settled
   pub fine : (content : ℕ → List ℕ) → Hold told (files_of command) content (length (files_of command)) → FilesAreFine command content
-  pub answered : (content : ℕ → List ℕ) → Hold told (files_of command) content (length (files_of command))
-      → IsStoreHistoryOf sizes content settled lists
+  pub said : (content : ℕ → List ℕ) → Hold told (files_of command) content (length (files_of command))
+      → (j : ℕ) (script : StoreScript) → slice_get scripts j ≡ Some script → IsReading (content j) script
   pub unrefused : (content : ℕ → List ℕ) → Hold told (files_of command) content (length (files_of command))
-      → (scripts : List StoreScript) → HasEnoughForStores command sizes content scripts → lists ≡ answers_without_refusals scripts
+      → (others : List StoreScript) → HasEnoughForStores command sizes content others → lists ≡ answers_without_refusals others
 
 -- the text is the report of tallies that are played for
-pub record PrintsReport (told : List ℕ → Option (List ℕ)) (command : Command) (sizes : Sizes) (settled : Settlement) (text : List ℕ)
-    : Type 0 where
+pub record PrintsReport (told : List ℕ → Option (List ℕ)) (gates : Gates) (command : Command) (sizes : Sizes) (settled : Settlement)
+    (text : List ℕ) : Type 0 where
   pub tallies : List Tally
-  pub played : IsPlayed told command sizes settled tallies
+  pub played : IsPlayed told gates command sizes settled tallies
   pub is : text ≡ report tallies
 
 -- the text is the replies to all files, one after the other
-pub record PrintsReplies (told : List ℕ → Option (List ℕ)) (command : Command) (sizes : Sizes) (settled : Settlement) (text : List ℕ)
-    : Type 0 where
+pub record PrintsReplies (told : List ℕ → Option (List ℕ)) (gates : Gates) (command : Command) (sizes : Sizes) (settled : Settlement)
+    (text : List ℕ) : Type 0 where
   pub lists : List (List Answered)
-  pub answered : IsAnsweredAll told command sizes settled lists
+  pub answered : IsAnsweredAll told gates command sizes settled lists
   pub is : text ≡ replies lists
 
--- what a command prints over a pool of this shape that was closed with this history
-abbrev pub Prints : (List ℕ → Option (List ℕ)) → Command → Sizes → Settlement → List ℕ → Type 0
-Prints told (Play play) sizes settled text = PrintsReport told (Play play) sizes settled text
-Prints told (Drill drill) sizes settled text = PrintsReport told (Drill drill) sizes settled text
-Prints told (Store store) sizes settled text = PrintsReplies told (Store store) sizes settled text
-
--- the run ended at a file, which has this fact after so many bytes of the files before it, which are fine
-pub record StopsAt (bad : List ℕ → Option ℕ) (told : List ℕ → Option (List ℕ)) (names : List (List ℕ)) (file : ℕ)
-    (Fact : ℕ → List ℕ → Type 0) : Type 0 where
-  pub index : ℕ
-  pub number : file ≡ index + 1
-  pub within : index < length names
-  pub earlier : (content : ℕ → List ℕ) → Hold told names content index → AreFine bad content index
-  pub here : (content : ℕ → List ℕ) → Hold told names content (index + 1) → Fact (taken content index) (content index)
+-- what a command prints over a pool of this shape that was closed with this history, of whose calls the gates were told
+abbrev pub Prints : (List ℕ → Option (List ℕ)) → Gates → Command → Sizes → Settlement → List ℕ → Type 0
+Prints told gates (Play play) sizes settled text = PrintsReport told gates (Play play) sizes settled text
+Prints told gates (Drill drill) sizes settled text = PrintsReport told gates (Drill drill) sizes settled text
+Prints told gates (Store store) sizes settled text = PrintsReplies told gates (Store store) sizes settled text
 
 -- the words were accepted and the run ended at a file, the last that was opened; the fact may speak of the first bad line in the language
 -- of the command's files
@@ -159,20 +128,21 @@ pub record EndsAtFile (meaning : Option Command) (before after : Outside) (file 
   pub opened : HasOpened before after file
   pub unwritten : IsUnwritten before after
 
--- the words were accepted, and what they ask for gives this history and prints this text
-pub record GivesText (meaning : Option Command) (told : List ℕ → Option (List ℕ)) (settled : Settlement) (text : List ℕ) : Type 0 where
+-- the words were accepted, and what they ask for gives this history, of whose calls the gates were told, and prints this text
+pub record GivesText (meaning : Option Command) (told : List ℕ → Option (List ℕ)) (gates : Gates) (settled : Settlement) (text : List ℕ)
+    : Type 0 where
   pub command : Command
   pub sizes : Sizes
   pub accepted : IsAccepted meaning command sizes
-  pub prints : Prints told command sizes settled text
+  pub prints : Prints told gates command sizes settled text
 
 -- all files were opened, all scripts played, and the pool closed with this history; this was done with the text
-pub record EndsPlayed (meaning : Option Command) (before after : Outside) (closed : Option Settlement) (IsWritten : List ℕ → Type 0)
-    : Type 0 where
+pub record EndsPlayed (meaning : Option Command) (before after : Outside) (gates : Gates) (closed : Option Settlement)
+    (IsWritten : List ℕ → Type 0) : Type 0 where
   pub settled : Settlement
   pub is_closed : closed ≡ Some settled
   pub text : List ℕ
-  pub gives : GivesText meaning before.told settled text
+  pub gives : GivesText meaning before.told gates settled text
   pub opened : HasOpened before after (length (files_of gives.command))
   pub written : IsWritten text
 
@@ -196,23 +166,25 @@ EarlyCause meaning before after (Line file line) =
 EarlyCause meaning before after Write = ⊥
 EarlyCause meaning before after Memory = IsUnwritten before after
 
--- When each ending comes, and what the pool was closed with. An output that failed wasn't sure to take the text.
-abbrev pub CauseOf : Option Command → Outside → Outside → Option Settlement → Ending → Type 0
-CauseOf meaning before after closed Done = EndsPlayed meaning before after closed (GrowsBy before.out after.out)
-CauseOf meaning before after closed Write =
-    EndsPlayed meaning before after closed (λ text. GrowsByPart before.out after.out text × ¬ TakesText before text)
+-- When each ending comes, and what the pool was closed with. An output that failed wasn't sure to take the text. Where the run ended before
+-- its playing, no gate was told of anything.
+abbrev pub CauseOf : Option Command → Outside → Outside → Gates → Option Settlement → Ending → Type 0
+CauseOf meaning before after gates closed Done = EndsPlayed meaning before after gates closed (GrowsBy before.out after.out)
+CauseOf meaning before after gates closed Write =
+    EndsPlayed meaning before after gates closed (λ text. GrowsByPart before.out after.out text × ¬ TakesText before text)
     × HasRisen before.out_faults after.out_faults
-CauseOf meaning before after closed ending = EarlyCause meaning before after ending × (closed ≡ None)
+CauseOf meaning before after gates closed ending =
+    EarlyCause meaning before after ending × (closed ≡ None) × (gates.now ≡ gates.before)
 
 -- the line of the ending was written to this sink, or a part of it where the sink failed
 abbrev pub IsTold : {K : Type 0} → Ghosts K → K → K → Ending → Type 0
-IsTold sink before after ending = (result : Result (Unit {0}) Failed) × Writes sink (line_of ending) before after result
+IsTold sink before after ending = (result : Result (Unit {0}) Failed) × Writes sink (line_of (codes "pooltrace") ending) before after result
 
 -- a run with this status and this history: it had cause to end so, and was told so
-pub record Ends (meaning : Option Command) (before after : Outside) (closed : Option Settlement) (Told : Ending → Type 0) (status : ℕ)
-    : Type 0 where
+pub record Ends (meaning : Option Command) (before after : Outside) (gates : Gates) (closed : Option Settlement)
+    (Told : Ending → Type 0) (status : ℕ) : Type 0 where
   pub ending : Ending
-  pub cause : CauseOf meaning before after closed ending
+  pub cause : CauseOf meaning before after gates closed ending
   pub line : Told ending
   pub answered : status ≡ status_of ending
 
@@ -235,7 +207,8 @@ pub record IsUnhindered (meaning : Option Command) (before after : Outside) : Ty
 pub record IsSure (meaning : Option Command) (before : Outside) : Type 0 where
   pub playable : IsPlayable meaning before.told
   pub reliable : before.reliable
-  pub roomy : (settled : Settlement) (text : List ℕ) → GivesText meaning before.told settled text → TakesText before text
+  pub roomy : (gates : Gates) (settled : Settlement) (text : List ℕ) → GivesText meaning before.told gates settled text
+      → TakesText before text
 
 -- the text is the report of scripts for which there are enough blocks
 pub record IsAmpleReport (command : Command) (sizes : Sizes) (content : ℕ → List ℕ) (text : List ℕ) : Type 0 where

@@ -1,9 +1,8 @@
 pub mod Asked
 pub mod Causes
 pub mod Ending
-pub mod Outside
 pub mod Playing
 pub mod Printed
 pub mod Replies
-pub mod Scripts
 pub mod Shapes
+pub mod Gates

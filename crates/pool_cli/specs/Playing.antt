@@ -13,8 +13,9 @@ use Rattle.store_runs.specs.Playable as stores
 use Rattle.pool_cli.specs.declared.scripts.Scripts.{Scripts}
 use Rattle.pool_cli.specs.declared.scripts.Scripts.TheVariants.{Traces, Stores}
 use Rattle.pool_cli.specs.Asked.{IsScriptOf}
+use Rattle.pool_cli.specs.Gates.{Gates}
 use Rattle.pool_cli.specs.Printed.{AreRepliesOf, IsReportOf}
-use Rattle.pool_cli.specs.Scripts.{ReadsAll}
+use Rattle.file_runs.specs.Reading.{ReadsAll}
 
 -- these are the scripts that the command plays, where the files tell this
 abbrev pub AreScriptsOf : (List ℕ → Option (List ℕ)) → Command → Scripts → Type 0
@@ -33,7 +34,7 @@ abbrev pub Fit : Sizes → Scripts → Type 0
 Fit sizes (Traces scripts) = length scripts.items ≡ sizes.processes
 Fit sizes (Stores scripts) = (length scripts.items ≡ sizes.processes) × (4 ≤ sizes.words)
 
--- the text is what is printed of them, over a pool of these numbers that was closed with this history
-abbrev pub IsTextOf : Sizes → Scripts → Settlement → List ℕ → Type 0
-IsTextOf sizes (Traces scripts) settled text = IsReportOf sizes scripts.items settled text
-IsTextOf sizes (Stores scripts) settled text = AreRepliesOf sizes scripts.items settled text
+-- the text is what is printed of them, over a pool of these numbers that was closed with this history; the gates were told of its calls
+abbrev pub IsTextOf : Gates → Sizes → Scripts → Settlement → List ℕ → Type 0
+IsTextOf gates sizes (Traces scripts) settled text = IsReportOf gates sizes scripts.items settled text
+IsTextOf gates sizes (Stores scripts) settled text = AreRepliesOf gates sizes scripts.items settled text

@@ -13,17 +13,19 @@ use Rattle.pool_io.specs.declared.files.Failed.{Failed}
 use Rattle.pool_io.specs.declared.sink.Sink.{Ghosts}
 use Rattle.pool_io.specs.Writes.{Writes}
 use Rattle.pool_cli.specs.declared.ending.Worked.{Worked}
-use Rattle.pool_cli.specs.Ending.{ending_after}
+use Rattle.file_runs.specs.Ending.{ending_after}
+use Rattle.pool_cli.specs.Gates.{Gates}
 use Rattle.pool_cli.specs.Replies.{replies}
 
--- the text is the report of the tallies that this history gives to the scripts
-abbrev pub IsReportOf : Sizes → List Script → Settlement → List ℕ → Type 0
-IsReportOf sizes scripts settled text = (tallies : List Tally) × IsSettledBy sizes scripts tallies settled × (text ≡ report tallies)
+-- the text is the report of the tallies that this history gives to the scripts, of whose calls the gates were told
+abbrev pub IsReportOf : Gates → Sizes → List Script → Settlement → List ℕ → Type 0
+IsReportOf gates sizes scripts settled text =
+    (tallies : List Tally) × IsSettledBy gates.before gates.now sizes scripts tallies settled × (text ≡ report tallies)
 
--- the text is the replies that this history gives to the scripts
-abbrev pub AreRepliesOf : Sizes → List StoreScript → Settlement → List ℕ → Type 0
-AreRepliesOf sizes scripts settled text =
-    (lists : List (List Answered)) × store.IsSettledBy sizes scripts lists settled × (text ≡ replies lists)
+-- the text is the replies that this history gives to the scripts, of whose calls the gates were told
+abbrev pub AreRepliesOf : Gates → Sizes → List StoreScript → Settlement → List ℕ → Type 0
+AreRepliesOf gates sizes scripts settled text =
+    (lists : List (List Answered)) × store.IsSettledBy gates.before gates.now sizes scripts lists settled × (text ≡ replies lists)
 
 -- a pool was closed, and such a text was written, or a part of it where the output failed
 pub record HasPrinted {K : Type 0} (sink : Ghosts K) (before after : K) (IsText : Settlement → List ℕ → Type 0) (worked : Worked)

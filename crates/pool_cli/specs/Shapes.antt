@@ -5,8 +5,8 @@ use Rattle.word_layout.specs.declared.fault.ShapeFault.{ShapeFault}
 use Rattle.word_layout.specs.Sizes.{Sizes, IsShape}
 use Rattle.word_layout.specs.Faults.{IsFirstFault}
 use Rattle.pool_cli.specs.Asked.{batches_of, processes_of, quantum_of, words_of}
-use Rattle.pool_cli.specs.declared.ending.Ending.{Ending}
-use Rattle.pool_cli.specs.declared.ending.Ending.TheVariants.{Shape}
+use Rattle.file_runs.specs.declared.ending.Ending.{Ending}
+use Rattle.file_runs.specs.declared.ending.Ending.TheVariants.{Shape}
 
 -- the numbers are those that the command asks for
 pub record IsShapeOf (command : Command) (sizes : Sizes) : Type 0 where

@@ -1,6 +1,6 @@
 // The languages of the files that commands name.
 
-use crate::reading::{FileScript, Language};
+use file_runs::{Language, ReadFile};
 use line_text::TextFault;
 use mtrace_reader::{Script, read_trace, script};
 use pool_io::Files;
@@ -18,13 +18,13 @@ impl Language for Traces {
     ghost use Rattle.pool_runs.specs.Playable.{IsPlayable};
     ghost use Rattle.pool_cli.specs.Asked.{IsScriptOf};
 
-    type Script = Script;
+    type Said = Script;
 
     ghost bad = { λ _. bad_line };
 
     ghost says = { λ traces bytes script. IsScriptOf traces.size bytes script };
 
-    ghost playable = { λ _ script. IsPlayable script };
+    ghost usable = { λ _ script. IsPlayable script };
 
     fn read<F: Files>(
         &self,
@@ -32,13 +32,13 @@ impl Language for Traces {
         files: &mut F,
         source: F::Source,
         room: u64,
-    ) -> Result<FileScript<Script>, TextFault> {
+    ) -> Result<ReadFile<Script>, TextFault> {
         let trace = read_trace(alloc, files, source, room)?;
         let Ok(script) = script(alloc, &trace, self.size) else {
             return Err(TextFault::NoMemory);
         };
-        Ok(FileScript {
-            script,
+        Ok(ReadFile {
+            said: script,
             bytes: trace.bytes,
         })
     }
@@ -52,13 +52,13 @@ impl Language for Stores {
     ghost use Rattle.store_script.specs.Reading.{IsReading, bad_line};
     ghost use Rattle.store_runs.specs.Playable.{IsPlayable};
 
-    type Script = StoreScript;
+    type Said = StoreScript;
 
     ghost bad = { λ _. bad_line };
 
     ghost says = { λ _ bytes script. IsReading bytes script };
 
-    ghost playable = { λ _ script. IsPlayable script };
+    ghost usable = { λ _ script. IsPlayable script };
 
     fn read<F: Files>(
         &self,
@@ -66,9 +66,12 @@ impl Language for Stores {
         files: &mut F,
         source: F::Source,
         room: u64,
-    ) -> Result<FileScript<StoreScript>, TextFault> {
+    ) -> Result<ReadFile<StoreScript>, TextFault> {
         let script = read_script(alloc, files, source, room)?;
         let bytes = script.bytes;
-        Ok(FileScript { script, bytes })
+        Ok(ReadFile {
+            said: script,
+            bytes,
+        })
     }
 }

@@ -1,20 +1,20 @@
-//! The program as one call over any files, sinks and gate: words in, a text and a status out.
+//! The program as one call over any files, sinks and gates: words in, a text and a status out.
 #![tactic(auto)]
 
 mod commands;
 mod ending;
+mod gates;
 mod languages;
-mod line;
 mod printing;
 mod program;
-mod reading;
 mod replies;
 mod report;
 mod scripts;
 mod shape;
-mod tell;
 
-pub use ending::{Ended, Ending};
+pub use ending::Ended;
+pub use file_runs::Ending;
+pub use gates::{MOST_PROCESSES, open_gates};
 pub use program::run;
 
 #[cfg(test)]

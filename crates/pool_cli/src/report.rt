@@ -4,7 +4,7 @@ ghost use Rattle.arrayvec.specs.ArrayString.{array_string_len};
 ghost use Rattle.pool_io.specs.Writes.{Writes};
 ghost use Rattle.trace_player.specs.Report.{column_text, columns_of, line_text, lines_from, report, sums_of};
 
-use crate::line::{LONGEST_LINE, Line, push_number};
+use file_runs::{LONGEST_LINE, Line, push_number};
 use itoa::Buffer;
 use pool_io::{Failed, Sink, write_whole};
 use std::slice;

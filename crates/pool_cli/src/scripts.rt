@@ -3,12 +3,12 @@ ghost use Rattle.std.specs.Prelude.{◌≡◌, ◌+◌, ◌^◌, ◌<◌, length
 ghost use Rattle.command_words.specs.Meant.{HasFewCalls};
 ghost use Rattle.pool_cli.specs.Asked.{bad_line_of, files_of};
 ghost use Rattle.pool_cli.specs.Playing.{ArePlayable, AreScriptsOf};
-ghost use Rattle.pool_cli.specs.Scripts.{StopsReading};
+ghost use Rattle.file_runs.specs.Reading.{StopsReading};
 
 use crate::Ending;
 use crate::languages::{Stores, Traces};
-use crate::reading::read_files;
 use command_words::Command;
+use file_runs::read_files;
 use mtrace_reader::Script;
 use pool_io::Files;
 use pool_runs::drill_scripts;

@@ -1,13 +1,20 @@
-ghost use Rattle.std.specs.Prelude.{◌≡◌, ◌^◌, ◌<◌, IfOk};
+// Runs of the program's top call.
+ghost use Rattle.std.specs.Prelude.{◌≡◌, ◌^◌, ◌<◌, ◌≤◌, IfOk, length};
 
-use crate::run;
-use pool_io::{Gate, MemoryFiles, MemorySink, OpenGate};
+use crate::{MOST_PROCESSES, open_gates, run};
+use pass_players::Gate;
+use pool_io::{MemoryFiles, MemorySink};
 use pool_model::NoMemory;
 use std::alloc::{AllocError, Global};
-use std::sync::atomic::{AtomicBool, AtomicU64, Ordering};
+use std::str;
+use std::sync::atomic::{AtomicU64, Ordering};
 use std::test::Fail;
 use std::thread::Threads;
-use std::{hint, str};
+
+mod gates;
+mod memory;
+
+use gates::{Meeting, counters, waiting_gates};
 
 const AMPLE: usize = 4096;
 
@@ -110,19 +117,28 @@ fn words_of(alloc: Global, line: &str) -> Result<Vec<String>, AllocError> {
 }
 
 // Runs the words of a line with these sinks.
-fn run_with<R: Threads + Sync, G: Gate + Sync>(
+fn run_with<R: Threads + Sync, G: Gate + Send>(
     rt: &R,
     alloc: Global,
     line: &str,
     files: &mut MemoryFiles,
     mut out: MemorySink,
     mut err: MemorySink,
-    gate: &G,
+    gates: &mut Vec<G>,
 ) -> Result<Outcome, Fail>
-    requires { files.old.opens < 2 ^ 63 }
+    requires opens { files.old.opens < 2 ^ 63 }
+    requires gates { MOST_PROCESSES ≤ length gates.old.items }
 {
     let words = words_of(alloc, line)?;
-    let ended = run(rt, alloc, words.as_slice(), files, &mut out, &mut err, gate);
+    let ended = run(
+        rt,
+        alloc,
+        words.as_slice(),
+        files,
+        &mut out,
+        &mut err,
+        gates,
+    );
     Ok(Outcome {
         status: ended.status,
         settled: ended.settled.is_some(),
@@ -130,18 +146,6 @@ fn run_with<R: Threads + Sync, G: Gate + Sync>(
         out,
         err,
     })
-}
-
-// A gate that counts the calls that it is told of.
-#[derive(Drop)]
-struct Counter {
-    told: AtomicU64,
-}
-
-impl Gate for Counter {
-    fn pass(&self, _process: u32, _call: u64) {
-        self.told.fetch_add(1, Ordering::SeqCst);
-    }
 }
 
 // Runs the words of a line with sinks that take all.
@@ -155,11 +159,10 @@ fn run_line<R: Threads + Sync>(
 {
     let out = failing_sink(alloc, AMPLE, AMPLE, NEVER)?;
     let err = failing_sink(alloc, AMPLE, AMPLE, NEVER)?;
-    let gate = Counter {
-        told: AtomicU64::new(0),
-    };
-    let outcome = run_with(rt, alloc, line, files, out, err, &gate)?;
-    let told = gate.told.load(Ordering::SeqCst);
+    let count = AtomicU64::new(0);
+    let mut gates = counters(alloc, &count)?;
+    let outcome = run_with(rt, alloc, line, files, out, err, &mut gates)?;
+    let told = count.load(Ordering::SeqCst);
     Ok(Outcome { told, ..outcome })
 }
 
@@ -479,38 +482,6 @@ fn replies_of_stores(rt: HostRuntime) -> Result<(), Fail> {
     Ok(())
 }
 
-// A gate at which each of two processes waits before its first call until the other is before its own.
-#[derive(Drop)]
-struct Meeting {
-    first: AtomicBool,
-    second: AtomicBool,
-    missed: AtomicBool,
-}
-
-// How often a process looks for the other one at most.
-const MOST_LOOKS: u32 = 100_000_000;
-
-impl Gate for Meeting {
-    fn pass(&self, process: u32, call: u64) {
-        if call > 0 {
-            return;
-        }
-        let (own, other) = if process == 0 {
-            (&self.first, &self.second)
-        } else {
-            (&self.second, &self.first)
-        };
-        own.store(true, Ordering::SeqCst);
-        for _look in 0..MOST_LOOKS {
-            if other.load(Ordering::SeqCst) {
-                return;
-            }
-            hint::spin_loop();
-        }
-        self.missed.store(true, Ordering::SeqCst);
-    }
-}
-
 // Runs the words of a line on two files of the same bytes, whose processes meet before their first calls. Whether they
 // met, and the status.
 fn meet<R: Threads + Sync>(
@@ -522,14 +493,10 @@ fn meet<R: Threads + Sync>(
     let mut files = files_of(alloc, &[("f", bytes), ("g", bytes)])?;
     let out = failing_sink(alloc, AMPLE, AMPLE, NEVER)?;
     let err = failing_sink(alloc, AMPLE, AMPLE, NEVER)?;
-    let gate = Meeting {
-        first: AtomicBool::new(false),
-        second: AtomicBool::new(false),
-        missed: AtomicBool::new(false),
-    };
-    let outcome = run_with(rt, alloc, line, &mut files, out, err, &gate)?;
-    let met = gate.first.load(Ordering::SeqCst) && !gate.missed.load(Ordering::SeqCst);
-    Ok((met, outcome.status))
+    let meeting = Meeting::new();
+    let mut gates = waiting_gates(alloc, &meeting)?;
+    let outcome = run_with(rt, alloc, line, &mut files, out, err, &mut gates)?;
+    Ok((meeting.was_held(), outcome.status))
 }
 
 #[test]
@@ -671,7 +638,8 @@ fn one_failing_write(rt: HostRuntime) -> Result<(), Fail> {
         let mut files = files_of(alloc, &[("e", EMPTY_TRACE), ("s", GET)])?;
         let sink = failing_sink(alloc, *room, *most, *failing)?;
         let err = failing_sink(alloc, AMPLE, AMPLE, NEVER)?;
-        let outcome = run_with(&rt, alloc, line, &mut files, sink, err, &OpenGate)?;
+        let mut gates = open_gates(alloc)?;
+        let outcome = run_with(&rt, alloc, line, &mut files, sink, err, &mut gates)?;
         assert_eq!(rt;
             outcome.parts(),
             (7, *out, "pooltrace: write\n"),
@@ -702,7 +670,7 @@ fn a_failing_error_sink_changes_no_status(rt: HostRuntime) -> Result<(), Fail> {
             &mut files,
             out,
             sink,
-            &OpenGate,
+            &mut open_gates(alloc)?,
         )?;
         assert_eq!(rt; outcome.parts(), (4, "", *err), "{room} {most} {failing}");
     }

@@ -1,5 +1,6 @@
 -- Texts that are written one after the other.
-use Rattle.std.proofs.Common.{◌≡◌, suc, ℕ, ◌+◌, ◌-◌, ◌≤◌, List, [], ◌∷◌, ◌++◌, length, take, refl, sym, ap, ◌∙◌, subst, arith, length-append, Result, Ok, Err}
+use Rattle.std.proofs.Common.{◌≡◌, suc, ℕ, ◌+◌, ◌-◌, ◌≤◌, List, [], ◌∷◌, ◌++◌, length, take, refl, sym, ap, ◌∙◌, subst, arith}
+use Rattle.std.proofs.Common.{length-append, Result, Ok, Err}
 use Rattle.std.proofs.lemmas.List.{take-append-le}
 use Rattle.std.specs.Prelude.{Option, IsOk}
 use Rattle.pool_io.specs.declared.sink.Sink.{Ghosts as Sink}
@@ -7,6 +8,7 @@ use Rattle.pool_io.specs.Told.{GrowsBy, GrowsByPart}
 use Rattle.pool_io.specs.Writes.{Writes}
 use Rattle.pool_io.proofs.Told.{GrowsBy-nil, GrowsBy-append}
 
+-- the first bytes of two texts, the whole first one among them
 take-append_over : (first second : List ℕ) (count : ℕ) → take (length first + count) (first ++ second) ≡ first ++ take count second
 take-append_over [] second count = ap (λ n. take n second) (let same : 0 + count ≡ count = omega arith in same)
 take-append_over (x ∷ first) second count =
@@ -14,15 +16,18 @@ take-append_over (x ∷ first) second count =
     ap (λ n. take n (x ∷ (first ++ second))) next ∙ ap (λ xs. x ∷ xs) (take-append_over first second count)
 
 -- a whole text, and then a part of the next
-GrowsByPart-append : (before between now : Option (List ℕ)) (first second : List ℕ) → GrowsBy before between first → GrowsByPart between now second → GrowsByPart before now (first ++ second)
+GrowsByPart-append : (before between now : Option (List ℕ)) (first second : List ℕ) → GrowsBy before between first
+    → GrowsByPart between now second → GrowsByPart before now (first ++ second)
 GrowsByPart-append before between now first second whole part = record {
   count = length first + part.count;
   part = omega (arith, part.part, length-append first second);
-  grown = subst (GrowsBy before now) (sym (take-append_over first second part.count)) (GrowsBy-append before between now first (take part.count second) whole part.grown);
+  grown = subst (GrowsBy before now) (sym (take-append_over first second part.count))
+      (GrowsBy-append before between now first (take part.count second) whole part.grown);
 }
 
 -- a part of a text is a part of a longer one
-GrowsByPart-longer : (before now : Option (List ℕ)) (first second : List ℕ) → GrowsByPart before now first → GrowsByPart before now (first ++ second)
+GrowsByPart-longer : (before now : Option (List ℕ)) (first second : List ℕ) → GrowsByPart before now first
+    → GrowsByPart before now (first ++ second)
 GrowsByPart-longer before now first second part = record {
   count = part.count;
   part = omega (arith, part.part, length-append first second);
@@ -42,8 +47,10 @@ module _ {K E : Type 0} (sink : Sink K) where
   }
 
   module _ {T U : Type 0} (first second : List ℕ) (before between after : K) (x : T) where
+    -- a sink that takes both takes the second after the first
     sure_both : (result : Result U E) → Writes {E = E} sink first before between (Ok x) → Writes sink second between after result
-        → (room : ℕ) → sink.takes before room → length (first ++ second) ≤ room → IsOk result × sink.takes after (room - length (first ++ second))
+        → (room : ℕ) → sink.takes before room → length (first ++ second) ≤ room
+        → IsOk result × sink.takes after (room - length (first ++ second))
     sure_both result one two room takes fits =
         let long = length-append first second in
         let next = one.sure room takes (omega arith) in
@@ -52,7 +59,8 @@ module _ {K E : Type 0} (sink : Sink K) where
         (last.0, subst (sink.takes after) same last.1)
 
     -- a text, and then another: the answer is that of the second
-    pub writes_both : (result : Result U E) → Writes {E = E} sink first before between (Ok x) → Writes sink second between after result → Writes sink (first ++ second) before after result
+    pub writes_both : (result : Result U E) → Writes {E = E} sink first before between (Ok x) → Writes sink second between after result
+        → Writes sink (first ++ second) before after result
     writes_both (Ok y) one two = record {
       whole = GrowsBy-append _ _ _ first second one.whole two.whole;
       part = tt;
@@ -71,7 +79,8 @@ module _ {K E : Type 0} (sink : Sink K) where
     }
 
   -- a part of a text, and nothing of what was to follow
-  pub writes_part : {T U : Type 0} (first second : List ℕ) (before after : K) (e e' : E) → Writes {T = T} sink first before after (Err e) → Writes {T = U} sink (first ++ second) before after (Err e')
+  pub writes_part : {T U : Type 0} (first second : List ℕ) (before after : K) (e e' : E)
+      → Writes {T = T} sink first before after (Err e) → Writes {T = U} sink (first ++ second) before after (Err e')
   writes_part first second before after e e' one = record {
     whole = tt;
     part = GrowsByPart-longer _ _ first second one.part;

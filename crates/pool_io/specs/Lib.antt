@@ -1,5 +1,4 @@
 pub mod Counts
-pub mod Gates
 pub mod Links
 pub mod MemoryFiles
 pub mod MemorySink

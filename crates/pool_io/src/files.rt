@@ -1,5 +1,6 @@
 // Files as a reader sees them: what a name holds, what a source has left, and how often a call failed.
-ghost use Rattle.std.specs.Prelude.{◌≡◌, ◌+◌, ◌-◌, ◌^◌, ◌<◌, ◌≤◌, ℕ, List, [], ◌∷◌, ◌++◌, Option, length, take, IfOk, OnOk, OnErr, IsOk, IsSome};
+ghost use Rattle.std.specs.Prelude.{◌≡◌, ◌+◌, ◌-◌, ◌^◌, ◌<◌, ◌≤◌, ℕ, List, [], ◌∷◌, ◌++◌, Option, length, take, IfOk, OnOk, OnErr, IsOk};
+ghost use Rattle.std.specs.Prelude.{IsSome};
 ghost use Rattle.std.specs.Result.{result_ok};
 ghost use Rattle.pool_io.specs.Counts.{HasRisen};
 ghost use Rattle.pool_io.specs.Told.{HandsOut, IsAtEnd};

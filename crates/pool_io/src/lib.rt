@@ -1,4 +1,4 @@
-//! The outside: files that are read, a sink that is written to, and a gate that players tell of their calls.
+//! The outside: files that are read, a sink that is written to, and the words of the command line.
 //!
 //! [`Files`] and [`Sink`] say by their ghost members what is known of the outside: how often it failed, and,
 //! where an implementation tells them, its bytes. [`MemoryFiles`] and [`MemorySink`] stand in memory and tell
@@ -9,7 +9,6 @@ mod answers;
 mod command_line;
 mod counts;
 mod files;
-mod gate;
 mod memory_files;
 mod memory_sink;
 mod reads;
@@ -19,7 +18,6 @@ mod write;
 
 pub use command_line::{NoWords, words};
 pub use files::{Failed, Files};
-pub use gate::{Gate, OpenGate};
 pub use memory_files::{MemoryFiles, MemorySource};
 pub use memory_sink::MemorySink;
 pub use reads::Reads;

@@ -1,5 +1,6 @@
 // Files in memory.
-ghost use Rattle.std.specs.Prelude.{◌≡◌, ◌+◌, ◌-◌, ◌^◌, ◌<◌, ◌≤◌, ◌↔◌, ◌⊎◌, [], length, take, drop, min, max, position, unwrap_or, Contains, IfOk, OnOk, OnErr, IsErr, IsNone};
+ghost use Rattle.std.specs.Prelude.{◌≡◌, ◌+◌, ◌-◌, ◌^◌, ◌<◌, ◌≤◌, ◌↔◌, ◌⊎◌, [], length, take, drop, min, max, position, unwrap_or};
+ghost use Rattle.std.specs.Prelude.{Contains, IfOk, OnOk, OnErr, IsErr, IsNone};
 ghost use Rattle.pool_io.specs.Counts.{NoneFrom};
 ghost use Rattle.pool_io.specs.Told.{HandsOut};
 

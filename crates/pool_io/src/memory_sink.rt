@@ -1,5 +1,6 @@
 // A sink in memory.
-ghost use Rattle.std.specs.Prelude.{◌≡◌, ◌+◌, ◌-◌, ◌<◌, ◌≤◌, ◌↔◌, ◌⊎◌, ◌++◌, ℕ, [], Some, length, take, vec_capacity, min, max, Contains, IfOk, OnOk, OnErr, IsErr, IsOkAnd};
+ghost use Rattle.std.specs.Prelude.{◌≡◌, ◌+◌, ◌-◌, ◌<◌, ◌≤◌, ◌↔◌, ◌⊎◌, ◌++◌, ℕ, [], Some, length, take, vec_capacity, min, max, Contains};
+ghost use Rattle.std.specs.Prelude.{IfOk, OnOk, OnErr, IsErr, IsOkAnd};
 ghost use Rattle.pool_io.specs.Counts.{one_more};
 
 use crate::counts::{count_call, raise};

@@ -1,12 +1,11 @@
+// Files, sinks and words, in memory and of the system.
 ghost use Rattle.std.specs.Prelude.{◌-◌, ◌^◌, ◌<◌};
-ghost use Rattle.pool_io.specs.Gates.{ToldBefore};
 
 use super::*;
 use pool_model::NoMemory;
 use std::alloc::{AllocError, Global};
 use std::env::FillError;
 use std::rt::Env;
-use std::sync::atomic::{AtomicU64, Ordering};
 use std::test::Fail;
 use std::{env, fs, mem};
 
@@ -200,39 +199,4 @@ fn noted_reads_have_no_bytes(rt: HostRuntime) -> Result<(), Fail> {
     assert_eq!(rt; mem::size_of_val(&reads), 0);
     assert_eq!(rt; format!(in rt.alloc(); "{reads:?}")?.as_str(), "Reads");
     Ok(())
-}
-
-// Tells a gate of the first so many calls of a process, as a player does that makes them.
-fn tell<G: Gate>(gate: &G, process: u32, calls: u64)
-    ensures { ToldBefore (G.told gate.now) process calls }
-{
-    for call in 0..calls {
-        gate.pass(process, call);
-    }
-}
-
-#[test]
-fn an_open_gate_lets_go_on() {
-    tell(&OpenGate, 1, 3);
-}
-
-// Counts what it is told.
-#[derive(Drop)]
-struct Counting {
-    tells: AtomicU64,
-}
-
-impl Gate for Counting {
-    fn pass(&self, _process: u32, _call: u64) {
-        self.tells.fetch_add(1, Ordering::SeqCst);
-    }
-}
-
-#[test]
-fn a_gate_hears_of_each_call(rt: HostRuntime) {
-    let gate = Counting {
-        tells: AtomicU64::new(0),
-    };
-    tell(&gate, 1, 3);
-    assert_eq!(rt; gate.tells.load(Ordering::SeqCst), 3);
 }

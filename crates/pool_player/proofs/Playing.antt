@@ -18,11 +18,14 @@ use Rattle.trace_player.proofs.Lists.{one_if}
 use Rattle.trace_player.proofs.Naming.{next_slot}
 use Rattle.trace_player.proofs.Plays.{plays_none, plays_got, plays_dry, plays_back, plays_passed}
 use Rattle.trace_player.proofs.Whole.{plays_whole}
+use Rattle.word_layout.specs.Sizes.{Sizes}
 use Rattle.block_pool.specs.Passing.{Passed}
-use Rattle.pass_players.proofs.Growing.{grows_none, grows_more}
-use Rattle.pool_player.specs.Calling.{ShortCall}
+use Rattle.pass_players.specs.Moments.{MadeCall, Moment, entries_of}
+use Rattle.pass_players.specs.Playing.{HasMade}
+use Rattle.pass_players.proofs.Moments.{entries_more, has_made_more, has_made_none}
+use Rattle.pool_player.specs.Calling.{AreShort, IsShort, ToldCall, call_of}
 use Rattle.pool_player.specs.Playing.{IsPlayedBy, PlaysSoFar}
-use Rattle.pool_player.proofs.Calling.{no_steps, steps_more}
+use Rattle.pool_player.proofs.Calling.{short_more}
 use Rattle.pool_player.proofs.Slots.{leaves_none, leaves_got, leaves_back, leaves_passed}
 
 -- ---- how many calls there were
@@ -48,15 +51,11 @@ calls-le i refused blocks (step ∷ steps) =
       calls-le i refused blocks steps,
     )
 
--- as many calls were made as steps, at most
-pub made-le : {script : Script} {done : List Step} {start pass : Passed} {slots : List (Option ℕ)} {tally : Tally} {made : ℕ}
-    → PlaysSoFar script done start pass slots tally made → made ≤ length done
-made-le {done = done} {start = start} p = omega (arith, p.count, ap length p.plays.made, calls-le start.number p.refused p.blocks done)
-
 -- the pass began a transfer a call, at most
-pub age-le : {script : Script} {done : List Step} {start pass : Passed} {slots : List (Option ℕ)} {tally : Tally} {made : ℕ}
-    → PlaysSoFar script done start pass slots tally made → pass.age ≤ start.age + length done
-age-le {done = done} {start = start} p = omega (arith, p.grown.age, ap length p.plays.made, calls-le start.number p.refused p.blocks done)
+pub age-le : {script : Script} {done : List Step} {first now : List Moment} {start pass : Passed} {slots : List (Option ℕ)} {tally : Tally}
+    → PlaysSoFar script done first now start pass slots tally → pass.age ≤ start.age + length done
+age-le {done = done} {start = start} p =
+    omega (arith, p.made.grown.age, ap length p.plays.made, calls-le start.number p.refused p.blocks done)
 
 -- where a slot has a block, the tally counts one as left
 pub left-some : {i : ℕ} {script : Script} {refused : List Bool} {blocks : List ℕ} {done : List Step} {entries : List Entry}
@@ -73,115 +72,132 @@ left-some {slots = slots} p slot block within has =
 
 -- ---- one step on
 
-pub so_far_none : (script : Script) (pass : Passed) (n : ℕ) → PlaysSoFar script [] pass pass (replicate n None) (tally_after script [] []) 0
-so_far_none script pass n = record {
+-- no step was played
+pub so_far_none : (script : Script) (told : List Moment) (pass : Passed) (n : ℕ)
+    → PlaysSoFar script [] told told pass pass (replicate n None) (tally_after script [] [])
+so_far_none script told pass n = record {
   refused = [];
   blocks = [];
-  entries = [];
+  calls = [];
   plays = plays_none pass.number script (Contains pass.held) n;
-  grown = grows_none pass;
-  steps = no_steps pass;
+  made = has_made_none told pass;
+  short = refl;
   left = leaves_none pass.held n;
-  count = refl;
 }
 
--- a Place that was given a block
-pub so_far_got : (script : Script) (done : List Step) (start pass new : Passed) (slots : List (Option ℕ)) (tally later : Tally)
-    (made slot block : ℕ) → slot ≡ length (placed_slots done) → slot < length slots → ShortCall (Got pass.number block) pass new
-    → (Contains pass.held block → ⊥)
-    → later ≡ record tally { left = tally.left + 1; peak = max tally.peak (tally.left + 1) }
-    → PlaysSoFar script done start pass slots tally made
-    → PlaysSoFar script (done ++ Place slot ∷ []) start new (set slots slot (Some block)) later (made + 1)
-so_far_got script done start pass new slots tally later made slot block at within call free is p =
-    let call : ShortCall (Got start.number block) pass new = subst (λ (i : ℕ). ShortCall (Got i block) pass new) p.grown.same.number call in
-    let held : new.held ≡ block ∷ pass.held = call.made.entered.held in
-    let empty = next_is_empty p.refused p.blocks done (Contains pass.held) slots slot p.plays.holds
-    (next_slot p.refused p.blocks done slot p.plays.names at) in
-    let Has : ℕ → List ℕ → Type 0 = λ b bs. Contains bs b in
-    record {
-      refused = p.refused ++ false ∷ [];
-      blocks = p.blocks ++ block ∷ [];
-      entries = p.entries ++ Got start.number block ∷ [];
-      plays = plays_got start.number script p.refused p.blocks done p.entries (Contains pass.held) (Contains new.held) slots tally later
-          slot block at within free
-          (subst (Has block) (sym held) (contains_head block pass.held))
-          (λ other was. subst (Has other) (sym held) (contains_tail other block pass.held was)) is p.plays;
-      grown = grows_more p.entries (Got start.number block) start pass new p.grown call.made;
-      steps = steps_more p.entries (Got start.number block) start pass new p.grown.same.sizes p.steps call.steps;
-      left = rw held (leaves_got start.held pass.held slots slot block within empty free p.left);
-      count = omega (arith, p.count, length-append p.entries (Got start.number block ∷ []));
-    }
+-- the calls before and one more, which the gate was told of
+module _ (entry : Entry) (calls : List MadeCall) (first earlier now : List Moment) (start old new : Passed)
+    (made : HasMade calls first earlier start old) (told : ToldCall entry earlier now old new) where
+  made_more : HasMade (calls ++ call_of entry old new ∷ []) first now start new
+  made_more = has_made_more calls (call_of entry old new) first earlier now start old new made refl told.made told.told
 
--- a Place that was refused
-pub so_far_dry : (script : Script) (done : List Step) (start pass new : Passed) (slots : List (Option ℕ)) (tally later : Tally)
-    (made slot : ℕ) → slot ≡ length (placed_slots done) → ShortCall (Dry pass.number) pass new
-    → later ≡ record tally { refused = tally.refused + 1 } → PlaysSoFar script done start pass slots tally made
-    → PlaysSoFar script (done ++ Place slot ∷ []) start new slots later (made + 1)
-so_far_dry script done start pass new slots tally later made slot at call is p =
-    let call : ShortCall (Dry start.number) pass new = subst (λ (i : ℕ). ShortCall (Dry i) pass new) p.grown.same.number call in
-    let held : new.held ≡ pass.held = call.made.entered.held in
-    record {
-      refused = p.refused ++ true ∷ [];
-      blocks = p.blocks ++ 0 ∷ [];
-      entries = p.entries ++ Dry start.number ∷ [];
-      plays = plays_dry start.number script p.refused p.blocks done p.entries (Contains pass.held) (Contains new.held) slots tally later
-          slot at (λ other was. subst (λ (bs : List ℕ). Contains bs other) (sym held) was) is p.plays;
-      grown = grows_more p.entries (Dry start.number) start pass new p.grown call.made;
-      steps = steps_more p.entries (Dry start.number) start pass new p.grown.same.sizes p.steps call.steps;
-      left = rw held p.left;
-      count = omega (arith, p.count, length-append p.entries (Dry start.number ∷ []));
-    }
+  are_short_more : AreShort start.sizes.quantum start.moves calls old.moves
+      → AreShort start.sizes.quantum start.moves (calls ++ call_of entry old new ∷ []) new.moves
+  are_short_more are =
+      let same : old.sizes.quantum ≡ start.sizes.quantum = ap (λ (sizes : Sizes). sizes.quantum) made.grown.same.sizes in
+      short_more start.sizes.quantum start.moves old.moves calls (call_of entry old new) are
+      (subst (λ (q : ℕ). IsShort q old.moves (call_of entry old new)) same told.short)
 
--- a Leave of a slot that has a block
-pub so_far_back : (script : Script) (done : List Step) (start pass new : Passed) (slots : List (Option ℕ)) (tally later : Tally)
-    (made slot block : ℕ) → Contains done (Place slot) → slot < length slots → block_in slots slot ≡ Some block
-    → ShortCall (Back pass.number block) pass new → later ≡ record tally { frees = tally.frees + 1; left = tally.left - 1 }
-    → PlaysSoFar script done start pass slots tally made
-    → PlaysSoFar script (done ++ Leave slot ∷ []) start new (set slots slot None) later (made + 1)
-so_far_back script done start pass new slots tally later made slot block placed within has call is p =
-    let call : ShortCall (Back start.number block) pass new
-    = subst (λ (i : ℕ). ShortCall (Back i block) pass new) p.grown.same.number call in
-    let held : new.held ≡ filter (λ other. not (other == block)) pass.held = call.made.entered.held in
-    record {
-      refused = p.refused;
-      blocks = p.blocks;
-      entries = p.entries ++ Back start.number block ∷ [];
-      plays = plays_back start.number script p.refused p.blocks done p.entries (Contains pass.held) (Contains new.held) slots tally later
-          slot block placed within has
-          (λ other differs was. subst (λ (bs : List ℕ). Contains bs other) (sym held)
-          (without_contains block other pass.held was differs)) is p.plays;
-      grown = grows_more p.entries (Back start.number block) start pass new p.grown call.made;
-      steps = steps_more p.entries (Back start.number block) start pass new p.grown.same.sizes p.steps call.steps;
-      left = rw held (leaves_back start.held pass.held slots slot block within has p.plays.holds.apart p.left);
-      count = omega (arith, p.count, length-append p.entries (Back start.number block ∷ []));
-    }
+module _ (script : Script) (done : List Step) (first earlier now : List Moment) (start pass new : Passed) (slots : List (Option ℕ))
+    (tally later : Tally) (p : PlaysSoFar script done first earlier start pass slots tally) where
+  -- a Place that was given a block
+  pub so_far_got : (slot block : ℕ) → slot ≡ length (placed_slots done) → slot < length slots
+      → ToldCall (Got pass.number block) earlier now pass new → (Contains pass.held block → ⊥)
+      → later ≡ record tally { left = tally.left + 1; peak = max tally.peak (tally.left + 1) }
+      → PlaysSoFar script (done ++ Place slot ∷ []) first now start new (set slots slot (Some block)) later
+  so_far_got slot block at within call free is =
+      let entry : Entry = Got start.number block in
+      let call : ToldCall entry earlier now pass new
+      = subst (λ (i : ℕ). ToldCall (Got i block) earlier now pass new) p.made.grown.same.number call in
+      let held : new.held ≡ block ∷ pass.held = call.made.entered.held in
+      let empty = next_is_empty p.refused p.blocks done (Contains pass.held) slots slot p.plays.holds
+      (next_slot p.refused p.blocks done slot p.plays.names at) in
+      let Has : ℕ → List ℕ → Type 0 = λ b bs. Contains bs b in
+      record {
+        refused = p.refused ++ false ∷ [];
+        blocks = p.blocks ++ block ∷ [];
+        calls = p.calls ++ call_of entry pass new ∷ [];
+        plays = rw (entries_more p.calls (call_of entry pass new))
+            (plays_got start.number script p.refused p.blocks done (entries_of p.calls) (Contains pass.held) (Contains new.held) slots
+            tally later slot block at within free
+            (subst (Has block) (sym held) (contains_head block pass.held))
+            (λ other was. subst (Has other) (sym held) (contains_tail other block pass.held was)) is p.plays);
+        made = made_more entry p.calls first earlier now start pass new p.made call;
+        short = are_short_more entry p.calls first earlier now start pass new p.made call p.short;
+        left = rw held (leaves_got start.held pass.held slots slot block within empty free p.left);
+      }
+
+  -- a Place that was refused
+  pub so_far_dry : (slot : ℕ) → slot ≡ length (placed_slots done) → ToldCall (Dry pass.number) earlier now pass new
+      → later ≡ record tally { refused = tally.refused + 1 }
+      → PlaysSoFar script (done ++ Place slot ∷ []) first now start new slots later
+  so_far_dry slot at call is =
+      let entry : Entry = Dry start.number in
+      let call : ToldCall entry earlier now pass new
+      = subst (λ (i : ℕ). ToldCall (Dry i) earlier now pass new) p.made.grown.same.number call in
+      let held : new.held ≡ pass.held = call.made.entered.held in
+      record {
+        refused = p.refused ++ true ∷ [];
+        blocks = p.blocks ++ 0 ∷ [];
+        calls = p.calls ++ call_of entry pass new ∷ [];
+        plays = rw (entries_more p.calls (call_of entry pass new))
+            (plays_dry start.number script p.refused p.blocks done (entries_of p.calls) (Contains pass.held) (Contains new.held) slots
+            tally later slot at (λ other was. subst (λ (bs : List ℕ). Contains bs other) (sym held) was) is p.plays);
+        made = made_more entry p.calls first earlier now start pass new p.made call;
+        short = are_short_more entry p.calls first earlier now start pass new p.made call p.short;
+        left = rw held p.left;
+      }
+
+  -- a Leave of a slot that has a block
+  pub so_far_back : (slot block : ℕ) → Contains done (Place slot) → slot < length slots → block_in slots slot ≡ Some block
+      → ToldCall (Back pass.number block) earlier now pass new → later ≡ record tally { frees = tally.frees + 1; left = tally.left - 1 }
+      → PlaysSoFar script (done ++ Leave slot ∷ []) first now start new (set slots slot None) later
+  so_far_back slot block placed within has call is =
+      let entry : Entry = Back start.number block in
+      let call : ToldCall entry earlier now pass new
+      = subst (λ (i : ℕ). ToldCall (Back i block) earlier now pass new) p.made.grown.same.number call in
+      let held : new.held ≡ filter (λ other. not (other == block)) pass.held = call.made.entered.held in
+      record {
+        refused = p.refused;
+        blocks = p.blocks;
+        calls = p.calls ++ call_of entry pass new ∷ [];
+        plays = rw (entries_more p.calls (call_of entry pass new))
+            (plays_back start.number script p.refused p.blocks done (entries_of p.calls) (Contains pass.held) (Contains new.held) slots
+            tally later slot block placed within has
+            (λ other differs was. subst (λ (bs : List ℕ). Contains bs other) (sym held)
+            (without_contains block other pass.held was differs)) is p.plays);
+        made = made_more entry p.calls first earlier now start pass new p.made call;
+        short = are_short_more entry p.calls first earlier now start pass new p.made call p.short;
+        left = rw held (leaves_back start.held pass.held slots slot block within has p.plays.holds.apart p.left);
+      }
 
 -- a Leave of a slot that has none, since it was refused
-pub so_far_passed : (script : Script) (done : List Step) (start pass : Passed) (slots : List (Option ℕ)) (tally : Tally) (made slot : ℕ)
-    → Contains done (Place slot) → ¬ Contains done (Leave slot) → slot < length slots → block_in slots slot ≡ None
-    → PlaysSoFar script done start pass slots tally made
-    → PlaysSoFar script (done ++ Leave slot ∷ []) start pass (set slots slot None) tally made
-so_far_passed script done start pass slots tally made slot placed stays within free p = record {
+pub so_far_passed : (script : Script) (done : List Step) (first now : List Moment) (start pass : Passed) (slots : List (Option ℕ))
+    (tally : Tally) (slot : ℕ) → Contains done (Place slot) → ¬ Contains done (Leave slot) → slot < length slots
+    → block_in slots slot ≡ None → PlaysSoFar script done first now start pass slots tally
+    → PlaysSoFar script (done ++ Leave slot ∷ []) first now start pass (set slots slot None) tally
+so_far_passed script done first now start pass slots tally slot placed stays within free p = record {
   refused = p.refused;
   blocks = p.blocks;
-  entries = p.entries;
-  plays = plays_passed start.number script p.refused p.blocks done p.entries (Contains pass.held) slots tally slot placed stays within free
-      p.plays;
-  grown = p.grown;
-  steps = p.steps;
+  calls = p.calls;
+  plays = plays_passed start.number script p.refused p.blocks done (entries_of p.calls) (Contains pass.held) slots tally slot placed stays
+      within free p.plays;
+  made = p.made;
+  short = p.short;
   left = leaves_passed start.held pass.held slots slot within free p.left;
-  count = p.count;
 }
 
 -- ---- all steps
 
-pub played_all : (script : Script) (start pass : Passed) (slots : List (Option ℕ)) (tally : Tally) (made : ℕ) → IsWellFormed script
-    → PlaysSoFar script script.steps start pass slots tally made → IsPlayedBy script start pass slots tally
-played_all script start pass slots tally made formed p = record {
-  entries = p.entries;
-  grown = p.grown;
-  steps = p.steps;
-  tallied = plays_whole start.number script p.refused p.blocks p.entries (Contains pass.held) slots tally formed p.plays;
+-- a pass that played the steps of a whole script played the script
+pub played_all : (script : Script) (first now : List Moment) (start pass : Passed) (slots : List (Option ℕ)) (tally : Tally)
+    → IsWellFormed script → PlaysSoFar script script.steps first now start pass slots tally
+    → IsPlayedBy script first now start pass slots tally
+played_all script first now start pass slots tally formed p = record {
+  calls = p.calls;
+  made = p.made;
+  short = p.short;
+  tallied = plays_whole start.number script p.refused p.blocks (entries_of p.calls) (Contains pass.held) slots tally formed p.plays;
   left = p.left;
   apart = p.plays.holds.apart;
 }

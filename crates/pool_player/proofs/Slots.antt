@@ -24,6 +24,7 @@ block_at slots slot default read found within was is =
 none_in : (n block : ℕ) → InSlots (replicate n None) block → ⊥
 none_in n block has = none-some block (sym (block_in-replicate n has.0) ∙ has.1)
 
+-- empty slots have no block that was held before
 pub leaves_none : (before : List ℕ) (n : ℕ) → LeavesInSlots before (replicate n None) before
 leaves_none before n = record {
   held = λ block. (

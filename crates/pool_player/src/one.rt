@@ -1,17 +1,19 @@
 // One script, played by the process of one pass.
-ghost use Rattle.std.specs.Prelude.{◌≡◌, ◌+◌, ◌-◌, ◌^◌, ◌≤◌, ◌∷◌, ◌++◌, [], None, List, length, replicate};
-ghost use Rattle.pool_io.specs.Gates.{ToldBefore};
+ghost use Rattle.std.specs.Prelude.{◌≡◌, ◌+◌, ◌≤◌, ◌∷◌, ◌++◌, [], None, List, length, replicate};
+ghost use Rattle.word_layout.specs.Packing.{most_age};
 ghost use Rattle.mtrace_reader.specs.declared.steps.Step.{Step};
 ghost use Rattle.mtrace_reader.specs.declared.steps.Script.{Script};
 ghost use Rattle.mtrace_reader.specs.Script.{IsWellFormed};
 ghost use Rattle.trace_player.specs.Playing.{MayCome};
 ghost use Rattle.block_pool.specs.Passing.{IsOf, Passed};
+ghost use Rattle.pass_players.specs.Moments.{Moment};
 ghost use Rattle.pool_player.specs.Playing.{IsNext, IsPlayedBy, PlaysSoFar};
 
-use crate::calls::{allocate, free};
+use crate::allocating::allocate;
+use crate::freeing::free;
 use block_pool::{Answer, Block, Pass, Pool};
 use mtrace_reader::{Script, Step};
-use pool_io::Gate;
+use pass_players::Gate;
 use trace_player::Tally;
 
 /// Plays a script with a pass of the pool: a Place is an allocate, and a Leave a free of the slot's block, where the
@@ -24,43 +26,38 @@ pub fn play_one<G: Gate>(
     pass: &mut Pass,
     script: &Script,
     slots: &mut [Option<Block>],
-    gate: &G,
+    gate: &mut G,
 ) -> Tally
     requires pool { IsOf pool.now pass.old }
     requires well_formed { IsWellFormed script.now }
     requires empty { slots.old ≡ replicate script.now.news None }
-    requires age { pass.old.age + length script.now.steps ≤ 2 ^ 32 }
-    ensures played { IsPlayedBy script.now pass.old pass.new slots.new result }
-    ensures told { ToldBefore (G.told gate.now) pass.old.number (length pass.new.own - length pass.old.own) }
+    requires age { pass.old.age + length script.now.steps ≤ most_age pool.now.sizes }
+    ensures { IsPlayedBy script.now (G.told gate.old) (G.told gate.new) pass.old pass.new slots.new result }
 {
     let mut tally = Tally::begin(script);
-    let mut made = 0;
     for step in script.steps.as_slice() {
-        play_step(pool, pass, *step, slots, &mut tally, gate, &mut made);
+        play_step(pool, pass, *step, slots, &mut tally, gate);
     }
     tally
 }
 
-/// Plays one step, and counts its call among those that were made.
+/// Plays one step.
 fn play_step<G: Gate>(
     pool: &Pool,
     pass: &mut Pass,
     step: Step,
     slots: &mut [Option<Block>],
     tally: &mut Tally,
-    gate: &G,
-    made: &mut u64,
+    gate: &mut G,
 )
-    requires next { IsNext step pool.now pass.old slots.old tally.old made.old }
-    requires told { ToldBefore (G.told gate.now) pass.old.number made.old }
-    ensures played { (script : Script) (done : List Step) (start : Passed)
+    requires { IsNext step pool.now pass.old (G.told gate.old) slots.old tally.old }
+    ensures { (script : Script) (done : List Step) (first : List Moment) (start : Passed)
         → MayCome done step
-        → PlaysSoFar script done start pass.old slots.old tally.old made.old
-        → PlaysSoFar script (done ++ step ∷ []) start pass.new slots.new tally.new made.new }
-    ensures told { ToldBefore (G.told gate.now) pass.new.number made.new }
+        → PlaysSoFar script done first (G.told gate.old) start pass.old slots.old tally.old
+        → PlaysSoFar script (done ++ step ∷ []) first (G.told gate.new) start pass.new slots.new tally.new }
 {
     match step {
-        Step::Place { slot } => match allocate(pool, pass, gate, made) {
+        Step::Place { slot } => match allocate(pool, pass, gate) {
             Answer::Got(block) => {
                 slots[slot as usize] = Some(block);
                 tally.count_given();
@@ -69,7 +66,7 @@ fn play_step<G: Gate>(
         },
         Step::Leave { slot } => {
             if let Some(block) = slots[slot as usize].take() {
-                free(pool, pass, block, gate, made);
+                free(pool, pass, block, gate);
                 tally.count_freed();
             }
         }

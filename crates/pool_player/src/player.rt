@@ -1,12 +1,10 @@
 // Who plays the script of a trace.
-ghost use Rattle.std.specs.Prelude.{◌≡◌, None, replicate};
-ghost use Rattle.pool_player.specs.Player.{IsTraced, Suits, most_calls_of};
+ghost use Rattle.pool_player.specs.Player.{HasSlots, IsTraced, Suits, most_calls_of};
 
 use crate::one::play_one;
 use block_pool::{Block, Pass, Pool};
 use mtrace_reader::Script;
-use pass_players::{Player, empty_slots};
-use pool_io::Gate;
+use pass_players::{Gate, Player, empty_slots};
 use pool_model::NoMemory;
 use std::alloc::Global;
 use trace_player::Tally;
@@ -27,7 +25,7 @@ impl Player for TracePlayer {
 
     ghost most_calls = { most_calls_of };
 
-    ghost is_ready = { λ script player. player.slots.items ≡ replicate script.news None };
+    ghost is_ready = { HasSlots };
 
     ghost outcome = { λ player. player.tally };
 
@@ -40,7 +38,7 @@ impl Player for TracePlayer {
         })
     }
 
-    fn play<G: Gate>(&mut self, pool: &Pool, pass: &mut Pass, script: &Script, gate: &G) {
+    fn play<G: Gate>(&mut self, pool: &Pool, pass: &mut Pass, script: &Script, gate: &mut G) {
         self.tally = play_one(pool, pass, script, self.slots.as_mut_slice(), gate);
     }
 

@@ -1,6 +1,5 @@
 -- With enough blocks nothing is refused.
-use Rattle.std.proofs.Common.{◌≡◌, ℕ, ◌+◌, ◌≤◌, zero, suc, Bool, false, List, [], length, take, replicate, refl, sym, ap, ◌∙◌, subst}
-use Rattle.std.proofs.Common.{arith, Some}
+use Rattle.std.proofs.Common.{◌≡◌, ℕ, List, [], sym, ap, ◌∙◌, subst, arith, Some, false}
 use Rattle.std.specs.Prelude.{All, slice_get}
 use Rattle.std.specs.List.{flat_map}
 use Rattle.std.proofs.lemmas.Option.{get_or_from_slice_get, slice_get_within}
@@ -10,36 +9,15 @@ use Rattle.pool_model.specs.History.{own}
 use Rattle.pool_model.proofs.Places.{slice_get_as_long}
 use Rattle.enough_blocks.specs.Enough.{HoldsAtMost, NoneIsDry}
 use Rattle.enough_blocks.proofs.Enough.{nothing_is_refused}
-use Rattle.enough_blocks.proofs.Lists.{at-le-greatest, same_as_mapped}
+use Rattle.enough_blocks.proofs.Lists.{same_as_mapped}
 use Rattle.enough_blocks.proofs.Refusals.{none_of_own}
-use Rattle.mtrace_reader.specs.declared.steps.Step.{Step}
 use Rattle.mtrace_reader.specs.declared.steps.Script.{Script}
 use Rattle.mtrace_reader.specs.Script.{IsWellFormed}
 use Rattle.trace_player.specs.declared.tally.Tally.{Tally}
-use Rattle.trace_player.specs.Tally.{holding, is_refused, no_refusals, peak_of, tally_of}
+use Rattle.trace_player.specs.Tally.{no_refusals, peak_of, tally_of}
 use Rattle.trace_player.specs.Fit.{Fits, IsTallied, calls_of}
+use Rattle.trace_player.proofs.Unrefused.{calls_without_refusals, holds-at-most-peak, none_refused}
 use Rattle.pool_runs.specs.Enough.{EnoughBlocksRefuseNothing}
-use Rattle.pool_runs.proofs.Unrefused.{calls_without_refusals, counts_steps}
-
--- what is held after some of the steps is at most the peak
-held-le-peak : (refused : List Bool) (steps : List Step) (count : ℕ) → count ≤ length steps
-    → holding refused (take count steps) ≤ peak_of refused steps
-held-le-peak refused steps count low =
-    at-le-greatest (λ place. holding refused (take place steps)) (length steps + 1) count (omega (arith, low))
-
--- refusals that are all false refuse no slot
-none_refused : (n slot : ℕ) → is_refused (replicate n false) slot ≡ false
-none_refused zero slot = refl
-none_refused (suc n) zero = refl
-none_refused (suc n) (suc slot) = none_refused n slot
-
--- while none of its entries is a refusal, a process holds no more blocks than its script at most
-holds-at-most-peak : (k : ℕ) (script : Script) (entries : List Entry) (tally : Tally) → IsWellFormed script
-    → IsTallied k script entries tally → HoldsAtMost (peak_of (no_refusals script) script.steps) entries
-holds-at-most-peak k script entries tally formed one first rest parts none =
-    let counted = counts_steps k one.refused (no_refusals script) one.fits.blocks (none_refused script.news) [] script.steps first rest
-    formed.leaves (λ slot has. absurd (omega (arith, has.1))) none (parts ∙ one.fits.step_by_step) in
-    omega (arith, counted.gots, counted.backs, held-le-peak (no_refusals script) script.steps counted.count counted.within)
 
 -- where none of its entries is a refusal, its tally is that without refusals
 tally_is : (k : ℕ) (script : Script) (entries : List Entry) (tally : Tally) → IsWellFormed script → IsTallied k script entries tally
@@ -66,7 +44,8 @@ enough_blocks limits history scripts tallies legal each formed tallied enough =
     let peak : Script → ℕ = λ script. peak_of (no_refusals script) script.steps in
     let few : (k : ℕ) (script : Script) → slice_get scripts k ≡ Some script → HoldsAtMost (peak script) (own history k) = λ k script at.
     let tally = slice_get_as_long tallies scripts k script (sym tallied.one_each) at in
-    holds-at-most-peak k script (own history k) tally.0 (formed_at scripts k script formed at) (tallied.each k script tally.0 at tally.1) in
+    let one = tallied.each k script tally.0 at tally.1 in
+    holds-at-most-peak k script one.refused (own history k) (formed_at scripts k script formed at) one.fits in
     let none = nothing_is_refused peak limits history scripts legal each few enough in
     same_as_mapped (λ script. tally_of script (no_refusals script)) scripts tallies tallied.one_each
     (λ k script tally at found.

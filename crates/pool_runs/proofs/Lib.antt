@@ -1,4 +1,3 @@
 mod Enough
 mod Playable
 mod Settling
-mod Unrefused

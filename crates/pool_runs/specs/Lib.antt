@@ -1,4 +1,5 @@
 pub mod Drills
 pub mod Enough
 pub mod Playable
+pub mod Ready
 pub mod Settled

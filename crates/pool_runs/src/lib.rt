@@ -1,7 +1,7 @@
 //! Runs over the pool: the scripts that a run plays, how it plays them, and what its history owes to them.
 //!
-//! [`play_on_pool`] opens a pool, plays scripts over it side by side, and closes it. [`drill_scripts`] makes the scripts
-//! of a drill.
+//! [`prepare_traces`] opens a pool and takes all memory that playing needs; [`play_traces`] plays the scripts over it side by side, and
+//! closes it. [`drill_scripts`] makes the scripts of a drill.
 #![tactic(auto)]
 
 mod drill;
@@ -9,8 +9,7 @@ pub mod laws;
 mod play;
 
 pub use drill::drill_scripts;
-pub use play::play_on_pool;
-pub use pool_player::Played;
+pub use play::{PlayedTraces, PreparedTraces, play_traces, prepare_traces};
 
 #[cfg(test)]
 mod tests;

@@ -1,18 +1,44 @@
 // A drill over a pool of its own, and over one that was opened before.
-ghost use Rattle.std.specs.Prelude.{◌≡◌, length};
+ghost use Rattle.std.specs.Prelude.{◌≡◌, IfOk, length};
 ghost use Rattle.std.specs.List.{All};
 ghost use Rattle.pool_runs.specs.Playable.{IsPlayable};
 
-use crate::{Played, drill_scripts, play_on_pool};
+use crate::{PlayedTraces, drill_scripts, play_traces, prepare_traces};
 use block_pool::Pool;
 use mtrace_reader::Script;
-use pool_io::OpenGate;
+use pass_players::{OpenGate, play, prepare};
 use pool_model::NoMemory;
-use pool_player::play_all;
+use pool_player::TracePlayer;
 use std::alloc::Global;
 use std::test::Fail;
 use std::thread::Threads;
 use word_layout::Shape;
+
+/// So many open gates.
+fn open_gates(alloc: Global, count: usize) -> Result<Vec<OpenGate>, NoMemory>
+    ensures { IfOk result (λ gates. length gates.items ≡ count) }
+{
+    let mut gates = Vec::with_capacity(alloc, count)?;
+    for _gate in 0..count {
+        gates.push(OpenGate::new())?;
+    }
+    Ok(gates)
+}
+
+/// Plays scripts over a pool that this opens.
+fn play_own<R: Threads + Sync>(
+    rt: &R,
+    alloc: Global,
+    shape: &Shape,
+    scripts: &[Script],
+) -> Result<PlayedTraces<OpenGate>, NoMemory>
+    requires one_each { length scripts.now ≡ shape.now.processes }
+    requires playable { All IsPlayable scripts.now }
+{
+    let gates = open_gates(alloc, scripts.len())?;
+    let prepared = prepare_traces(alloc, shape, scripts, gates.as_slice())?;
+    Ok(play_traces(rt, prepared, scripts, gates))
+}
 
 /// Plays scripts with the passes of a pool that was opened before.
 fn play_opened<R: Threads + Sync>(
@@ -20,12 +46,21 @@ fn play_opened<R: Threads + Sync>(
     alloc: Global,
     shape: &Shape,
     scripts: &[Script],
-) -> Result<Played, NoMemory>
+) -> Result<PlayedTraces<OpenGate>, NoMemory>
     requires one_each { length scripts.now ≡ shape.now.processes }
     requires playable { All IsPlayable scripts.now }
 {
+    let _age = shape.most_age();
+    let gates = open_gates(alloc, scripts.len())?;
     let (pool, passes) = Pool::open(alloc, shape)?;
-    play_all(rt, alloc, pool, passes, scripts, &OpenGate)
+    let prepared = prepare::<TracePlayer, OpenGate>(
+        alloc,
+        pool,
+        passes,
+        scripts,
+        gates.as_slice(),
+    )?;
+    Ok(play::<R, TracePlayer, OpenGate>(rt, prepared, scripts, gates))
 }
 
 /// Four made traces of 100 calls. 256 batches have more blocks than the slack and than they hold at once.
@@ -37,9 +72,9 @@ fn a_drill_has_the_same_tallies_over_both(rt: HostRuntime) -> Result<(), Fail> {
     if scripts.len() != 4 {
         panic!(rt; "there is a script for each process");
     }
-    let own = play_on_pool(&rt, alloc, &shape, &scripts, &OpenGate)?;
+    let own = play_own(&rt, alloc, &shape, &scripts)?;
     let opened = play_opened(&rt, alloc, &shape, &scripts)?;
-    assert_eq!(rt; own.tallies.as_slice(), opened.tallies.as_slice());
-    assert_eq!(rt; own.tallies.len(), 4);
+    assert_eq!(rt; own.outcomes.as_slice(), opened.outcomes.as_slice());
+    assert_eq!(rt; own.outcomes.len(), 4);
     Ok(())
 }

@@ -1,15 +1,18 @@
 //! `pooltrace` plays traces of allocations over a block allocator, and prints counts and peaks.
 #![tactic(auto)]
 
-use pool_cli::run;
-use pool_io::{OpenGate, RealFiles, StdSink, words};
+use pool_cli::{open_gates, run};
+use pool_io::{RealFiles, StdSink, words};
 use std::env;
 use std::process::ExitCode;
 
-/// The status where the system doesn't give the program its words.
+/// The status where the system doesn't give the program its words, or memory is wanting before it has them.
 const NO_WORDS: u8 = 9;
 
 fn main(rt: HostRuntime) -> ExitCode {
+    let Ok(mut gates) = open_gates(rt.alloc()) else {
+        return ExitCode::from(NO_WORDS);
+    };
     let Ok(words) = words(rt.alloc(), env::args(&rt)) else {
         return ExitCode::from(NO_WORDS);
     };
@@ -23,7 +26,7 @@ fn main(rt: HostRuntime) -> ExitCode {
         &mut files,
         &mut out,
         &mut err,
-        &OpenGate,
+        &mut gates,
     );
     ExitCode::from(ended.status)
 }

@@ -1,8 +1,9 @@
 -- How far the process of a pass has played a store script, one command on.
-use Rattle.std.proofs.Common.{◌≡◌, ℕ, ◌+◌, ◌*◌, ◌≤◌, Bool, cond, Option, Some, None, List, [], ◌∷◌, ◌++◌, length, refl, sym, ap, ◌∙◌}
+use Rattle.std.proofs.Common.{◌≡◌, ℕ, ◌+◌, ◌≤◌, Bool, true, false, Option, Some, None, List, [], ◌∷◌, ◌++◌, length, refl, sym, ap, ◌∙◌}
 use Rattle.std.proofs.Common.{subst, arith, append_assoc, append-nil, length-append}
-use Rattle.std.specs.List.{count_by, fold, slice_index}
-use Rattle.std.proofs.lemmas.List.Sums.{fold-append, sum_by-append}
+use Rattle.std.specs.List.{fold, slice_index}
+use Rattle.std.proofs.lemmas.List.{map-append}
+use Rattle.std.proofs.lemmas.List.Sums.{fold-append}
 use Rattle.pool_model.specs.declared.entry.Entry.{Entry}
 use Rattle.store_script.specs.declared.quad.Quad.{Quad}
 use Rattle.store_script.specs.declared.command.Command.{Command}
@@ -11,13 +12,15 @@ use Rattle.store_script.specs.Fit.{calls_from, calls_of}
 use Rattle.store_script.specs.Replies.{Kept, Walk, after, begun, kept, walked}
 use Rattle.store_script.specs.Script.{place_of}
 use Rattle.block_pool.specs.Passing.{Passed}
-use Rattle.pass_players.specs.Growing.{Grows}
 use Rattle.object_store.specs.Objects.{ObjectView}
-use Rattle.store_player.specs.Playing.{AreApart, AreHeld, BlockIs, Does, HasPresent, NumbersAre, PlaysSoFar, TakesSteps, object_in}
-use Rattle.store_player.specs.Playing.{uses_words}
+use Rattle.pass_players.specs.Moments.{MadeCall, Moment, entries_of}
+use Rattle.pass_players.specs.Playing.{HasMade}
+use Rattle.store_player.specs.Playing.{AreApart, AreHeld, BlockIs, Does, HasPresent, NumbersAre, PlaysSoFar, object_in}
+use Rattle.store_player.specs.Steps.{TakesSteps, with_call, without_call, least_steps, makes_call}
 
 -- ---- one command more
 
+-- the entries of some commands, and those of one more
 calls_from-push : (i : ℕ) (refused : List Bool) (blocks : List ℕ) (walk : Walk) (done : List Command) (command : Command)
     → calls_from i refused blocks walk (done ++ command ∷ [])
     ≡ calls_from i refused blocks walk done ++ calls_of i refused blocks (fold (after refused) walk done) command
@@ -28,21 +31,14 @@ calls_from-push i refused blocks walk (first ∷ done) command =
     ∙ sym (append_assoc (calls_of i refused blocks walk first) (calls_from i refused blocks next done)
     (calls_of i refused blocks (fold (after refused) next done) command))
 
+-- the walk over some commands, and over one more
 walked-push : (refused : List Bool) (done : List Command) (command : Command)
     → walked refused (done ++ command ∷ []) ≡ after refused (walked refused done) command
 walked-push refused done command = fold-append (after refused) begun done (command ∷ [])
 
--- the steps of some commands, and those of one more
-steps_more : (quantum : ℕ) (entries es : List Entry) (answers : List Answered) (answer : Answered) (start old new : ℕ)
-    → TakesSteps quantum (length entries) (count_by uses_words answers) start old
-    → TakesSteps quantum (length es) (cond (uses_words answer) 1 0) old new
-    → TakesSteps quantum (length (entries ++ es)) (count_by uses_words (answers ++ answer ∷ [])) start new
-steps_more quantum entries es answers answer start old new before more =
-    let used = sum_by-append (λ a. cond (uses_words a) 1 0) answers (answer ∷ []) in
-    record {
-      some = omega (arith, used, before.some, more.some);
-      few = rw (length-append entries es) (omega (arith, used, before.few, more.few));
-    }
+-- the entries of calls that follow others
+entries-append : (calls more : List MadeCall) → entries_of (calls ++ more) ≡ entries_of calls ++ entries_of more
+entries-append calls more = map-append (λ (call : MadeCall). call.entry) calls more
 
 -- what a block is known as, it is behind more blocks
 pub block_behind : (blocks more : List ℕ) (k : Option Kept) (o : Option (ObjectView Quad)) → BlockIs blocks k o
@@ -52,23 +48,25 @@ block_behind blocks more (Some before) None is = tt
 block_behind blocks more (Some before) (Some object) is = λ others.
     ap (λ bs. slice_index bs before.put) (append_assoc blocks more others) ∙ is (more ++ others)
 
--- a command was played: it appended these refusals, blocks and entries
+-- a command was played: it appended these refusals, blocks and calls
 module _ (keys : List ℕ) (done : List Command) (command : Command) (start old new : Passed) (slots later : List (Option (ObjectView Quad)))
-    (answers : List Answered) (answer : Answered) (made number : ℕ) (rs : List Bool) (bs : List ℕ) (es : List Entry) (walk : Walk) where
-  pub so_far_step : (p : PlaysSoFar keys done start old slots answers made)
+    (answers : List Answered) (answer : Answered) (first told now : List Moment) (rs : List Bool) (bs : List ℕ) (cs : List MadeCall)
+    (walk : Walk) where
+  pub so_far_step : (p : PlaysSoFar keys done start old slots answers first told)
       → ((more : List Bool) → after (p.refused ++ (rs ++ more)) p.walk command ≡ walk)
       → ((more : List Bool) (others : List ℕ)
-      → calls_of start.number (p.refused ++ (rs ++ more)) (p.blocks ++ (bs ++ others)) p.walk command ≡ es)
-      → walk.puts ≡ p.walk.puts + length rs → length bs ≡ length rs → length es ≤ 1 → number ≡ made + length es
+      → calls_of start.number (p.refused ++ (rs ++ more)) (p.blocks ++ (bs ++ others)) p.walk command ≡ entries_of cs)
+      → walk.puts ≡ p.walk.puts + length rs → length bs ≡ length rs → length (entries_of cs) ≤ 1
       → walk.answers ≡ p.walk.answers ++ answer ∷ []
       → HasPresent keys walk later → AreHeld later new → AreApart later
       → ((key slot : ℕ) → place_of key keys ≡ Some slot → BlockIs (p.blocks ++ bs) (kept walk key) (object_in later slot))
-      → Grows (p.entries ++ es) start new → TakesSteps start.sizes.quantum (length es) (cond (uses_words answer) 1 0) old.moves new.moves
-      → PlaysSoFar keys (done ++ command ∷ []) start new later (answers ++ answer ∷ []) number
-  so_far_step p walk_is calls_are puts same one count said present held apart block_of grown moved = record {
+      → HasMade (p.calls ++ cs) first now start new
+      → TakesSteps start.sizes.quantum start.moves (done ++ command ∷ []) (answers ++ answer ∷ []) (p.calls ++ cs) new.moves
+      → PlaysSoFar keys (done ++ command ∷ []) start new later (answers ++ answer ∷ []) first now
+  so_far_step p walk_is calls_are puts same one said present held apart block_of made took = record {
     refused = p.refused ++ rs;
     blocks = p.blocks ++ bs;
-    entries = p.entries ++ es;
+    calls = p.calls ++ cs;
     walk = walk;
     refused_each = length-append p.refused rs ∙ ap (λ n. n + length rs) p.refused_each ∙ sym puts;
     blocks_each = length-append p.blocks bs ∙ ap (λ n. n + length bs) p.blocks_each ∙ ap (λ n. p.walk.puts + n) same ∙ sym puts;
@@ -76,57 +74,88 @@ module _ (keys : List ℕ) (done : List Command) (command : Command) (start old 
         ∙ walked-push (p.refused ++ (rs ++ more)) done command
         ∙ ap (λ w. after (p.refused ++ (rs ++ more)) w command) (p.walks (rs ++ more))
         ∙ walk_is more;
-    calls = λ more others.
+    entries = λ more others.
         let r = p.refused ++ (rs ++ more) in
         let b = p.blocks ++ (bs ++ others) in
         ap (λ r. calls_from start.number r ((p.blocks ++ bs) ++ others) begun (done ++ command ∷ [])) (append_assoc p.refused rs more)
         ∙ ap (λ b. calls_from start.number r b begun (done ++ command ∷ [])) (append_assoc p.blocks bs others)
         ∙ calls_from-push start.number r b begun done command
-        ∙ ap (λ es. es ++ calls_of start.number r b (fold (after r) begun done) command) (p.calls (rs ++ more) (bs ++ others))
-        ∙ ap (λ w. p.entries ++ calls_of start.number r b w command) (p.walks (rs ++ more))
-        ∙ ap (λ es. p.entries ++ es) (calls_are more others);
+        ∙ ap (λ es. es ++ calls_of start.number r b (fold (after r) begun done) command) (p.entries (rs ++ more) (bs ++ others))
+        ∙ ap (λ w. entries_of p.calls ++ calls_of start.number r b w command) (p.walks (rs ++ more))
+        ∙ ap (λ es. entries_of p.calls ++ es) (calls_are more others)
+        ∙ sym (entries-append p.calls cs);
     answered = ap (λ all. all ++ answer ∷ []) p.answered ∙ sym said;
     present = present;
     held = held;
     apart = apart;
     block_of = block_of;
-    grown = grown;
-    moved = steps_more start.sizes.quantum p.entries es answers answer start.moves old.moves new.moves p.moved moved;
-    count = count ∙ ap (λ n. n + length es) p.count ∙ sym (length-append p.entries es);
-    few = omega (arith, one, p.few, length-append p.entries es, length-append done (command ∷ []));
+    made = made;
+    took = took;
+    few = omega (
+      arith,
+      one,
+      p.few,
+      ap length (entries-append p.calls cs),
+      length-append (entries_of p.calls) (entries_of cs),
+      length-append done (command ∷ []),
+    );
   }
 
--- one call, after which nothing or one answer more used words
-pub call_steps : {entry : Entry} {least : ℕ} (used : ℕ) (start old new : Passed) → old.sizes ≡ start.sizes → Does entry least old new
-    → least ≡ 1 + 4 * used → TakesSteps start.sizes.quantum 1 used old.moves new.moves
-call_steps used start old new same call is =
-    let quantum : old.sizes.quantum ≡ start.sizes.quantum = ap (λ sizes. sizes.quantum) same in
-    record { some = omega (arith, is, call.some); few = omega (arith, is, quantum, call.few) }
-
--- ---- how the pass grows
+-- ---- the calls that were made
 
 -- no call was made, and of what it makes of the pass only moves and known words differ
-pub grows_still : (entries : List Entry) (start old new : Passed) → new ≡ record old { moves = new.moves; known = new.known }
-    → Grows entries start old → Grows (entries ++ []) start new
-grows_still entries start old new is grown =
-    let none : entries ++ [] ≡ entries = append-nil entries in
-    subst (λ (es : List Entry). Grows es start new) (sym none)
-    (subst (λ (p : Passed). Grows entries start p) (sym is)
+pub made_still : (calls : List MadeCall) (first told : List Moment) (start old new : Passed)
+    → new ≡ record old { moves = new.moves; known = new.known } → HasMade calls first told start old
+    → HasMade (calls ++ []) first told start new
+made_still calls first told start old new is made =
+    subst (λ (cs : List MadeCall). HasMade cs first told start new) (sym (append-nil calls))
+    (subst (λ (p : Passed). HasMade calls first told start p) (sym is)
     (record {
-      same = record { table = grown.same.table; sizes = grown.same.sizes; number = grown.same.number };
-      own = grown.own;
-      seen = grown.seen;
-      age = grown.age;
+      grown = record {
+        same = record { table = made.grown.same.table; sizes = made.grown.same.sizes; number = made.grown.same.number };
+        own = made.grown.own;
+        seen = made.grown.seen;
+        age = made.grown.age;
+      };
+      told = made.told;
     }))
+
+-- a command that makes no call took its least steps
+pub took_still : (quantum start : ℕ) (done : List Command) (answers : List Answered) (past : List MadeCall) (old new : ℕ)
+    (command : Command) (answer : Answered) → TakesSteps quantum start done answers past old → makes_call command answer ≡ false
+    → new ≡ old + least_steps command answer
+    → TakesSteps quantum start (done ++ command ∷ []) (answers ++ answer ∷ []) (past ++ []) new
+took_still quantum start done answers past old new command answer took none is =
+    subst (λ (n : ℕ). TakesSteps quantum start (done ++ command ∷ []) (answers ++ answer ∷ []) (past ++ []) n) (sym is)
+    (subst (λ (cs : List MadeCall). TakesSteps quantum start (done ++ command ∷ []) (answers ++ answer ∷ []) cs
+    (old + least_steps command answer)) (sym (append-nil past)) (without_call done answers past old command answer took none))
+
+-- the call that took a pass from one state to another
+abbrev pub call_of : Entry → Passed → Passed → MadeCall
+call_of entry old new = record { entry = entry; before = old.moves; after = new.moves }
+
+-- one call was made, and its command took its steps
+pub took_call : {entry : Entry} {least : ℕ} (done : List Command) (answers : List Answered) (past : List MadeCall) (command : Command)
+    (answer : Answered) (start old new : Passed) → old.sizes ≡ start.sizes
+    → TakesSteps start.sizes.quantum start.moves done answers past old.moves → makes_call command answer ≡ true
+    → least ≡ least_steps command answer → Does entry least old new
+    → TakesSteps start.sizes.quantum start.moves (done ++ command ∷ []) (answers ++ answer ∷ []) (past ++ call_of entry old new ∷ [])
+    new.moves
+took_call {entry = entry} done answers past command answer start old new same took makes is call =
+    let quantum : old.sizes.quantum ≡ start.sizes.quantum = ap (λ sizes. sizes.quantum) same in
+    with_call done answers past old.moves new.moves command answer entry took makes (omega (arith, is, call.some))
+    (omega (arith, is, quantum, call.few))
 
 -- ---- what a key keeps, by what its slot has
 
+-- a slot with an object has the numbers that are kept
 pub kept_filled : (o : Option (ObjectView Quad)) (k : Option Kept) (object : ObjectView Quad) → NumbersAre k o → o ≡ Some object
     → (before : Kept) × (k ≡ Some before) × (object.value ≡ before.value)
 kept_filled None k object same is = absurd (cc)
 kept_filled (Some has) None object same is = absurd (cc)
 kept_filled (Some has) (Some before) object same is = (before, refl, cc)
 
+-- an empty one has none
 pub kept_empty : (o : Option (ObjectView Quad)) (k : Option Kept) → NumbersAre k o → o ≡ None → k ≡ None
 kept_empty None None same is = refl
 kept_empty None (Some before) same is = absurd (cc)

@@ -1,5 +1,5 @@
 -- What a player of a store script leaves.
-use Rattle.std.specs.Prelude.{◌≡◌, ℕ, ◌≤◌, Option, None, List, length, replicate, count_by}
+use Rattle.std.specs.Prelude.{◌≡◌, ℕ, ◌≤◌, Option, None, List, length, replicate}
 use Rattle.word_layout.specs.Sizes.{Sizes}
 use Rattle.store_script.specs.declared.command.StoreScript.{StoreScript}
 use Rattle.store_script.specs.declared.answered.Answered.{Answered}
@@ -7,10 +7,10 @@ use Rattle.store_script.specs.declared.quad.Quad.{Quad}
 use Rattle.store_script.specs.Script.{IsWellFormed}
 use Rattle.store_script.specs.Fit.{IsAnswered}
 use Rattle.object_store.specs.Objects.{ObjectView}
-use Rattle.block_pool.specs.Passing.{Passed, Pooled}
+use Rattle.pass_players.specs.Moments.{entries_of}
 use Rattle.pass_players.specs.Playing.{Course}
-use Rattle.pass_players.specs.Together.{MayPlayTogether}
-use Rattle.store_player.specs.Playing.{TakesSteps, uses_words}
+use Rattle.store_player.specs.declared.player.StorePlayer.{StorePlayer}
+use Rattle.store_player.specs.Steps.{TakesSteps}
 
 -- the script is well formed, and the blocks of the pool have room for a record
 pub record Suits (sizes : Sizes) (script : StoreScript) : Type 0 where
@@ -26,13 +26,12 @@ pub record HasPlaces (script : StoreScript) (slots : List (Option (ObjectView Qu
   pub empty : slots ≡ replicate script.slots None
   pub places : length answers ≡ length script.commands
 
--- the entries of the course fit the script, with refusals that they determine; the answers are those with these; each command that used
--- words made four steps at least, and each call and each such command made few
-pub record IsServed (course : Course) (script : StoreScript) (answers : List Answered) : Type 0 where
-  pub answered : IsAnswered course.process script course.entries answers
-  pub moved : TakesSteps course.quantum (length course.entries) (count_by uses_words answers) course.before course.after
+-- so they are of a player, which has played nothing
+abbrev pub HasSlots : StoreScript → StorePlayer → Type 0
+HasSlots script player = HasPlaces script player.slots.items player.answers.items
 
--- there is a script for each pass, and each pass may play the script of its place: it is of the pool, whose blocks have room for a record,
--- and has begun so few transfers that each call may begin one more
-abbrev pub MayPlayStores : Pooled → List Passed → List StoreScript → Type 0
-MayPlayStores = MayPlayTogether Suits most_calls_of
+-- the calls of the course fit the script, with refusals that they determine; the answers are those with these; and each command took its
+-- steps
+pub record IsServed (course : Course) (script : StoreScript) (answers : List Answered) : Type 0 where
+  pub answered : IsAnswered course.process script (entries_of course.calls) answers
+  pub took : TakesSteps course.quantum course.before script.commands answers course.calls course.after

@@ -2,14 +2,13 @@
 //!
 //! [`play_store`] plays one script with one pass, while other passes of the pool may be used in other threads. A gate is told of
 //! each call that gets or frees a block, before it. [`StorePlayer`] does so for the calls of [`pass_players`], which play the
-//! scripts of all processes; [`play_stores`] is the one that closes the pool then.
+//! scripts of all processes.
 #![tactic(auto)]
 
-mod all;
-mod calls;
 mod one;
 mod player;
+mod putting;
+mod taking;
 
-pub use all::{Replied, play_stores};
 pub use one::play_store;
 pub use player::{AnswerList, StorePlayer};

@@ -1,20 +1,21 @@
 // One store script, played by the process of one pass.
-ghost use Rattle.std.specs.Prelude.{◌≡◌, ◌+◌, ◌-◌, ◌^◌, ◌<◌, ◌≤◌, None, length, replicate};
-ghost use Rattle.pool_io.specs.Gates.{ToldBefore};
+ghost use Rattle.std.specs.Prelude.{◌≡◌, ◌+◌, ◌<◌, ◌≤◌, None, length, replicate};
 ghost use Rattle.store_script.specs.declared.answered.Answered.{Answered};
 ghost use Rattle.store_script.specs.declared.command.Command.{Command};
 ghost use Rattle.store_script.specs.declared.command.Command.TheVariants as command;
 ghost use Rattle.store_script.specs.Script.{IsWellFormed};
-ghost use Rattle.block_pool.specs.Passing.{IsOf};
 ghost use Rattle.store_script.specs.Replies.{changed};
+ghost use Rattle.word_layout.specs.Packing.{most_age};
+ghost use Rattle.block_pool.specs.Passing.{IsOf};
 ghost use Rattle.object_store.specs.Calls.{KeepsOthers};
 ghost use Rattle.object_store.specs.Objects.{HoldsWords};
-ghost use Rattle.store_player.specs.Playing.{GoesOn, IsNext, IsStorePlayed, quad_words};
+ghost use Rattle.store_player.specs.Playing.{GoesOn, GoesOnUntold, IsNext, IsStorePlayed, quad_words};
 
-use crate::calls::{put, take};
+use crate::putting::put;
+use crate::taking::take;
 use block_pool::{Pass, Pool};
 use object_store::{Object, Put, Store};
-use pool_io::Gate;
+use pass_players::Gate;
 use step_counter::{Quiet, Steps};
 use store_script::{Answered, Command, Quad, StoreScript};
 
@@ -24,56 +25,50 @@ use store_script::{Answered, Command, Quad, StoreScript};
 ///
 /// It takes no memory and waits for nobody. The slots are empty, one for each key, and the answers are as many as the
 /// commands. Afterwards the filled slots are those of the present keys, each with an object of the key's four numbers,
-/// which the pass knows as the first words of its block.
+/// which the pass knows as the first words of its block. A command that makes a call of the pool takes a step for each word that
+/// it reads or writes, one of its call and at most a quantum of others; any other command takes those of its words alone.
 pub fn play_store<G: Gate>(
     pool: &Pool,
     pass: &mut Pass,
     script: &StoreScript,
     slots: &mut [Option<Object<Quad>>],
     answers: &mut [Answered],
-    gate: &G,
+    gate: &mut G,
 )
     requires pool { IsOf pool.now pass.old }
     requires words { 4 ≤ pool.now.sizes.words }
     requires well_formed { IsWellFormed script.now }
     requires empty { slots.old ≡ replicate script.now.slots None }
     requires answers { length answers.old ≡ length script.now.commands }
-    requires age { pass.old.age + length script.now.commands ≤ 2 ^ 32 }
-    ensures played { IsStorePlayed script.now pass.old pass.new slots.new answers.new }
-    ensures told { ToldBefore (G.told gate.now) pass.old.number (length pass.new.own - length pass.old.own) }
+    requires age { pass.old.age + length script.now.commands ≤ most_age pool.now.sizes }
+    ensures { IsStorePlayed script.now (G.told gate.old) (G.told gate.new) pass.old pass.new slots.new answers.new }
 {
-    let mut made = 0;
     for (place, command) in script.commands.as_slice().iter().enumerate() {
-        answers[place] = play_command(pool, pass, *command, slots, gate, &mut made);
+        answers[place] = play_command(pool, pass, *command, slots, gate);
     }
 }
 
-/// Plays one command, and counts its call among those that were made.
+/// Plays one command.
 fn play_command<G: Gate>(
     pool: &Pool,
     pass: &mut Pass,
     command: Command,
     slots: &mut [Option<Object<Quad>>],
-    gate: &G,
-    made: &mut u64,
+    gate: &mut G,
 ) -> Answered
-    requires next { IsNext command pool.now pass.old slots.old made.old }
-    requires told { ToldBefore (G.told gate.now) pass.old.number made.old }
-    ensures played { GoesOn command result pass.old pass.new slots.old slots.new made.old made.new }
-    ensures told { ToldBefore (G.told gate.now) pass.new.number made.new }
+    requires { IsNext command pool.now pass.old slots.old }
+    ensures { GoesOn command result pass.old pass.new slots.old slots.new (G.told gate.old) (G.told gate.new) }
 {
     match command {
-        Command::Put { key, slot, value } => play_put(
-            pool, pass, key, slot, value, slots, gate, made,
-        ),
-        Command::Get { key, slot } => play_get(pool, pass, key, slot, slots, *made),
+        Command::Put { key, slot, value } => play_put(pool, pass, key, slot, value, slots, gate),
+        Command::Get { key, slot } => play_get(pool, pass, key, slot, slots),
         Command::Set {
             key,
             slot,
             index,
             value,
-        } => play_set(pool, pass, key, slot, index, value, slots, *made),
-        Command::Del { key, slot } => play_del(pool, pass, key, slot, slots, gate, made),
+        } => play_set(pool, pass, key, slot, index, value, slots),
+        Command::Del { key, slot } => play_del(pool, pass, key, slot, slots, gate),
     }
 }
 
@@ -85,20 +80,17 @@ fn play_put<G: Gate>(
     slot: u32,
     value: Quad,
     slots: &mut [Option<Object<Quad>>],
-    gate: &G,
-    made: &mut u64,
+    gate: &mut G,
 ) -> Answered
-    requires next { IsNext (command.Put key slot value) pool.now pass.old slots.old made.old }
-    requires told { ToldBefore (G.told gate.now) pass.old.number made.old }
-    ensures played { GoesOn (command.Put key slot value) result pass.old pass.new slots.old slots.new made.old made.new }
-    ensures told { ToldBefore (G.told gate.now) pass.new.number made.new }
+    requires { IsNext (command.Put key slot value) pool.now pass.old slots.old }
+    ensures { GoesOn (command.Put key slot value) result pass.old pass.new slots.old slots.new (G.told gate.old) (G.told gate.new) }
 {
     let _ = key;
     let place = slot as usize;
     if slots[place].is_some() {
         return Answered::There;
     }
-    match put(pool, pass, value, gate, made) {
+    match put(pool, pass, value, gate) {
         Put::Stored(object) => {
             slots[place] = Some(object);
             Answered::Done
@@ -107,20 +99,17 @@ fn play_put<G: Gate>(
     }
 }
 
-/// Tells the numbers of a key. It makes none of the calls that are counted.
+/// Tells the numbers of a key. It makes none of the calls that a gate is told of.
 fn play_get(
     pool: &Pool,
     pass: &mut Pass,
     key: u64,
     slot: u32,
     slots: &[Option<Object<Quad>>],
-    made: u64,
 ) -> Answered
-    requires next { IsNext (command.Get key slot) pool.now pass.old slots.now made }
-    ensures played { GoesOn (command.Get key slot) result pass.old pass.new slots.now slots.now made made }
-    ensures number { pass.new.number ≡ pass.old.number }
+    requires { IsNext (command.Get key slot) pool.now pass.old slots.now }
+    ensures { GoesOnUntold (command.Get key slot) result pass.old pass.new slots.now slots.now }
 {
-    let _ = made;
     match &slots[slot as usize] {
         None => Answered::Absent,
         Some(object) => {
@@ -130,7 +119,7 @@ fn play_get(
     }
 }
 
-/// Changes one of the numbers of a key. It makes none of the calls that are counted.
+/// Changes one of the numbers of a key. It makes none of the calls that a gate is told of.
 fn play_set(
     pool: &Pool,
     pass: &mut Pass,
@@ -139,14 +128,11 @@ fn play_set(
     index: u32,
     number: u64,
     slots: &mut [Option<Object<Quad>>],
-    made: u64,
 ) -> Answered
-    requires next { IsNext (command.Set key slot index number) pool.now pass.old slots.old made }
-    ensures played { GoesOn (command.Set key slot index number) result pass.old pass.new slots.old slots.new made made }
-    ensures number { pass.new.number ≡ pass.old.number }
+    requires { IsNext (command.Set key slot index number) pool.now pass.old slots.old }
+    ensures { GoesOnUntold (command.Set key slot index number) result pass.old pass.new slots.old slots.new }
 {
     let _ = key;
-    let _ = made;
     let place = slot as usize;
     match slots[place].take() {
         None => Answered::Absent,
@@ -165,19 +151,16 @@ fn play_del<G: Gate>(
     key: u64,
     slot: u32,
     slots: &mut [Option<Object<Quad>>],
-    gate: &G,
-    made: &mut u64,
+    gate: &mut G,
 ) -> Answered
-    requires next { IsNext (command.Del key slot) pool.now pass.old slots.old made.old }
-    requires told { ToldBefore (G.told gate.now) pass.old.number made.old }
-    ensures played { GoesOn (command.Del key slot) result pass.old pass.new slots.old slots.new made.old made.new }
-    ensures told { ToldBefore (G.told gate.now) pass.new.number made.new }
+    requires { IsNext (command.Del key slot) pool.now pass.old slots.old }
+    ensures { GoesOn (command.Del key slot) result pass.old pass.new slots.old slots.new (G.told gate.old) (G.told gate.new) }
 {
     let _ = key;
     match slots[slot as usize].take() {
         None => Answered::Absent,
         Some(object) => {
-            let _ = take(pool, pass, object, gate, made);
+            let _ = take(pool, pass, object, gate);
             Answered::Done
         }
     }

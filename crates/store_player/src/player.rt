@@ -1,14 +1,13 @@
 // Who plays a store script.
 ghost use Rattle.std.specs.Prelude.{◌≡◌, IfOk, replicate};
 ghost use Rattle.store_script.specs.declared.answered.Answered.TheVariants.{Absent};
-ghost use Rattle.store_player.specs.Player.{HasPlaces, IsServed, Suits, most_calls_of};
+ghost use Rattle.store_player.specs.Player.{HasSlots, IsServed, Suits, most_calls_of};
 
 use crate::one::play_store;
 use block_pool::{Pass, Pool};
 use line_text::Listed;
 use object_store::Object;
-use pass_players::{Player, empty_slots};
-use pool_io::Gate;
+use pass_players::{Gate, Player, empty_slots};
 use pool_model::NoMemory;
 use std::alloc::Global;
 use store_script::{Answered, Quad, StoreScript};
@@ -43,7 +42,7 @@ impl Player for StorePlayer {
 
     ghost most_calls = { most_calls_of };
 
-    ghost is_ready = { λ script player. HasPlaces script player.slots.items player.answers.items };
+    ghost is_ready = { HasSlots };
 
     ghost outcome = { λ player. player.answers.items };
 
@@ -56,7 +55,7 @@ impl Player for StorePlayer {
         })
     }
 
-    fn play<G: Gate>(&mut self, pool: &Pool, pass: &mut Pass, script: &StoreScript, gate: &G) {
+    fn play<G: Gate>(&mut self, pool: &Pool, pass: &mut Pass, script: &StoreScript, gate: &mut G) {
         play_store(
             pool,
             pass,

@@ -1,3 +1,4 @@
 pub mod Enough
 pub mod Playable
+pub mod Ready
 pub mod Settled

@@ -1,13 +1,13 @@
 //! Runs of store scripts over a pool of their own, and what the history of a run owes to them.
 //!
-//! [`play_stores_on_pool`] opens a pool, plays scripts over it side by side, and closes it.
+//! [`prepare_stores`] opens a pool and takes all memory that playing needs, and [`play_stores`] plays scripts over it side by side and
+//! closes it.
 #![tactic(auto)]
 
 pub mod laws;
 mod play;
 
-pub use play::play_stores_on_pool;
-pub use store_player::Replied;
+pub use play::{PlayedStores, PreparedStores, play_stores, prepare_stores};
 
 #[cfg(test)]
 mod tests;

@@ -3,15 +3,14 @@ ghost use Rattle.std.specs.Prelude.{◌≡◌, ◌≤◌, IfOk, length};
 ghost use Rattle.std.specs.List.{All};
 ghost use Rattle.store_runs.specs.Playable.{IsPlayable};
 
-use crate::{Replied, play_stores_on_pool};
-use block_pool::Pool;
-use pool_io::{Files, MemoryFiles, OpenGate};
-use pool_model::NoMemory;
+use crate::{PlayedStores, play_stores, prepare_stores};
+use pass_players::OpenGate;
+use pool_io::{Files, MemoryFiles};
 use std::alloc::Global;
 use std::process::Abort;
 use std::test::Fail;
 use std::thread::Threads;
-use store_player::play_stores;
+use store_player::AnswerList;
 use store_script::{Answered, StoreScript, answers, read_script};
 use word_layout::Shape;
 
@@ -32,25 +31,29 @@ fn script_of(alloc: Global, text: &[u8]) -> Result<StoreScript, Fail>
     Ok(script)
 }
 
-/// Plays scripts with the passes of a pool that was opened before.
-fn play_opened<R: Threads + Sync>(
+/// Plays scripts over a pool of their own, with gates that hold nobody back.
+fn play_on_pool<R: Threads + Sync>(
     rt: &R,
     alloc: Global,
     shape: &Shape,
     scripts: &[StoreScript],
-) -> Result<Replied, NoMemory>
+) -> Result<PlayedStores<OpenGate>, Fail>
     requires words { 4 ≤ shape.now.words }
     requires one_each { length scripts.now ≡ shape.now.processes }
     requires playable { All IsPlayable scripts.now }
 {
-    let (pool, passes) = Pool::open(alloc, shape)?;
-    play_stores(rt, alloc, pool, passes, scripts, &OpenGate)
+    let mut gates = Vec::with_capacity(alloc, scripts.len())?;
+    for _script in scripts {
+        gates.push(OpenGate::new())?;
+    }
+    let prepared = prepare_stores(alloc, shape, scripts, gates.as_slice())?;
+    Ok(play_stores(rt, prepared, scripts, gates))
 }
 
 /// Compares the answers to some scripts with these.
-fn compare(rt: &impl Abort, replied: &Replied, expected: &[Vec<Answered>]) {
-    assert_eq!(rt; replied.answers.len(), expected.len());
-    for (played, expected) in replied.answers.iter().zip(expected.iter()) {
+fn compare(rt: &impl Abort, lists: &[AnswerList], expected: &[Vec<Answered>]) {
+    assert_eq!(rt; lists.len(), expected.len());
+    for (played, expected) in lists.iter().zip(expected.iter()) {
         assert_eq!(rt; played.as_slice(), expected.as_slice());
     }
 }
@@ -65,11 +68,8 @@ fn enough_blocks_give_the_answers_of_each_script_alone(rt: HostRuntime) -> Resul
     ];
     // The slack is that of ten batches; the eleventh has more blocks than keys are present in both together.
     let shape = Shape::new(2, 11, 4)?;
-    compare(
-        &rt,
-        &play_stores_on_pool(&rt, alloc, &shape, &scripts, &OpenGate)?,
-        &alone,
-    );
-    compare(&rt, &play_opened(&rt, alloc, &shape, &scripts)?, &alone);
+    let played = play_on_pool(&rt, alloc, &shape, &scripts)?;
+    compare(&rt, &played.outcomes, &alone);
+    assert_eq!(rt; played.gates.len(), scripts.len());
     Ok(())
 }

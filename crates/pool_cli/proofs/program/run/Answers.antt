@@ -10,10 +10,10 @@ returns-clause-ends g c = record {
 }
 
 pub returns-clause-unhindered : goal.returns-clause-unhindered
-returns-clause-unhindered g c = unhindered _ _ _ _ _ c.status.result (returns-clause-ends g c)
+returns-clause-unhindered g c = unhindered _ _ _ _ _ _ c.status.result (returns-clause-ends g c)
 
 pub returns-clause-sure : goal.returns-clause-sure
-returns-clause-sure g c = sure _ _ _ _ _ c.status.result (returns-clause-ends g c)
+returns-clause-sure g c = sure _ _ _ _ _ _ c.status.result (returns-clause-ends g c)
 
 pub returns-clause-enough : goal.returns-clause-enough
-returns-clause-enough g c = enough _ _ _ _ _ c.status.result (returns-clause-ends g c)
+returns-clause-enough g c = enough _ _ _ _ _ _ c.status.result (returns-clause-ends g c)

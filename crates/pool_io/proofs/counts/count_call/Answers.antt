@@ -5,4 +5,5 @@ use Rattle.pool_io.proofs.counts.count_call.Goals as goal
 
 pub returns-clause-none : goal.returns-clause-none
 returns-clause-none c none =
-    subst (NoneFrom c.args.failing.now) (sym c.raise.ensures.raised) (NoneFrom-one_more c.args.failing.now c.args.calls.now (omega arith) none)
+    subst (NoneFrom c.args.failing.now) (sym c.raise.ensures.raised)
+    (NoneFrom-one_more c.args.failing.now c.args.calls.now (omega arith) none)

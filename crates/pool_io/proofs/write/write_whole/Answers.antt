@@ -15,5 +15,6 @@ loop-done-preserved g c =
       takes = λ room holds long.
           let short : length (slice_range text done (length text)) ≤ room - done = omega (arith, length-rest text done) in
           let left : room - done - count ≡ room - (done + count) = omega arith in
-          subst (g.K.Sink.takes c.write.new.self) left (c.in_ok-done.ensures.sure (room - done) (c.loop-done.invariant.takes room holds long) short);
+          subst (g.K.Sink.takes c.write.new.self) left
+          (c.in_ok-done.ensures.sure (room - done) (c.loop-done.invariant.takes room holds long) short);
     }

@@ -4,16 +4,16 @@ use Rattle.store_player.proofs.one.play_get.Goals as goal
 
 pub get-value-requires-clause-object : goal.get-value-requires-clause-object
 get-value-requires-clause-object c =
-    c.requires.next.played.held c.args.slot _
-    (found_at c.args.slots.now c.args.slot _ _ _ c.requires.next.within c.index-slots-slot.is c.in-Some.is)
+    c.requires.played.held c.args.slot _
+    (found_at c.args.slots.now c.args.slot _ _ _ c.requires.within c.index-slots-slot.is c.in-Some.is)
 
-pub returns-in-None-clause-played : goal.returns-in-None-clause-played
-returns-in-None-clause-played c =
-    goes_get_absent c.args.key c.args.slot c.args.pass.now c.args.slots.now c.args.made
-    (found_at c.args.slots.now c.args.slot _ _ _ c.requires.next.within c.index-slots-slot.is c.in-None.is)
+pub returns-in-None : goal.returns-in-None
+returns-in-None c =
+    goes_get_absent c.args.key c.args.slot c.args.pass.now c.args.slots.now
+    (found_at c.args.slots.now c.args.slot _ _ _ c.requires.within c.index-slots-slot.is c.in-None.is)
 
-pub returns-in-Some-clause-played : goal.returns-in-Some-clause-played
-returns-in-Some-clause-played c =
+pub returns-in-Some : goal.returns-in-Some
+returns-in-Some c =
     rw c.get-value.ensures.value
-    (goes_value c.args.key c.args.slot c.args.pass.now c.get-value.new.pass c.args.slots.now c.args.made c.in-Some.object
-    (found_at c.args.slots.now c.args.slot _ _ _ c.requires.next.within c.index-slots-slot.is c.in-Some.is) c.get-value.ensures.pass)
+    (goes_value c.args.key c.args.slot c.args.pass.now c.get-value.new.pass c.args.slots.now c.in-Some.object
+    (found_at c.args.slots.now c.args.slot _ _ _ c.requires.within c.index-slots-slot.is c.in-Some.is) c.get-value.ensures.pass)

@@ -6,19 +6,19 @@ use Rattle.store_player.proofs.one.play_set.Goals as goal
 
 pub change-requires-clause-object : goal.change-requires-clause-object
 change-requires-clause-object c =
-    c.requires.next.played.held c.args.slot _
-    (found_at c.args.slots.now c.args.slot _ _ _ c.requires.next.within c.take.ensures.value c.in-Some.is)
+    c.requires.played.held c.args.slot _
+    (found_at c.args.slots.now c.args.slot _ _ _ c.requires.within c.take.ensures.value c.in-Some.is)
 
-pub returns-in-None-clause-played : goal.returns-in-None-clause-played
-returns-in-None-clause-played c =
-    let has = found_at c.args.slots.now c.args.slot _ _ _ c.requires.next.within c.take.ensures.value c.in-None.is in
+pub returns-in-None : goal.returns-in-None
+returns-in-None c =
+    let has = found_at c.args.slots.now c.args.slot _ _ _ c.requires.within c.take.ensures.value c.in-None.is in
     rw (c.take.ensures.after, emptied_again c.args.slots.now c.args.slot has)
-    (goes_set_absent c.args.key c.args.slot c.args.index c.args.number c.args.pass.now c.args.slots.now c.args.made has)
+    (goes_set_absent c.args.key c.args.slot c.args.index c.args.number c.args.pass.now c.args.slots.now has)
 
-pub returns-in-Some-clause-played : goal.returns-in-Some-clause-played
-returns-in-Some-clause-played c =
-    let has = found_at c.args.slots.now c.args.slot _ _ _ c.requires.next.within c.take.ensures.value c.in-Some.is in
+pub returns-in-Some : goal.returns-in-Some
+returns-in-Some c =
+    let has = found_at c.args.slots.now c.args.slot _ _ _ c.requires.within c.take.ensures.value c.in-Some.is in
     rw (set-set c.args.slots.now c.args.slot c.take.new.self (Some c.change.new.object))
-    (goes_changed c.args.key c.args.slot c.args.index c.args.number c.args.pass.now c.change.new.pass c.args.slots.now c.args.made
-    c.in-Some.object c.change.new.object c.requires.next.within has c.change.ensures.object c.change.ensures.kept c.change.ensures.others
+    (goes_changed c.args.key c.args.slot c.args.index c.args.number c.args.pass.now c.change.new.pass c.args.slots.now
+    c.in-Some.object c.change.new.object c.requires.within has c.change.ensures.object c.change.ensures.kept c.change.ensures.others
     c.change.ensures.pass)

@@ -7,13 +7,13 @@ use Rattle.store_player.proofs.one.play_store.Goals as goal
 
 pub loop-place-init : goal.loop-place-init
 loop-place-init g c = record {
-  played = rw c.requires.empty (so_far_none (keys_of c.args.script.now.commands) c.args.pass.now c.args.script.now.slots);
-  told = λ earlier less. absurd (omega arith);
+  played = rw c.requires.empty (so_far_none (keys_of c.args.script.now.commands) c.args.pass.now c.args.script.now.slots
+      (g.G.Gate.told c.args.gate.now));
   room = refl;
 }
 
-pub play_command-requires-clause-next : goal.play_command-requires-clause-next
-play_command-requires-clause-next g c =
+pub play_command-requires : goal.play_command-requires
+play_command-requires g c =
     let script = c.args.script.now in
     let place = c.loop-place.place in
     let formed = c.requires.well_formed in
@@ -22,7 +22,7 @@ play_command-requires-clause-next g c =
     let size = length-take-le place script.commands (omega arith) in
     let slots : length c.loop-place.slots ≡ script.slots
     = c.loop-place.auto.slots ∙ ap length c.requires.empty ∙ length-replicate script.slots _ in
-    let same = c.loop-place.invariant.played.grown.same in
+    let same = c.loop-place.invariant.played.made.grown.same in
     rw e (record {
       keys = keys_of script.commands;
       done = take place script.commands;
@@ -30,16 +30,17 @@ play_command-requires-clause-next g c =
       answers = take place c.loop-place.answers;
       of_pool = record { table = same.table ∙ c.requires.pool.table; sizes = same.sizes ∙ c.requires.pool.sizes };
       words = c.requires.words;
+      first = g.G.Gate.told c.args.gate.now;
+      told = g.G.Gate.told c.loop-place.gate;
       young = omega arith;
-      short = omega arith;
       placed = formed.each place _ within;
       within = rw (slots, formed.slots) (place_below _ _ (keys_of script.commands) (formed.each place _ within));
       index = formed.indices place _ within;
       played = c.loop-place.invariant.played;
     })
 
-pub returns-clause-played : goal.returns-clause-played
-returns-clause-played g c =
+pub returns : goal.returns
+returns g c =
     let script = c.args.script.now in
     let e = c.as_slice-command-items.ensures in
     let past = rw e at c.loop-place-test.false in
@@ -47,5 +48,6 @@ returns-clause-played g c =
     = take_all c.loop-place.place c.args.script.now.commands past in
     let answered : take c.loop-place.place c.loop-place.answers ≡ c.loop-place.answers =
     take_all c.loop-place.place c.loop-place.answers (omega (arith, past, c.loop-place.invariant.room, c.requires.answers)) in
-    played_all c.args.script.now c.args.pass.now c.loop-place.pass c.loop-place.slots c.loop-place.answers c.loop-place.made
+    played_all c.args.script.now c.args.pass.now c.loop-place.pass c.loop-place.slots c.loop-place.answers
+    (g.G.Gate.told c.args.gate.now) (g.G.Gate.told c.loop-place.gate)
     (rw (all, answered) at c.loop-place.invariant.played)

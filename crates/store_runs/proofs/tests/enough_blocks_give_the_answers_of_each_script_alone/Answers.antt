@@ -10,8 +10,5 @@ both_playable : (first second : StoreScript) → IsPlayable first → IsPlayable
 both_playable first second one other =
     All-cons IsPlayable first (second ∷ []) one (All-cons IsPlayable second [] other (All-nil IsPlayable))
 
-pub play_stores_on_pool-requires-clause-playable : goal.play_stores_on_pool-requires-clause-playable
-play_stores_on_pool-requires-clause-playable g c κs = both_playable _ _ c.in_ok-script_of.ensures c.in_ok-script_of-2.ensures
-
-pub play_opened-requires-clause-playable : goal.play_opened-requires-clause-playable
-play_opened-requires-clause-playable g c κs = both_playable _ _ c.in_ok-script_of.ensures c.in_ok-script_of-2.ensures
+pub play_on_pool-requires-clause-playable : goal.play_on_pool-requires-clause-playable
+play_on_pool-requires-clause-playable g c κs = both_playable _ _ c.in_ok-script_of.ensures c.in_ok-script_of-2.ensures
